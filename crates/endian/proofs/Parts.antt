@@ -1,0 +1,164 @@
+-- Laws of a part of a list and of a list laid over another. Assumes nothing.
+use Prim.Native.Nat.{ℕ, zero, suc, _+_, _-_, _≤_, _<_}
+use mathlib.Core.Path.{_≡_, refl, sym, ap, _∙_}
+use mathlib.Core.Bool.{Bool, true, false, cond}
+use mathlib.Core.Logic.{⊎-elim}
+use mathlib.Core.List.{List, [], _∷_, _++_, append-assoc}
+use native.Mathlib.Decide.{decLe}
+use native.Mathlib.Nat.{not-suc-le-zero}
+use native.Mathlib.Omega.{arith}
+use lib.Dec.{lit<}
+use borrow.Author.Tests.{le-leb, lt-leb}
+use lib.ListN.{length, getD, take, drop, length-append, length-take, length-drop, take-append-drop, drop-of-length-le, List·getD-append}
+use lib.Seq.{take-all, take-nil, drop-drop, take-take, take-add, take-at, drop-at, take-append-le, drop-append-le, getD-take, getD-drop, getD-append-add, length-take-le}
+use Rattle.endian.specs.Bytes.{window, fits, splice, room, Bytes}
+
+pub length-window : (s : List ℕ) (at n : ℕ) → length (window s at n) ≤ n
+unfolding window
+length-window s at n = simp length-take (omega arith)
+
+pub length-window-fits : (s : List ℕ) (at n : ℕ) → at + n ≤ length s → length (window s at n) ≡ n
+unfolding window
+length-window-fits s at n h = simp (length-take, length-drop) (omega arith)
+
+pub window-past : (s : List ℕ) (at n : ℕ) → length s ≤ at → window s at n ≡ []
+unfolding window
+window-past s at n h = rw (drop-of-length-le s h, take-nil)
+
+pub window-rest : (s : List ℕ) (at n : ℕ) → length s ≤ at + n → window s at n ≡ drop at s
+unfolding window
+window-rest s at n h = take-all n (drop at s) (simp length-drop (omega arith))
+
+-- two parts that follow each other
+pub window-append : (s : List ℕ) (at n m : ℕ) → window s at (n + m) ≡ window s at n ++ window s (at + n) m
+unfolding window
+window-append s at n m = rw (take-add, drop-drop n at s)
+
+pub splice-fits : (s : List ℕ) (at : ℕ) (v : List ℕ) → at + length v ≤ length s
+    → splice s at v ≡ take at s ++ (v ++ drop (at + length v) s)
+unfolding splice fits
+splice-fits s at v h = rw (le-leb (at + length v) (length s) h)
+
+-- a middle part that was lent and came back as v
+pub splice-part : (s : List ℕ) (at n : ℕ) (v : List ℕ) → at + n ≤ length s → length v ≡ n
+    → take at s ++ (v ++ drop (at + n - at) (drop at s)) ≡ splice s at v
+splice-part s at n v h e =
+    let k : at + (at + n - at) ≡ at + length v = omega arith in
+    rw (drop-drop (at + n - at) at s, k) (sym (splice-fits s at v (omega arith)))
+
+pub splice-short : (s : List ℕ) (at : ℕ) (v : List ℕ) → length s < at + length v → splice s at v ≡ s
+unfolding splice fits
+splice-short s at v h = rw (lt-leb (at + length v) (length s) h)
+
+pub room-fits : (s : List ℕ) (at n : ℕ) → at + n ≤ length s → room s at n ≡ 0
+unfolding room fits
+room-fits s at n h = rw (le-leb (at + n) (length s) h)
+
+pub room-short : (s : List ℕ) (at n : ℕ) → length s < at + n → room s at n ≡ 1
+unfolding room fits
+room-short s at n h = rw (lt-leb (at + n) (length s) h)
+
+pub length-splice : (s : List ℕ) (at : ℕ) (v : List ℕ) → length (splice s at v) ≡ length s
+length-splice s at v =
+    elim (decLe (at + length v) (length s)) [
+      | yes h ↦ rw (splice-fits s at v h) (simp (length-append, length-take, length-drop) (omega arith))
+      | no h ↦ ap length (splice-short s at v (omega arith))
+    ]
+
+module _ (s : List ℕ) (at : ℕ) (v : List ℕ) (h : at + length v ≤ length s) where
+  head-length : length (take at s) ≡ at
+  head-length = length-take-le at s (omega arith)
+
+  -- what was laid is there
+  pub window-splice : window (splice s at v) at (length v) ≡ v
+  unfolding window
+  window-splice = rw (splice-fits s at v h, drop-at (take at s) (v ++ drop (at + length v) s) at head-length, take-at v (drop (at + length v) s) (length v) refl)
+
+-- a part of the first m elements
+front : (i n m : ℕ) (l : List ℕ) → i + n ≤ m → take n (drop i (take m l)) ≡ take n (drop i l)
+front zero n m l h = take-take n m l (omega arith)
+front (suc i) n zero l h = absurd (let z : 1 ≤ 0 = omega arith in not-suc-le-zero z)
+front (suc i) n (suc m) [] h = refl
+front (suc i) n (suc m) (x ∷ l) h = front i n m l (omega arith)
+
+back : (s : List ℕ) (k i : ℕ) → k ≤ i → drop i s ≡ drop (i - k) (drop k s)
+back s k i h = ap (λ z. drop z s) (let e : i ≡ k + (i - k) = omega arith in e) ∙ sym (drop-drop (i - k) k s)
+
+-- what lies before it is as it was
+pub window-before : (s : List ℕ) (at : ℕ) (v : List ℕ) (i n : ℕ) → i + n ≤ at → window (splice s at v) i n ≡ window s i n
+unfolding window
+window-before s at v i n k =
+    elim (decLe (at + length v) (length s)) [
+      | yes h ↦
+          let e : length (take at s) ≡ at = length-take-le at s (omega arith) in
+          rw
+          (splice-fits s at v h, drop-append-le i (take at s) (v ++ drop (at + length v) s) (omega arith), take-append-le n (drop i (take at s)) (v ++ drop (at + length v) s) (simp length-drop (omega arith)))
+          (front i n at s k)
+      | no h ↦ ap (λ z. take n (drop i z)) (splice-short s at v (omega arith))
+    ]
+
+-- and what lies after it
+pub window-after : (s : List ℕ) (at : ℕ) (v : List ℕ) (i n : ℕ) → at + length v ≤ i → window (splice s at v) i n ≡ window s i n
+unfolding window
+window-after s at v i n k =
+    elim (decLe (at + length v) (length s)) [
+      | yes h ↦
+          ap (take n)
+          (ap (drop i) (splice-fits s at v h ∙ sym (append-assoc (take at s) v (drop (at + length v) s)))
+          ∙ (back ((take at s ++ v) ++ drop (at + length v) s) (at + length v) i k
+          ∙ (ap (drop (i - (at + length v)))
+          (drop-at (take at s ++ v) (drop (at + length v) s) (at + length v)
+          (rw (length-append, length-take-le at s (let l : at ≤ length s = omega arith in l))))
+          ∙ sym (back s (at + length v) i k))))
+      | no h ↦ ap (λ z. take n (drop i z)) (splice-short s at v (omega arith))
+    ]
+
+rejoin : (n : ℕ) (l : List ℕ) → take n l ++ drop (length (take n l)) l ≡ l
+rejoin zero l = refl
+rejoin (suc n) [] = refl
+rejoin (suc n) (x ∷ l) = ap (λ z. x ∷ z) (rejoin n l)
+
+-- laying a part over itself
+pub splice-window : (s : List ℕ) (at n : ℕ) → splice s at (window s at n) ≡ s
+unfolding window
+splice-window s at n =
+    elim (decLe at (length s)) [
+      | yes h ↦
+          splice-fits s at (take n (drop at s)) (simp (length-take, length-drop) (omega arith))
+          ∙ (ap (λ z. take at s ++ (take n (drop at s) ++ z)) (sym (drop-drop (length (take n (drop at s))) at s))
+          ∙ (ap (λ z. take at s ++ z) (rejoin n (drop at s)) ∙ take-append-drop at s))
+      | no h ↦ splice-short s at (take n (drop at s)) (omega arith)
+    ]
+
+-- a part of a part
+pub window-window : (s : List ℕ) (at n i m : ℕ) → i + m ≤ n → window (window s at n) i m ≡ window s (at + i) m
+unfolding window
+window-window s at n i m h = rw (front i m n (drop at s) h, drop-drop i at s)
+
+bytes-take : (n : ℕ) (s : List ℕ) → Bytes s → Bytes (take n s)
+bytes-take zero s b i = lit< tt
+bytes-take (suc n) [] b i = lit< tt
+bytes-take (suc n) (x ∷ s) b zero = b 0
+bytes-take (suc n) (x ∷ s) b (suc i) = bytes-take n s (λ j. b (suc j)) i
+
+bytes-drop : (n : ℕ) (s : List ℕ) → Bytes s → Bytes (drop n s)
+bytes-drop n s b i = rw getD-drop (b (n + i))
+
+pub bytes-window : (s : List ℕ) (at n : ℕ) → Bytes s → Bytes (window s at n)
+unfolding window
+bytes-window s at n b = bytes-take n (drop at s) (bytes-drop at s b)
+
+pub bytes-append : (s t : List ℕ) → Bytes s → Bytes t → Bytes (s ++ t)
+bytes-append [] t b d i = d i
+bytes-append (x ∷ s) t b d zero = b 0
+bytes-append (x ∷ s) t b d (suc i) = bytes-append s t (λ j. b (suc j)) d i
+
+pub bytes-splice : (s : List ℕ) (at : ℕ) (v : List ℕ) → Bytes s → Bytes v → Bytes (splice s at v)
+bytes-splice s at v b d =
+    elim (decLe (at + length v) (length s)) [
+      | yes h ↦
+          rw (splice-fits s at v h)
+          (bytes-append (take at s) (v ++ drop (at + length v) s) (bytes-take at s b)
+          (bytes-append v (drop (at + length v) s) d (bytes-drop (at + length v) s b)))
+      | no h ↦ rw (splice-short s at v (let l : length s < at + length v = omega arith in l)) b
+    ]

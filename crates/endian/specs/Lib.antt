@@ -1,0 +1,2 @@
+-- What the contracts of `endian` cite.
+pub mod Bytes
