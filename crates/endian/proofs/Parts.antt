@@ -29,6 +29,11 @@ pub window-rest : (s : List ℕ) (at n : ℕ) → length s ≤ at + n → window
 unfolding window
 window-rest s at n h = take-all n (drop at s) (simp length-drop (omega arith))
 
+-- the part as it is lent, by its two ends
+pub window-part : (s : List ℕ) (at n : ℕ) → take (at + n - at) (drop at s) ≡ window s at n
+unfolding window
+window-part s at n = ap (λ (k : ℕ). take k (drop at s)) (let e : at + n - at ≡ n = omega arith in e)
+
 -- two parts that follow each other
 pub window-append : (s : List ℕ) (at n m : ℕ) → window s at (n + m) ≡ window s at n ++ window s (at + n) m
 unfolding window

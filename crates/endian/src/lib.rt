@@ -32,12 +32,17 @@ fn number(s: &[u8]) -> u64
     r
 }
 
-// The number of the n bytes at `at`.
+// The number of the n bytes at `at`. Where they are all there the loop has n turns, which a compiler unrolls.
 fn read(s: &[u8], at: usize, n: usize) -> u64
     requires { ⌜ n ≤ 8 ⌝ }
     ensures { λ r. ⌜ r ≡ le (window (now (s .entry)) at n) ⌝ }
     ensures { λ r. ⌜ r < 256 ^ n ⌝ }
 {
+    if at < s.len() {
+        if n <= s.len() - at {
+            return number(&s[at..at + n]);
+        }
+    }
     number(window(s, at, n))
 }
 

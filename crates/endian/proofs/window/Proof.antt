@@ -1,13 +1,12 @@
 -- `endian::window` meets its contract. Assumes nothing.
-use Prim.Native.Nat.{ℕ, _+_, _-_}
-use mathlib.Core.Path.{_≡_, sym}
+use Prim.Native.Nat.{ℕ, _-_}
+use mathlib.Core.Path.{sym}
 use mathlib.Core.List.{List}
 use native.Mathlib.Nat.{le-refl}
 use native.Mathlib.Omega.{arith}
 use lib.ListN.{length, drop, length-drop}
 use lib.Seq.{take-all}
-use Rattle.endian.specs.Bytes.{window}
-use Rattle.endian.proofs.Parts.{window-past, window-rest}
+use Rattle.endian.proofs.Parts.{window-past, window-rest, window-part}
 use borrow.Author.Needs.{needs}
 use Rattle.endian.proofs.window.Statement.{statement}
 use Rattle.endian.proofs.window.Tie as tie
@@ -50,12 +49,7 @@ part-result-end-2 : tie.Need-part-result-end-2
 part-result-end-2 c = search needs
 
 returns-3 : tie.Need-returns-3
-unfolding window
-returns-3 c =
-    let at : ℕ = c .before .before .before .args .at in
-    let n : ℕ = c .before .before .before .args .n in
-    let e : at + n - at ≡ n = omega arith in
-    rw e
+returns-3 c = window-part _ _ _
 
 pub window-spec : {M : Type 1} → statement M
 window-spec =

@@ -1,0 +1,40 @@
+-- `checksum::near` meets its contract. Assumes nothing.
+use Prim.Native.Nat.{_%_}
+use native.Mathlib.Nat.{mod-lt}
+use lib.Dec.{lit<}
+use borrow.Author.Needs.{needs}
+use Rattle.checksum.proofs.near.Statement.{statement}
+use Rattle.checksum.proofs.near.Tie as tie
+
+mul-result : tie.Need-mul-result
+mul-result c = search needs
+
+add-result : tie.Need-add-result
+add-result c = search needs
+
+cast-result : tie.Need-cast-result
+cast-result c = search needs
+
+add-result-2 : tie.Need-add-result-2
+add-result-2 c = search needs
+
+mul-result-2 : tie.Need-mul-result-2
+mul-result-2 c = search needs
+
+element-copy-out-result : tie.Need-element-copy-out-result
+element-copy-out-result c = search needs
+
+returns : tie.Need-returns
+returns c = c .before .pre .0 .near (c .before .args .i) (c .before .args .x % 16) (c .before .pre .1) (mod-lt (c .before .args .x) (lit< tt))
+
+pub near-spec : {M : Type 1} → statement M
+near-spec =
+    tie.close
+    (tie.spec
+    mul-result
+    add-result
+    cast-result
+    add-result-2
+    mul-result-2
+    element-copy-out-result
+    returns)

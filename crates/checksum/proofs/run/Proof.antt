@@ -1,0 +1,60 @@
+-- `checksum::run` meets its contract. Assumes nothing.
+use Prim.Native.Nat.{ℕ, _*_, _/_, _-_}
+use mathlib.Core.Path.{sym, ap, ap₂, _∙_}
+use mathlib.Core.List.{List}
+use native.Mathlib.Nat.{le-refl}
+use native.Mathlib.Omega.{arith}
+use lib.ListN.{length, take, drop, length-take, length-drop, take-append-drop}
+use lib.Seq.{take-all}
+use Rattle.checksum.specs.Crc.{register}
+use Rattle.checksum.proofs.Laws.{register-append}
+use borrow.Author.Needs.{needs}
+use Rattle.checksum.proofs.run.Statement.{statement}
+use Rattle.checksum.proofs.run.Tie as tie
+
+table-requires : tie.Need-table-requires
+table-requires c κs = search needs
+
+mul-n : tie.Need-mul-n
+mul-n c = search needs
+
+slice-aggregate-eights : tie.Need-slice-aggregate-eights
+slice-aggregate-eights c = rw length-take (omega arith)
+
+eights-requires : tie.Need-eights-requires
+eights-requires c κs = (c .before .before .before .table .ensures, rw length-take (omega arith))
+
+sub-few : tie.Need-sub-few
+sub-few c = search needs
+
+part-few-start : tie.Need-part-few-start
+part-few-start c = search needs
+
+part-few-end : tie.Need-part-few-end
+part-few-end c = search needs
+
+few-requires : tie.Need-few-requires
+few-requires c κs = search needs
+
+returns : tie.Need-returns
+returns c =
+    let s : List ℕ = c .before .before .before .before .before .before .before .before .args .s .now in
+    let k : ℕ = c .before .before .before .before .before .before .before .before .args .c in
+    let n : ℕ = length s / 8 * 8 in
+    c .few .ensures
+    ∙ (ap₂ register (c .before .before .eights .ensures) (take-all (length s - n) (drop n s) (rw length-drop (le-refl (length s - n))))
+    ∙ (sym (register-append k (take n s) (drop n s)) ∙ ap (register k) (take-append-drop n s)))
+
+pub run-spec : {M : Type 1} → statement M
+run-spec =
+    tie.close
+    (tie.spec
+    table-requires
+    mul-n
+    slice-aggregate-eights
+    eights-requires
+    sub-few
+    part-few-start
+    part-few-end
+    few-requires
+    returns)
