@@ -12,8 +12,8 @@ use borrow.Author.Needs.{needs}
 use Rattle.checksum.proofs.run.Statement.{statement}
 use Rattle.checksum.proofs.run.Tie as tie
 
-table-requires : tie.Need-table-requires
-table-requires c κs = search needs
+entries-requires : tie.Need-entries-requires
+entries-requires c κs = search needs
 
 mul-n : tie.Need-mul-n
 mul-n c = search needs
@@ -22,7 +22,7 @@ slice-aggregate-eights : tie.Need-slice-aggregate-eights
 slice-aggregate-eights c = rw length-take (omega arith)
 
 eights-requires : tie.Need-eights-requires
-eights-requires c κs = (c .before .before .before .table .ensures, rw length-take (omega arith))
+eights-requires c κs = (c .before .before .before .entries .ensures, rw length-take (omega arith))
 
 sub-few : tie.Need-sub-few
 sub-few c = search needs
@@ -49,7 +49,7 @@ pub run-spec : {M : Type 1} → statement M
 run-spec =
     tie.close
     (tie.spec
-    table-requires
+    entries-requires
     mul-n
     slice-aggregate-eights
     eights-requires
