@@ -1,0 +1,3 @@
+-- What the contracts of `layout` cite.
+pub mod Limits
+pub mod Places

@@ -1,0 +1,40 @@
+-- Document 01's limits of the device numbers, and the size of records and copies. Assumes nothing.
+use Prim.Native.Nat.{ℕ, _+_, _*_, _/_, _%_}
+use mathlib.Core.Bool.{Bool, _&&_}
+use mathlib.Core.List.{List, [], _∷_}
+use lib.Dec.{leb, eqb}
+use Rattle.refusal.specs.Numbers.{deviceSize, metadataSize, reservedSize}
+use Rattle.refusal.specs.Tests.{Test, _or_}
+use Rattle.layout.specs.declared.Device.{Device}
+
+-- S at least 2,097,152 (1 GiB)
+abbrev pub sizeAllowed : ℕ → Bool
+sizeAllowed s = leb 2097152 s
+
+-- L even, 2,040 to 16,384
+abbrev pub metadataAllowed : ℕ → Bool
+metadataAllowed l = eqb (l % 2) 0 && (leb 2040 l && leb l 16384)
+
+-- R at most 65,536
+abbrev pub reservedAllowed : ℕ → Bool
+reservedAllowed r = leb r 65536
+
+-- the tests of the device numbers, in the order in which calls that are handed them test them
+abbrev pub deviceTests : Device → List Test
+deviceTests d =
+    (sizeAllowed (d .sectors) or deviceSize)
+    ∷ (metadataAllowed (d .metadata) or metadataSize)
+    ∷ (reservedAllowed (d .reserved) or reservedSize)
+    ∷ []
+
+-- bytes of a sector
+abbrev pub sectorBytes : ℕ
+sectorBytes = 512
+
+-- the most bytes of a record
+unfoldable pub recordLimit : ℕ
+recordLimit = 8192
+
+-- bytes of a copy as it is lent: the header's 8 sectors, then as much of each area as a record can fill
+unfoldable pub copyBytes : ℕ
+copyBytes = 8 * sectorBytes + 2 * recordLimit

@@ -1,0 +1,66 @@
+-- Where things lie: document 01, 'Where things lie', in its order. Differences of numbers stop at 0; with device numbers
+-- that are allowed none does. Assumes nothing.
+use Prim.Native.Nat.{ℕ, _+_, _-_, _/_}
+use mathlib.Core.Bool.{cond}
+use lib.Dec.{eqb}
+use Rattle.refusal.specs.Tests.{first}
+use Rattle.layout.specs.declared.Device.{Device}
+use Rattle.layout.specs.declared.Side.{Side}
+use Rattle.layout.specs.declared.Side.the-variants.{Front, Back}
+use Rattle.layout.specs.declared.Area.{Area}
+use Rattle.layout.specs.declared.Area.the-variants.{A, B}
+use Rattle.layout.specs.declared.Copy.{Copy}
+use Rattle.layout.specs.declared.Places.{Places}
+use Rattle.layout.specs.declared.Placement.{Placement}
+use Rattle.layout.specs.declared.Placement.the-variants.{At, Refused}
+use Rattle.layout.specs.Limits.{deviceTests}
+
+-- front: header in sectors 0 to 7; back: header in the last 8 sectors
+abbrev pub headerSector : Side → Device → ℕ
+headerSector Front d = 0
+headerSector Back d = d .sectors - 8
+
+-- the signature block in sector 1; in sector S - 7
+abbrev pub blockSector : Side → Device → ℕ
+blockSector Front d = 1
+blockSector Back d = d .sectors - 7
+
+-- area a from 8, area b from 8 + L/2; area a from S - 8 - L, area b from S - 8 - L/2
+abbrev pub areaSector : Side → Area → Device → ℕ
+areaSector Front A d = 8
+areaSector Front B d = 8 + d .metadata / 2
+areaSector Back A d = d .sectors - 8 - d .metadata
+areaSector Back B d = d .sectors - 8 - d .metadata / 2
+
+-- then R reserved sectors; reserved space just below area a
+abbrev pub reservedSector : Side → Device → ℕ
+reservedSector Front d = 8 + d .metadata
+reservedSector Back d = d .sectors - 8 - d .metadata - d .reserved
+
+-- the data range runs from 8 + L + R up to, not including, S - 8 - L - R
+abbrev pub dataStart : Device → ℕ
+dataStart d = 8 + d .metadata + d .reserved
+
+abbrev pub dataEnd : Device → ℕ
+dataEnd d = d .sectors - 8 - d .metadata - d .reserved
+
+-- a copy's places
+abbrev pub copyOf : Side → Device → Copy
+copyOf s d =
+    record {
+      header = headerSector s d;
+      block = blockSector s d;
+      a = areaSector s A d;
+      b = areaSector s B d;
+      reserved = reservedSector s d;
+    }
+
+abbrev pub placesOf : Device → Places
+placesOf d = record { front = copyOf Front d; back = copyOf Back d; start = dataStart d; end = dataEnd d }
+
+abbrev pub placed : ℕ → Places → Placement
+placed n p = cond (eqb n 0) (At p) (Refused n)
+
+-- what `locate` answers: this paper's number, or the places
+abbrev pub placement : Device → Placement
+placement d = placed (first (deviceTests d)) (placesOf d)

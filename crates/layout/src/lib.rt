@@ -1,0 +1,173 @@
+// Where things lie on a device, from its three numbers: S sectors in all, L of a metadata area, R of reserved space.
+// Sectors are u64, and nothing wraps for any S. Assumes nothing.
+ghost use mathlib.Core.Path.{_≡_};
+ghost use Prim.Native.Nat.{_-_};
+ghost use Rattle.refusal.specs.Tests.{first};
+ghost use Rattle.layout.specs.Limits.{sizeAllowed, metadataAllowed, reservedAllowed, deviceTests};
+ghost use Rattle.layout.specs.Places.{blockSector, areaSector, dataStart, dataEnd, placement};
+
+pub const SECTOR_BYTES: usize = 512;
+
+// The device's numbers, as the signature block has them.
+pub struct Device {
+    // S, in sectors.
+    pub sectors: u64,
+    // L, in sectors.
+    pub metadata: u32,
+    // R, in sectors.
+    pub reserved: u32,
+}
+
+// The two copies of the metadata.
+pub enum Side {
+    Front,
+    Back,
+}
+
+// The two metadata areas of a copy.
+pub enum Area {
+    A,
+    B,
+}
+
+// First sectors of a copy's parts.
+pub struct Copy {
+    pub header: u64,
+    pub block: u64,
+    pub a: u64,
+    pub b: u64,
+    pub reserved: u64,
+}
+
+// Both copies, and the data range: from start up to, not including, end.
+pub struct Places {
+    pub front: Copy,
+    pub back: Copy,
+    pub start: u64,
+    pub end: u64,
+}
+
+// What `locate` answers.
+pub enum Placement {
+    At(Places),
+    Refused(u8),
+}
+
+// Whether S is allowed.
+pub fn size_allowed(s: u64) -> bool
+    ensures { λ r. ⌜ r ≡ sizeAllowed s ⌝ }
+{
+    2097152 <= s
+}
+
+// Whether L is allowed.
+pub fn metadata_allowed(l: u32) -> bool
+    ensures { λ r. ⌜ r ≡ metadataAllowed l ⌝ }
+{
+    (l % 2 == 0) & ((2040 <= l) & (l <= 16384))
+}
+
+// Whether R is allowed.
+pub fn reserved_allowed(r: u32) -> bool
+    ensures { λ a. ⌜ a ≡ reservedAllowed r ⌝ }
+{
+    r <= 65536
+}
+
+// The refusal number of device numbers that are not allowed: 4, 7 or 8, the lowest that applies; 0 where all are.
+pub fn check(d: Device) -> u8
+    ensures { λ r. ⌜ r ≡ first (deviceTests d) ⌝ }
+{
+    if !size_allowed(d.sectors) {
+        return refusal::DEVICE_SIZE;
+    }
+    if !metadata_allowed(d.metadata) {
+        return refusal::METADATA_SIZE;
+    }
+    if !reserved_allowed(d.reserved) {
+        return refusal::RESERVED_SIZE;
+    }
+    refusal::NONE
+}
+
+// a - b, or 0 where b is more than a.
+fn less(a: u64, b: u64) -> u64
+    ensures { λ r. ⌜ r ≡ a - b ⌝ }
+{
+    if a < b { 0 } else { a - b }
+}
+
+// The sector of a copy's signature block; of any numbers, with differences that stop at 0.
+pub fn block_sector(side: Side, d: Device) -> u64
+    ensures { λ r. ⌜ r ≡ blockSector side d ⌝ }
+{
+    match side {
+        Side::Front => 1,
+        Side::Back => less(d.sectors, 7),
+    }
+}
+
+// The first sector of a metadata area of a copy; of any numbers, with differences that stop at 0.
+pub fn area_sector(side: Side, area: Area, d: Device) -> u64
+    ensures { λ r. ⌜ r ≡ areaSector side area d ⌝ }
+{
+    let l = d.metadata as u64;
+    match side {
+        Side::Front => match area {
+            Area::A => 8,
+            Area::B => 8 + l / 2,
+        },
+        Side::Back => match area {
+            Area::A => less(less(d.sectors, 8), l),
+            Area::B => less(less(d.sectors, 8), l / 2),
+        },
+    }
+}
+
+// The first data sector; of any numbers.
+pub fn data_start(d: Device) -> u64
+    ensures { λ r. ⌜ r ≡ dataStart d ⌝ }
+{
+    8 + d.metadata as u64 + d.reserved as u64
+}
+
+// The first sector past the data range; of any numbers, with differences that stop at 0.
+pub fn data_end(d: Device) -> u64
+    ensures { λ r. ⌜ r ≡ dataEnd d ⌝ }
+{
+    less(
+        less(less(d.sectors, 8), d.metadata as u64),
+        d.reserved as u64,
+    )
+}
+
+// The places of both copies and the data range, or the number of device numbers that are not allowed.
+pub fn locate(d: Device) -> Placement
+    ensures { λ r. ⌜ r ≡ placement d ⌝ }
+{
+    let n = check(d);
+    if n != 0 {
+        return Placement::Refused(n);
+    }
+    let l = d.metadata as u64;
+    let front = Copy {
+        header: 0,
+        block: block_sector(Side::Front, d),
+        a: area_sector(Side::Front, Area::A, d),
+        b: area_sector(Side::Front, Area::B, d),
+        reserved: 8 + l,
+    };
+    let back = Copy {
+        header: less(d.sectors, 8),
+        block: block_sector(Side::Back, d),
+        a: area_sector(Side::Back, Area::A, d),
+        b: area_sector(Side::Back, Area::B, d),
+        reserved: data_end(d),
+    };
+    Placement::At(Places {
+        front,
+        back,
+        start: data_start(d),
+        end: data_end(d),
+    })
+}

@@ -1,0 +1,86 @@
+-- Laws of tests in order. A caller's proof cites one for each test that it passes. Assumes nothing.
+use Prim.Native.Nat.{ℕ, _≤_, _<_}
+use mathlib.Core.Path.{_≡_, refl, sym, ap, _∙_}
+use mathlib.Core.Bool.{Bool, true, false, cond, not, true≢false}
+use mathlib.Core.List.{List, [], _∷_, _++_}
+use native.Mathlib.Omega.{arith}
+use borrow.Author.Tests.{not-true, not-false}
+use mathlib.Core.Logic.{_⊎_, inl, inr}
+use Rattle.refusal.specs.Tests.{Test, _or_, first, AllHold, Fails, Ascending}
+
+pub first-nil : first [] ≡ 0
+unfolding first
+first-nil = refl
+
+-- a test that holds
+pub first-pass : (b : Bool) (n : ℕ) (ts : List Test) → b ≡ true → first ((b or n) ∷ ts) ≡ first ts
+unfolding first
+first-pass b n ts h = ap (λ (x : Bool). cond x (first ts) n) h
+
+-- a test that fails
+pub first-fail : (b : Bool) (n : ℕ) (ts : List Test) → b ≡ false → first ((b or n) ∷ ts) ≡ n
+unfolding first
+first-fail b n ts h = ap (λ (x : Bool). cond x (first ts) n) h
+
+-- given numbers that ascend, 0 means that all tests hold
+pub first-zero : (m : ℕ) (ts : List Test) → Ascending m ts → first ts ≡ 0 → AllHold ts
+first-zero m [] a e = tt
+first-zero m (t ∷ ts) a e = go (first-zero (t .otherwise) ts (a .1)) (t .holds) refl
+  where
+    go : (first ts ≡ 0 → AllHold ts) → (b : Bool) → t .holds ≡ b → AllHold (t ∷ ts)
+    go r true p = (p, r (sym (first-pass (t .holds) (t .otherwise) ts p) ∙ e))
+    go r false p =
+        let z : t .otherwise ≡ 0 = sym (first-fail (t .holds) (t .otherwise) ts p) ∙ e in
+        let l : m < t .otherwise = a .0 in
+        absurd (omega arith)
+
+pub first-all : (ts : List Test) → AllHold ts → first ts ≡ 0
+first-all [] h = first-nil
+first-all (t ∷ ts) h = first-pass (t .holds) (t .otherwise) ts (h .0) ∙ first-all ts (h .1)
+
+-- a test that fails has no number below those of its list
+fails-above : (m : ℕ) (ts : List Test) → Ascending m ts → (k : ℕ) → Fails ts k → m < k
+fails-above m [] a k f = absurd f
+fails-above m (t ∷ ts) a k (inl f) =
+    let l : m < t .otherwise = a .0 in
+    let e : t .otherwise ≡ k = f .1 in
+    omega arith
+fails-above m (t ∷ ts) a k (inr f) =
+    let l : m < t .otherwise = a .0 in
+    let g : t .otherwise < k = fails-above (t .otherwise) ts (a .1) k f in
+    omega arith
+
+-- given numbers that ascend, the number is the lowest of the tests that fail
+pub first-lowest : (m : ℕ) (ts : List Test) → Ascending m ts → 0 < first ts → Fails ts (first ts) × ((k : ℕ) → Fails ts k → first ts ≤ k)
+first-lowest m [] a p = absurd (let z : first [] ≡ 0 = first-nil in omega arith)
+first-lowest m (t ∷ ts) a p = go (first-lowest (t .otherwise) ts (a .1)) (t .holds) refl
+  where
+    below : t .holds ≡ false → (k : ℕ) → Fails (t ∷ ts) k → first (t ∷ ts) ≤ k
+    below e k (inl f) =
+        let n : first (t ∷ ts) ≡ t .otherwise = first-fail (t .holds) (t .otherwise) ts e in
+        let g : t .otherwise ≡ k = f .1 in
+        omega arith
+    below e k (inr f) =
+        let n : first (t ∷ ts) ≡ t .otherwise = first-fail (t .holds) (t .otherwise) ts e in
+        let g : t .otherwise < k = fails-above (t .otherwise) ts (a .1) k f in
+        omega arith
+
+    later : t .holds ≡ true → ((k : ℕ) → Fails ts k → first ts ≤ k) → (k : ℕ) → Fails (t ∷ ts) k → first (t ∷ ts) ≤ k
+    later e h k (inl f) = absurd (true≢false (sym e ∙ f .0))
+    later e h k (inr f) = rw (first-pass (t .holds) (t .otherwise) ts e) (h k f)
+
+    go : (0 < first ts → Fails ts (first ts) × ((k : ℕ) → Fails ts k → first ts ≤ k))
+        → (b : Bool) → t .holds ≡ b → Fails (t ∷ ts) (first (t ∷ ts)) × ((k : ℕ) → Fails (t ∷ ts) k → first (t ∷ ts) ≤ k)
+    go h false e = (inl (e, sym (first-fail (t .holds) (t .otherwise) ts e)), below e)
+    go h true e =
+        let n : first (t ∷ ts) ≡ first ts = first-pass (t .holds) (t .otherwise) ts e in
+        let r : Fails ts (first ts) × ((k : ℕ) → Fails ts k → first ts ≤ k) = h (rw n at p) in
+        (inr (rw n (r .0)), later e (r .1))
+
+-- As code has it, `if !f(x) { return n; }`, with f's answer r: the number is given.
+pub refused : (r b : Bool) (n : ℕ) (ts : List Test) → r ≡ b → not r ≡ true → n ≡ first ((b or n) ∷ ts)
+refused r b n ts e t = sym (first-fail b n ts (sym e ∙ not-true r t))
+
+-- The test is passed, and k is what the tests after it give.
+pub passed : (r b : Bool) (n : ℕ) (ts : List Test) → r ≡ b → not r ≡ false → (k : ℕ) → k ≡ first ts → k ≡ first ((b or n) ∷ ts)
+passed r b n ts e t k h = h ∙ sym (first-pass b n ts (sym e ∙ not-false r t))
