@@ -1,3 +1,4 @@
 -- The laws that callers cite.
 pub mod Numbers
 pub mod Parts
+pub mod Tests

@@ -3,7 +3,7 @@ use Prim.Native.Nat.{ℕ, zero, suc, _+_, _-_, _≤_, _<_}
 use mathlib.Core.Path.{_≡_, refl, sym, ap, _∙_}
 use mathlib.Core.Bool.{Bool, true, false, cond}
 use mathlib.Core.Logic.{⊎-elim}
-use mathlib.Core.List.{List, [], _∷_, _++_, append-assoc}
+use mathlib.Core.List.{List, [], _∷_, _++_, append-assoc, append-nil}
 use native.Mathlib.Decide.{decLe}
 use native.Mathlib.Nat.{not-suc-le-zero}
 use native.Mathlib.Omega.{arith}
@@ -50,6 +50,12 @@ pub splice-part : (s : List ℕ) (at n : ℕ) (v : List ℕ) → at + n ≤ leng
 splice-part s at n v h e =
     let k : at + (at + n - at) ≡ at + length v = omega arith in
     rw (drop-drop (at + n - at) at s, k) (sym (splice-fits s at v (omega arith)))
+
+-- as many elements as there are, laid over all of them
+pub splice-whole : (s v : List ℕ) → length v ≡ length s → splice s 0 v ≡ v
+splice-whole s v e =
+    splice-fits s 0 v (omega arith)
+    ∙ (ap (λ (l : List ℕ). v ++ l) (drop-of-length-le s (let h : length s ≤ 0 + length v = omega arith in h)) ∙ append-nil v)
 
 pub splice-short : (s : List ℕ) (at : ℕ) (v : List ℕ) → length s < at + length v → splice s at v ≡ s
 unfolding splice fits
@@ -167,3 +173,11 @@ bytes-splice s at v b d =
           (bytes-append v (drop (at + length v) s) d (bytes-drop (at + length v) s b)))
       | no h ↦ rw (splice-short s at v (let l : length s < at + length v = omega arith in l)) b
     ]
+
+-- what a write answers and leaves: where its n elements do not fit, and where they do, w being what came back of the part lent
+pub unstored : (s : List ℕ) (at n : ℕ) (v : List ℕ) → length v ≡ n → length s < at + n → (1 ≡ room s at n) × (s ≡ splice s at v)
+unstored s at n v e h = (sym (room-short s at n h), sym (splice-short s at v (omega arith)))
+
+pub stored : (s : List ℕ) (at n : ℕ) (v w : List ℕ) → length v ≡ n → w ≡ v → at + n ≤ length s
+    → (0 ≡ room s at n) × (take at s ++ (w ++ drop (at + n - at) (drop at s)) ≡ splice s at v)
+stored s at n v w e k h = (sym (room-fits s at n h), splice-part s at n w h (ap length k ∙ e) ∙ ap (splice s at) k)

@@ -1,10 +1,10 @@
 -- Lists of bytes: the number that bytes make, the bytes of a number, a part of a list, a list laid over another.
 -- An element is read as a byte, `b % 256`, so that each definition has a value at every list. Assumes nothing.
 use Prim.Native.Nat.{ℕ, zero, suc, _+_, _*_, _/_, _%_, _<_}
-use mathlib.Core.Bool.{Bool, cond}
+use mathlib.Core.Bool.{Bool, true, false, cond, _&&_}
 use mathlib.Core.List.{List, [], _∷_, _++_}
-use lib.Dec.{leb}
-use lib.ListN.{length, getD, take, drop}
+use lib.Dec.{leb, eqb}
+use lib.ListN.{length, getD, take, drop, replicate}
 
 -- the number whose bytes, lowest first, are the list's
 unfoldable pub le : List ℕ → ℕ
@@ -35,3 +35,19 @@ room s at n = cond (fits s at n) 0 1
 -- each element of s is a byte
 abbrev pub Bytes : List ℕ → Type 0
 Bytes s = (i : ℕ) → getD s i 0 < 256
+
+-- the two lists are the same
+unfoldable pub same : List ℕ → List ℕ → Bool
+same [] [] = true
+same [] (y ∷ ys) = false
+same (x ∷ xs) [] = false
+same (x ∷ xs) (y ∷ ys) = eqb x y && same xs ys
+
+-- each element passes the test p
+unfoldable pub all : (ℕ → Bool) → List ℕ → Bool
+all p [] = true
+all p (x ∷ xs) = p x && all p xs
+
+-- n zeros
+unfoldable pub zeros : ℕ → List ℕ
+zeros n = replicate n 0

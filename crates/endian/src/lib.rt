@@ -1,9 +1,9 @@
-// Little-endian numbers of 2, 4 and 8 bytes, read from and written to a slice at any offset.
+// Bytes in a slice: little-endian numbers of 2, 4 and 8 bytes, parts, copies and comparisons, at any offset.
 // Every call is total: nothing is asked of the slice or of the offset. Assumes nothing.
 ghost use mathlib.Core.Path.{_≡_};
 ghost use Prim.Native.Nat.{_^_, _≤_, _<_};
 ghost use lib.ListN.{length};
-ghost use Rattle.endian.specs.Bytes.{le, toLe, window, splice, room};
+ghost use Rattle.endian.specs.Bytes.{le, toLe, window, splice, room, same, zeros};
 
 // The part of s of n bytes from `at` on, or as many of them as there are.
 pub fn window(s: &[u8], at: usize, n: usize) -> &[u8]
@@ -117,4 +117,60 @@ pub fn write_u64(s: &mut [u8], at: usize, v: u64) -> u8
     ensures { λ _. ⌜ now (s .exit) ≡ splice (now (s .entry)) at (toLe 8 v) ⌝ }
 {
     write(s, at, 8, v)
+}
+
+// Whether a and b have the same bytes.
+pub fn same(a: &[u8], b: &[u8]) -> bool
+    ensures { λ r. ⌜ r ≡ same (now (a .entry)) (now (b .entry)) ⌝ }
+{
+    if a.len() != b.len() {
+        return false;
+    }
+    let mut i = 0;
+    while i < a.len() {
+        if a[i] != b[i] {
+            return false;
+        }
+        i += 1;
+    }
+    true
+}
+
+// Fills all of d with the bytes of s, of which there are as many.
+fn fill_from(d: &mut [u8], s: &[u8])
+    requires { ⌜ length (now d) ≡ length (now s) ⌝ }
+    ensures { λ _. ⌜ now (d .exit) ≡ now (s .entry) ⌝ }
+{
+    let mut i = 0;
+    while i < d.len() {
+        d[i] = s[i];
+        i += 1;
+    }
+}
+
+// Stores the bytes of v at `at` and answers 0, or stores nothing and answers 1 where they do not fit.
+pub fn put(s: &mut [u8], at: usize, v: &[u8]) -> u8
+    ensures { λ r. ⌜ r ≡ room (now (s .entry)) at (length (now (v .entry))) ⌝ }
+    ensures { λ _. ⌜ now (s .exit) ≡ splice (now (s .entry)) at (now (v .entry)) ⌝ }
+{
+    if s.len() < at {
+        return 1;
+    }
+    let n = v.len();
+    if s.len() - at < n {
+        return 1;
+    }
+    fill_from(&mut s[at..at + n], v);
+    0
+}
+
+// Makes every byte of s zero.
+pub fn clear(s: &mut [u8])
+    ensures { λ _. ⌜ now (s .exit) ≡ zeros (length (now (s .entry))) ⌝ }
+{
+    let mut i = 0;
+    while i < s.len() {
+        s[i] = 0;
+        i += 1;
+    }
 }

@@ -35,6 +35,10 @@ sectorBytes = 512
 unfoldable pub recordLimit : ℕ
 recordLimit = 8192
 
+-- a record's bytes: 1 up to the most
+unfoldable pub lengthAllowed : ℕ → Bool
+lengthAllowed n = leb 1 n && leb n recordLimit
+
 -- bytes of a copy as it is lent: the header's 8 sectors, then as much of each area as a record can fill
 unfoldable pub copyBytes : ℕ
 copyBytes = 8 * sectorBytes + 2 * recordLimit

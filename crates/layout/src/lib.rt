@@ -3,10 +3,13 @@
 ghost use mathlib.Core.Path.{_≡_};
 ghost use Prim.Native.Nat.{_-_};
 ghost use Rattle.refusal.specs.Tests.{first};
-ghost use Rattle.layout.specs.Limits.{sizeAllowed, metadataAllowed, reservedAllowed, deviceTests};
+ghost use Rattle.layout.specs.Limits.{sizeAllowed, metadataAllowed, reservedAllowed, lengthAllowed, deviceTests};
 ghost use Rattle.layout.specs.Places.{blockSector, areaSector, dataStart, dataEnd, placement};
 
 pub const SECTOR_BYTES: usize = 512;
+
+// The most bytes of a record.
+pub const RECORD_LIMIT: u64 = 8192;
 
 // The device's numbers, as the signature block has them.
 pub struct Device {
@@ -72,6 +75,13 @@ pub fn reserved_allowed(r: u32) -> bool
     ensures { λ a. ⌜ a ≡ reservedAllowed r ⌝ }
 {
     r <= 65536
+}
+
+// Whether a record may have n bytes.
+pub fn length_allowed(n: u64) -> bool
+    ensures { λ r. ⌜ r ≡ lengthAllowed n ⌝ }
+{
+    (1 <= n) & (n <= RECORD_LIMIT)
 }
 
 // The refusal number of device numbers that are not allowed: 4, 7 or 8, the lowest that applies; 0 where all are.

@@ -1,0 +1,26 @@
+-- `block::signature_right` meets its contract. Assumes nothing.
+use Prim.Native.Nat.{ℕ}
+use mathlib.Core.Path.{ap, _∙_}
+use mathlib.Core.List.{List}
+use Rattle.endian.specs.Bytes.{same}
+use Rattle.block.specs.Block.{signatureBytes}
+use borrow.Author.Needs.{needs}
+use Rattle.block.proofs.signature_right.Statement.{statement}
+use Rattle.block.proofs.signature_right.Tie as tie
+
+window-requires : tie.Need-window-requires
+window-requires c κs = search needs
+
+slice-aggregate-same : tie.Need-slice-aggregate-same
+slice-aggregate-same c = search needs
+
+same-requires : tie.Need-same-requires
+same-requires c κs = search needs
+
+returns : tie.Need-returns
+unfolding signatureBytes
+returns c = c .same .ensures ∙ ap (λ (l : List ℕ). same l signatureBytes) (c .before .before .window .ensures)
+
+pub signature-right-spec : {M : Type 1} → statement M
+signature-right-spec =
+    tie.close (tie.spec window-requires slice-aggregate-same same-requires returns)

@@ -1,0 +1,3 @@
+-- What the contracts of `block` cite.
+pub mod Entry
+pub mod Block

@@ -1,0 +1,123 @@
+-- Laws of the tests of lists. Assumes nothing.
+use Prim.Native.Nat.{ℕ, zero, suc, _+_, _-_, _≤_, _<_}
+use mathlib.Core.Path.{_≡_, refl, sym, ap, ap₂, _∙_}
+use mathlib.Core.Bool.{Bool, true, false, _&&_, true≢false}
+use mathlib.Core.List.{List, [], _∷_, _++_}
+use native.Mathlib.Nat.{not-suc-le-zero, le-of-suc-le-suc}
+use native.Mathlib.Numerals.{add-one}
+use native.Mathlib.Omega.{arith}
+use borrow.Author.Tests.{eqb-true, eq-eqb, ne-eqb}
+use lib.Dec.{eqb}
+use lib.ListN.{length, getD, take, drop, replicate, length-replicate}
+use lib.Seq.{drop-cons}
+use Rattle.endian.specs.Bytes.{same, all, zeros, Bytes}
+
+pub and-left : (a b : Bool) → a && b ≡ true → a ≡ true
+and-left true b h = refl
+and-left false b h = h
+
+pub and-right : (a b : Bool) → a && b ≡ true → b ≡ true
+and-right true b h = h
+and-right false b h = absurd (true≢false (sym h))
+
+pub and-both : (a b : Bool) → a ≡ true → b ≡ true → a && b ≡ true
+and-both a b p q = ap₂ (λ (x y : Bool). x && y) p q
+
+pub same-refl : (s : List ℕ) → same s s ≡ true
+unfolding same
+same-refl [] = refl
+same-refl (x ∷ xs) = and-both (eqb x x) (same xs xs) (eq-eqb x x refl) (same-refl xs)
+
+-- the test says that the lists are equal
+pub same-equal : (a b : List ℕ) → same a b ≡ true → a ≡ b
+unfolding same
+same-equal [] [] h = refl
+same-equal [] (y ∷ ys) h = absurd (true≢false (sym h))
+same-equal (x ∷ xs) [] h = absurd (true≢false (sym h))
+same-equal (x ∷ xs) (y ∷ ys) h =
+    ap₂ (λ (z : ℕ) (zs : List ℕ). z ∷ zs) (eqb-true x y (and-left (eqb x y) (same xs ys) h)) (same-equal xs ys (and-right (eqb x y) (same xs ys) h))
+
+pub equal-same : (a b : List ℕ) → a ≡ b → same a b ≡ true
+equal-same a b e = ap (same a) (sym e) ∙ same-refl a
+
+-- lists of different lengths differ
+pub same-length : (a b : List ℕ) → (length a ≡ length b → ⊥) → same a b ≡ false
+unfolding same
+same-length [] [] h = absurd (h refl)
+same-length [] (y ∷ ys) h = refl
+same-length (x ∷ xs) [] h = refl
+same-length (x ∷ xs) (y ∷ ys) h = ap (λ (z : Bool). eqb x y && z) (same-length xs ys (λ e. h (ap suc e))) ∙ and-false (eqb x y)
+  where
+    and-false : (b : Bool) → b && false ≡ false
+    and-false true = refl
+    and-false false = refl
+
+same-cons : (x y : ℕ) (xs ys : List ℕ) → same (x ∷ xs) (y ∷ ys) ≡ (eqb x y && same xs ys)
+unfolding same
+same-cons x y xs ys = refl
+
+-- elements that agree do not change what is said of the others
+pub same-drop : (a b : List ℕ) (i : ℕ) → i < length a → i < length b → getD a i 0 ≡ getD b i 0
+    → same (drop i a) (drop i b) ≡ same (drop (i + 1) a) (drop (i + 1) b)
+same-drop a b i h k e =
+    ap₂ same (drop-cons a i 0 h) (drop-cons b i 0 k)
+    ∙ (same-cons (getD a i 0) (getD b i 0) (drop (suc i) a) (drop (suc i) b)
+    ∙ (ap (λ (z : Bool). z && same (drop (suc i) a) (drop (suc i) b)) (eq-eqb (getD a i 0) (getD b i 0) e)
+    ∙ ap (λ (n : ℕ). same (drop n a) (drop n b)) (sym (add-one i))))
+
+-- elements that differ settle it
+pub same-differ : (a b : List ℕ) (i : ℕ) → i < length a → i < length b → (getD a i 0 ≡ getD b i 0 → ⊥) → same (drop i a) (drop i b) ≡ false
+same-differ a b i h k e =
+    ap₂ same (drop-cons a i 0 h) (drop-cons b i 0 k)
+    ∙ (same-cons (getD a i 0) (getD b i 0) (drop (suc i) a) (drop (suc i) b)
+    ∙ ap (λ (z : Bool). z && same (drop (suc i) a) (drop (suc i) b)) (ne-eqb (getD a i 0) (getD b i 0) e))
+
+module _ (p : ℕ → Bool) where
+  all-cons : (x : ℕ) (xs : List ℕ) → all p (x ∷ xs) ≡ (p x && all p xs)
+  unfolding all
+  all-cons x xs = refl
+
+  pub all-nil : all p [] ≡ true
+  unfolding all
+  all-nil = refl
+
+  -- an element that passes does not change what is said of the others
+  pub all-drop : (s : List ℕ) (i : ℕ) → i < length s → p (getD s i 0) ≡ true → all p (drop i s) ≡ all p (drop (i + 1) s)
+  all-drop s i h e =
+      ap (all p) (drop-cons s i 0 h)
+      ∙ (all-cons (getD s i 0) (drop (suc i) s)
+      ∙ (ap (λ (z : Bool). z && all p (drop (suc i) s)) e ∙ ap (λ (n : ℕ). all p (drop n s)) (sym (add-one i))))
+
+  -- one that fails settles it
+  pub all-fail : (s : List ℕ) (i : ℕ) → i < length s → p (getD s i 0) ≡ false → all p (drop i s) ≡ false
+  all-fail s i h e =
+      ap (all p) (drop-cons s i 0 h)
+      ∙ (all-cons (getD s i 0) (drop (suc i) s) ∙ ap (λ (z : Bool). z && all p (drop (suc i) s)) e)
+
+  pub all-at : (s : List ℕ) → all p s ≡ true → (i : ℕ) → i < length s → p (getD s i 0) ≡ true
+  unfolding all
+  all-at [] h i k = absurd (not-suc-le-zero k)
+  all-at (x ∷ xs) h zero k = and-left (p x) (all p xs) h
+  all-at (x ∷ xs) h (suc i) k = all-at xs (and-right (p x) (all p xs) h) i (le-of-suc-le-suc k)
+
+  pub all-of : (s : List ℕ) → ((i : ℕ) → i < length s → p (getD s i 0) ≡ true) → all p s ≡ true
+  unfolding all
+  all-of [] h = refl
+  all-of (x ∷ xs) h = and-both (p x) (all p xs) (h 0 (omega arith)) (all-of xs (λ i k. h (suc i) (omega arith)))
+
+pub length-zeros : (n : ℕ) → length (zeros n) ≡ n
+unfolding zeros
+length-zeros n = length-replicate n 0
+
+-- all elements are zero: the list is zeros
+pub all-zeros : (s : List ℕ) → all (λ (b : ℕ). eqb b 0) s ≡ true → s ≡ zeros (length s)
+unfolding all zeros
+all-zeros [] h = refl
+all-zeros (x ∷ xs) h =
+    ap₂ (λ (z : ℕ) (zs : List ℕ). z ∷ zs) (eqb-true x 0 (and-left (eqb x 0) (all (λ (b : ℕ). eqb b 0) xs) h))
+    (all-zeros xs (and-right (eqb x 0) (all (λ (b : ℕ). eqb b 0) xs) h))
+
+pub zeros-all : (n : ℕ) → all (λ (b : ℕ). eqb b 0) (zeros n) ≡ true
+unfolding all zeros
+zeros-all zero = refl
+zeros-all (suc n) = zeros-all n
