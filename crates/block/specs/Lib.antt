@@ -1,3 +1,5 @@
 -- What the contracts of `block` cite.
 pub mod Entry
 pub mod Block
+pub mod Writing
+pub mod Laid

@@ -6,6 +6,8 @@ ghost use lib.ListN.{length};
 ghost use Rattle.endian.specs.Bytes.{window, same, all};
 ghost use Rattle.refusal.specs.Tests.{first};
 ghost use Rattle.block.specs.Block.{isHex, allZero, zeroFields, checksumRight, signatureBytes, poolOf, uuidOf, entryAt, fieldsOf, limitTests, readTests, reading};
+ghost use Rattle.block.specs.Writing.{holdingOf, sealed, writeTests, written};
+ghost use Rattle.block.specs.Laid.{entryLaid, bodyLaid};
 ghost use Rattle.block.specs.Entry.{laterThan, sameTime, entryOf, entryAllowed, differentTimes, entriesAllowed};
 use layout::Device;
 
@@ -295,4 +297,83 @@ pub fn read(s: &[u8]) -> Reading
         pool: uuid(endian::window(s, 32, 32)),
         device: uuid(endian::window(s, 64, 32)),
     }
+}
+
+// The four numbers of an entry; of an unused one all zero.
+fn holding_of(e: Entry) -> Holding
+    ensures { λ r. ⌜ r ≡ holdingOf e ⌝ }
+{
+    match e {
+        Entry::Unused => Holding { seconds: 0, nanoseconds: 0, bytes: 0, checksum: 0 },
+        Entry::Used(h) => h,
+    }
+}
+
+// Stores an entry's four numbers at an offset.
+fn put_entry(out: &mut [u8], at: usize, e: Entry)
+    requires { ⌜ at ≤ 512 ⌝ }
+    ensures { λ _. ⌜ now (out .exit) ≡ entryLaid (now (out .entry)) at (holdingOf e) ⌝ }
+{
+    let h = holding_of(e);
+    endian::write_u64(out, at, h.seconds);
+    endian::write_u32(out, at + 8, h.nanoseconds);
+    endian::write_u32(out, at + 12, h.bytes);
+    endian::write_u32(out, at + 16, h.checksum);
+}
+
+// Stores the block's fields into zeros, all but the checksum.
+fn put_fields(out: &mut [u8], pool: &[u8], uuid: &[u8], f: BlockFields)
+    ensures { λ _. ⌜ now (out .exit) ≡ bodyLaid (length (now (out .entry))) (now (pool .entry)) (now (uuid .entry)) f ⌝ }
+{
+    let bytes = [0x21u8, 0x53, 0x74, 0x72, 0x61, 0x30, 0x74, 0x69, 0x73, 0x86, 0xff, 0x02, 0x5e, 0x41, 0x72, 0x68];
+    let d = f.device;
+    let a = f.a;
+    let b = f.b;
+    endian::clear(out);
+    endian::put(out, 4, &bytes);
+    endian::write_u64(out, 20, d.sectors);
+    endian::put(out, 32, pool);
+    endian::put(out, 64, uuid);
+    put_entry(out, 96, a);
+    put_entry(out, 128, b);
+    endian::write_u32(out, 160, d.metadata);
+    endian::write_u32(out, 164, d.reserved);
+}
+
+// Stores the checksum of bytes 4 to 511 at the start.
+pub fn seal(b: &mut [u8])
+    ensures { λ _. ⌜ now (b .exit) ≡ sealed (now (b .entry)) ⌝ }
+{
+    let c = checksum::checksum(endian::window(b, 4, 508));
+    endian::write_u32(b, 0, c);
+}
+
+// The number of the first test, 1, 4, 6 to 9, that fails; 0 where all hold.
+fn write_refusal(out: &[u8], pool: &[u8], uuid: &[u8], f: BlockFields) -> u8
+    ensures { λ r. ⌜ r ≡ first (writeTests (now (out .entry)) (now (pool .entry)) (now (uuid .entry)) f) ⌝ }
+{
+    let whole = (out.len() == 512) & ((pool.len() == 32) & (uuid.len() == 32));
+    if !whole {
+        return refusal::SLICE_SIZE;
+    }
+    let d = f.device;
+    if !layout::size_allowed(d.sectors) {
+        return refusal::DEVICE_SIZE;
+    }
+    limit_refusal(pool, uuid, f)
+}
+
+// Writes a signature block with these fields into out and answers 0, or changes nothing and answers the number of what a
+// reader would refuse.
+pub fn write(out: &mut [u8], pool: &[u8], uuid: &[u8], f: BlockFields) -> u8
+    ensures { λ r. ⌜ r ≡ first (writeTests (now (out .entry)) (now (pool .entry)) (now (uuid .entry)) f) ⌝ }
+    ensures { λ _. ⌜ now (out .exit) ≡ written (now (out .entry)) (now (pool .entry)) (now (uuid .entry)) f ⌝ }
+{
+    let n = write_refusal(out, pool, uuid, f);
+    if n != 0 {
+        return n;
+    }
+    put_fields(out, pool, uuid, f);
+    seal(out);
+    0
 }
