@@ -1,3 +1,7 @@
 -- The laws that callers cite.
 pub mod Readings
 pub mod Written
+pub mod Exactly
+mod Cuts
+pub mod RoundTrip
+pub mod Demand

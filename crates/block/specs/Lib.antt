@@ -3,3 +3,5 @@ pub mod Entry
 pub mod Block
 pub mod Writing
 pub mod Laid
+pub mod Accepted
+pub mod Demand

@@ -304,7 +304,12 @@ fn holding_of(e: Entry) -> Holding
     ensures { λ r. ⌜ r ≡ holdingOf e ⌝ }
 {
     match e {
-        Entry::Unused => Holding { seconds: 0, nanoseconds: 0, bytes: 0, checksum: 0 },
+        Entry::Unused => Holding {
+            seconds: 0,
+            nanoseconds: 0,
+            bytes: 0,
+            checksum: 0,
+        },
         Entry::Used(h) => h,
     }
 }
@@ -325,7 +330,24 @@ fn put_entry(out: &mut [u8], at: usize, e: Entry)
 fn put_fields(out: &mut [u8], pool: &[u8], uuid: &[u8], f: BlockFields)
     ensures { λ _. ⌜ now (out .exit) ≡ bodyLaid (length (now (out .entry))) (now (pool .entry)) (now (uuid .entry)) f ⌝ }
 {
-    let bytes = [0x21u8, 0x53, 0x74, 0x72, 0x61, 0x30, 0x74, 0x69, 0x73, 0x86, 0xff, 0x02, 0x5e, 0x41, 0x72, 0x68];
+    let bytes = [
+        0x21u8,
+        0x53,
+        0x74,
+        0x72,
+        0x61,
+        0x30,
+        0x74,
+        0x69,
+        0x73,
+        0x86,
+        0xff,
+        0x02,
+        0x5e,
+        0x41,
+        0x72,
+        0x68,
+    ];
     let d = f.device;
     let a = f.a;
     let b = f.b;

@@ -19,10 +19,11 @@ same-length : tie.Need-same-length
 same-length c = search needs
 
 returns : tie.Need-returns
-returns c =
-    ( c .before .write-refusal .ensures
-    , written-refused (c .before .before .before .before .before .before .args .out .now) (c .before .before .before .before .before .before .args .pool .now) (c .before .before .before .before .before .before .args .uuid .now) (c .before .before .before .before .before .before .args .f) (c .before .write-refusal .result)
-        (c .before .write-refusal .ensures) (c .if1 .taken) )
+returns c = (
+  c .before .write-refusal .ensures,
+  written-refused (c .before .before .before .before .before .before .args .out .now) (c .before .before .before .before .before .before .args .pool .now) (c .before .before .before .before .before .before .args .uuid .now) (c .before .before .before .before .before .before .args .f) (c .before .write-refusal .result)
+      (c .before .write-refusal .ensures) (c .if1 .taken),
+)
 
 put-fields-requires : tie.Need-put-fields-requires
 put-fields-requires c κs = search needs
@@ -40,11 +41,12 @@ returns-2 c =
     let u : List ℕ = c .before .before .before .before .before .before .before .before .before .before .before .before .before .before .args .uuid .now in
     let f : BlockFields = c .before .before .before .before .before .before .before .before .before .before .before .before .before .before .args .f in
     let z : first (writeTests out p u f) ≡ 0 = sym (c .before .before .before .before .before .before .before .before .before .write-refusal .ensures) ∙ c .before .before .before .before .before .before .before .before .if1 .left in
-    let sizes : (length out ≡ 512) × (length p ≡ 32) × (length u ≡ 32) = write-sizes out p u f z in
-    ( sym z
-    , c .before .before .seal .ensures
-        ∙ (ap sealed (c .before .before .before .before .before .before .put-fields .ensures ∙ ap (λ (n : ℕ). bodyLaid n p u f) (sizes .0))
-        ∙ (sealed-body p u f (sizes .1) (sizes .2) ∙ written-accepted out p u f z)) )
+    let sizes : (length out ≡ 512) × (length p ≡ 32) × (length u ≡ 32) = write-sizes out p u f z in (
+      sym z,
+      c .before .before .seal .ensures
+          ∙ (ap sealed (c .before .before .before .before .before .before .put-fields .ensures ∙ ap (λ (n : ℕ). bodyLaid n p u f) (sizes .0))
+          ∙ (sealed-body p u f (sizes .1) (sizes .2) ∙ written-accepted out p u f z)),
+    )
 
 pub write-spec : {M : Type 1} → statement M
 write-spec =

@@ -1,0 +1,79 @@
+-- Demand 2, first half, proved. Assumes nothing.
+use Prim.Native.Nat.{ℕ, _≤_}
+use mathlib.Core.Path.{_≡_, refl, sym, ap, _∙_}
+use mathlib.Core.Bool.{_&&_}
+use mathlib.Core.List.{List}
+use native.Mathlib.Omega.{arith}
+use borrow.Author.Tests.{eq-eqb}
+use lib.Dec.{eqb, lit≤}
+use native.Mathlib.Decide.{ℕ-discrete}
+use lib.ListN.{length}
+use Rattle.refusal.specs.Tests.{first, Fails, AllHold}
+use Rattle.refusal.proofs.Order.{first-zero, first-all, first-lowest}
+use Rattle.endian.proofs.Parts.{length-window-fits}
+use Rattle.endian.proofs.Tests.{and-both}
+use Rattle.block.specs.declared.BlockFields.{BlockFields}
+use Rattle.block.specs.declared.Reading.{Reading}
+use Rattle.block.specs.declared.Verdict.the-variants as Verdict
+use Rattle.block.specs.Block.{poolOf, uuidOf, fieldsOf, readTests, reading, acceptedReading, refusedReading}
+use Rattle.block.specs.Accepted.{Accepted}
+use Rattle.block.specs.Writing.{writeTests}
+use Rattle.block.specs.Demand.{Exactly, Lowest, WriteAfterRead, ReadAfterWrite}
+use Rattle.block.proofs.Readings.{refused-reading, accepted-reading, ascending}
+use Rattle.block.proofs.Exactly.{obeys, no-refusal}
+use Rattle.block.proofs.Written.{written-accepted, write-ascending, write-sizes}
+use Rattle.block.proofs.RoundTrip.{write-back, read-back}
+
+module _ (b : List ℕ) where
+  -- a block with no number is not refused
+  not-refused : (n : ℕ) → first (readTests b) ≡ 0 → reading b .verdict ≡ Verdict.Refused n → ⊥
+  not-refused n z e =
+      let v : Verdict.Accepted (fieldsOf b) ≡ Verdict.Refused n = ap (λ (r : Reading). r .verdict) (accepted-reading b z) ∙ e in
+      let o : _≡_ {A = ℕ} 0 1 = cc in
+      omega arith
+
+  -- a block with a number is refused with it, and not accepted
+  refused-with : (first (readTests b) ≡ 0 → ⊥) → reading b .verdict ≡ Verdict.Refused (first (readTests b))
+  refused-with h = sym (ap (λ (r : Reading). r .verdict) (refused-reading b (first (readTests b)) refl h))
+
+  not-accepted : (f : BlockFields) → (first (readTests b) ≡ 0 → ⊥) → reading b .verdict ≡ Verdict.Accepted f → ⊥
+  not-accepted f h e =
+      let v : Verdict.Refused (first (readTests b)) ≡ Verdict.Accepted f = sym (refused-with h) ∙ e in
+      let o : _≡_ {A = ℕ} 0 1 = cc in
+      omega arith
+
+pub exactly : Exactly
+exactly b = (
+  λ a. sym (accepted-reading b (no-refusal b a)),
+  λ f e. elim (ℕ-discrete (first (readTests b)) 0) [ yes z ↦ obeys b z | no h ↦ absurd (not-accepted b f h e) ],
+)
+
+pub lowest : Lowest
+lowest b n e = elim (ℕ-discrete (first (readTests b)) 0) [ yes z ↦ absurd (not-refused b n z e) | no h ↦ go h ]
+  where
+    go : (first (readTests b) ≡ 0 → ⊥) → (reading b ≡ refusedReading n) × (Fails (readTests b) n × ((k : ℕ) → Fails (readTests b) k → n ≤ k))
+    go h =
+        let v : Verdict.Refused (first (readTests b)) ≡ Verdict.Refused n = sym (refused-with b h) ∙ e in
+        let m : first (readTests b) ≡ n = cc in (
+          sym (refused-reading b n (sym m) (λ z. h (m ∙ z))),
+          rw m at (first-lowest 0 (readTests b) (ascending b) (omega arith)),
+        )
+
+pub write-after-read : WriteAfterRead
+write-after-read b out bytes h n =
+    let t : AllHold (readTests b) = first-zero 0 (readTests b) (ascending b) (no-refusal b h) in
+    let z : first (writeTests out (poolOf b) (uuidOf b) (fieldsOf b)) ≡ 0 =
+    first-all (writeTests out (poolOf b) (uuidOf b) (fieldsOf b)) (
+      and-both (eqb (length out) 512) (eqb (length (poolOf b)) 32 && eqb (length (uuidOf b)) 32) (eq-eqb (length out) 512 n)
+          (and-both (eqb (length (poolOf b)) 32) (eqb (length (uuidOf b)) 32)
+          (eq-eqb (length (poolOf b)) 32 (length-window-fits b 32 32 (rw (h .size) (lit≤ tt))))
+          (eq-eqb (length (uuidOf b)) 32 (length-window-fits b 64 32 (rw (h .size) (lit≤ tt))))),
+      (t .1 .1 .1 .0, t .1 .1 .1 .1 .1),
+    ) in
+    (z, sym (written-accepted out (poolOf b) (uuidOf b) (fieldsOf b) z) ∙ write-back b bytes h)
+
+pub read-after-write : ReadAfterWrite
+read-after-write out p u f s fa fb z =
+    let t : AllHold (writeTests out p u f) = first-zero 0 (writeTests out p u f) (write-ascending out p u f) z in
+    let sizes : (length out ≡ 512) × (length p ≡ 32) × (length u ≡ 32) = write-sizes out p u f z in
+    ap reading (sym (written-accepted out p u f z)) ∙ read-back p u f (sizes .1) (sizes .2) s fa fb (t .1 .1) (t .1 .0)

@@ -1,0 +1,171 @@
+-- A block is accepted exactly when it obeys the table and the limits, and a refusal is the lowest number that applies.
+-- Assumes nothing.
+use Prim.Native.Nat.{ℕ, _+_, _%_, _≤_, _<_}
+use mathlib.Core.Path.{_≡_, refl, sym, ap, ap₂, _∙_}
+use mathlib.Core.Bool.{Bool, true, false, not, _&&_, _||_, true≢false}
+use mathlib.Core.Logic.{_⊎_, inl, inr}
+use mathlib.Core.List.{List}
+use native.Mathlib.Omega.{arith}
+use borrow.Author.Tests.{leb-true, le-leb, eqb-true, eq-eqb, ne-eqb, not-true}
+use lib.Dec.{leb, eqb}
+use lib.ListN.{length, getD}
+use Rattle.endian.specs.Bytes.{window, same, all, zeros}
+use Rattle.endian.proofs.Parts.{length-window-fits}
+use Rattle.endian.proofs.Tests.{and-left, and-right, and-both, same-equal, equal-same, all-at, all-of, all-zeros, zeros-all}
+use Rattle.checksum.specs.Crc as Crc
+use Rattle.refusal.specs.Tests.{first, AllHold, Fails}
+use Rattle.refusal.proofs.Order.{first-zero, first-all, first-lowest}
+use Rattle.layout.specs.Limits.{lengthAllowed}
+use Rattle.layout.proofs.Laws.{metadata-facts, metadata-test, length-facts, length-test}
+use Rattle.block.specs.declared.Holding.{Holding}
+use Rattle.block.specs.declared.Entry.{Entry}
+use Rattle.block.specs.declared.Entry.the-variants.{Unused, Used}
+use Rattle.block.specs.Entry.{sameTime, timeOf, entryAllowed, differentTimes, entriesAllowed}
+use Rattle.block.specs.Block.{signatureBytes, number, poolOf, uuidOf, entryAt, isHex, allZero, zeroFields, readTests}
+use Rattle.block.specs.Accepted.{Hex, HexBytes, Within, Apart, Accepted}
+use Rattle.block.proofs.Readings.{ascending}
+
+or-cases : (a b : Bool) → a || b ≡ true → (a ≡ true) ⊎ (b ≡ true)
+or-cases true b h = inl refl
+or-cases false b h = inr h
+
+or-left : (a b : Bool) → a ≡ true → a || b ≡ true
+or-left a b h = ap (λ (x : Bool). x || b) h
+
+or-right : (a b : Bool) → b ≡ true → a || b ≡ true
+or-right true b h = refl
+or-right false b h = h
+
+hex-facts : (x : ℕ) → isHex x ≡ true → Hex x
+hex-facts x h = go (or-cases (leb 48 x && leb x 57) (leb 97 x && leb x 102) h)
+  where
+    go : (leb 48 x && leb x 57 ≡ true) ⊎ (leb 97 x && leb x 102 ≡ true) → Hex x
+    go (inl k) = inl (leb-true 48 x (and-left (leb 48 x) (leb x 57) k), leb-true x 57 (and-right (leb 48 x) (leb x 57) k))
+    go (inr k) = inr (leb-true 97 x (and-left (leb 97 x) (leb x 102) k), leb-true x 102 (and-right (leb 97 x) (leb x 102) k))
+
+hex-test : (x : ℕ) → Hex x → isHex x ≡ true
+hex-test x (inl h) =
+    or-left (leb 48 x && leb x 57) (leb 97 x && leb x 102) (and-both (leb 48 x) (leb x 57) (le-leb 48 x (h .0)) (le-leb x 57 (h .1)))
+hex-test x (inr h) =
+    or-right (leb 48 x && leb x 57) (leb 97 x && leb x 102) (and-both (leb 97 x) (leb x 102) (le-leb 97 x (h .0)) (le-leb x 102 (h .1)))
+
+within-facts : (e : Entry) → entryAllowed e ≡ true → Within e
+within-facts Unused h = tt
+within-facts (Used k) h =
+    let l : (1 ≤ k .bytes) × (k .bytes ≤ Rattle.layout.specs.Limits.recordLimit) =
+    length-facts (k .bytes) (and-left (lengthAllowed (k .bytes)) (leb (k .nanoseconds) 999999999) h) in
+    (l .0, l .1, leb-true (k .nanoseconds) 999999999 (and-right (lengthAllowed (k .bytes)) (leb (k .nanoseconds) 999999999) h))
+
+within-test : (e : Entry) → Within e → entryAllowed e ≡ true
+within-test Unused h = refl
+within-test (Used k) h =
+    and-both (lengthAllowed (k .bytes)) (leb (k .nanoseconds) 999999999) (length-test (k .bytes) (h .0) (h .1)) (le-leb (k .nanoseconds) 999999999 (h .2))
+
+apart-facts : (a b : Entry) → differentTimes a b ≡ true → Apart a b
+unfolding sameTime
+apart-facts Unused b h = tt
+apart-facts (Used k) Unused h = tt
+apart-facts (Used k) (Used l) h = λ p q.
+    true≢false
+    (sym (and-both (eqb (k .seconds) (l .seconds)) (eqb (k .nanoseconds) (l .nanoseconds)) (eq-eqb (k .seconds) (l .seconds) p) (eq-eqb (k .nanoseconds) (l .nanoseconds) q))
+    ∙ not-true (eqb (k .seconds) (l .seconds) && eqb (k .nanoseconds) (l .nanoseconds)) h)
+
+apart-test : (a b : Entry) → Apart a b → differentTimes a b ≡ true
+unfolding sameTime
+apart-test Unused b h = refl
+apart-test (Used k) Unused h = refl
+apart-test (Used k) (Used l) h = go (eqb (k .seconds) (l .seconds)) refl (eqb (k .nanoseconds) (l .nanoseconds)) refl
+  where
+    go : (x : Bool) → eqb (k .seconds) (l .seconds) ≡ x → (y : Bool) → eqb (k .nanoseconds) (l .nanoseconds) ≡ y
+        → not (eqb (k .seconds) (l .seconds) && eqb (k .nanoseconds) (l .nanoseconds)) ≡ true
+    go true p true q = absurd (h (eqb-true (k .seconds) (l .seconds) p) (eqb-true (k .nanoseconds) (l .nanoseconds) q))
+    go true p false q = ap₂ (λ (s t : Bool). not (s && t)) p q
+    go false p y q = ap (λ (s : Bool). not (s && eqb (k .nanoseconds) (l .nanoseconds))) p
+
+zero-facts : (b : List ℕ) (at n : ℕ) → at + n ≤ length b → allZero (window b at n) ≡ true → window b at n ≡ zeros n
+unfolding allZero
+zero-facts b at n l h = all-zeros (window b at n) h ∙ ap zeros (length-window-fits b at n l)
+
+pub zero-test : (s : List ℕ) (n : ℕ) → s ≡ zeros n → allZero s ≡ true
+unfolding allZero
+zero-test s n e = ap (all (λ (x : ℕ). eqb x 0)) e ∙ zeros-all n
+
+-- a block that no test refuses obeys the table and the limits
+pub obeys : (b : List ℕ) → first (readTests b) ≡ 0 → Accepted b
+obeys b e =
+    let t : AllHold (readTests b) = first-zero 0 (readTests b) (ascending b) e in
+    let n : length b ≡ 512 = eqb-true (length b) 512 (t .0) in
+    let z : zeroFields b ≡ true = t .1 .1 .1 .1 .0 in
+    let z2 : allZero (window b 116 12) && (allZero (window b 148 12) && allZero (window b 168 344)) ≡ true =
+    and-right (allZero (window b 28 4)) (allZero (window b 116 12) && (allZero (window b 148 12) && allZero (window b 168 344))) z in
+    let z3 : allZero (window b 148 12) && allZero (window b 168 344) ≡ true =
+    and-right (allZero (window b 116 12)) (allZero (window b 148 12) && allZero (window b 168 344)) z2 in
+    let h : all isHex (poolOf b) && all isHex (uuidOf b) ≡ true = t .1 .1 .1 .1 .1 .0 in
+    let m : (number b 160 4 % 2 ≡ 0) × (2040 ≤ number b 160 4) × (number b 160 4 ≤ 16384) = metadata-facts (number b 160 4) (t .1 .1 .1 .1 .1 .1 .0) in
+    let w : entriesAllowed (entryAt b 96) (entryAt b 128) ≡ true = t .1 .1 .1 .1 .1 .1 .1 .1 .0 in
+    let w2 : entryAllowed (entryAt b 128) && differentTimes (entryAt b 96) (entryAt b 128) ≡ true =
+    and-right (entryAllowed (entryAt b 96)) (entryAllowed (entryAt b 128) && differentTimes (entryAt b 96) (entryAt b 128)) w in
+    record {
+      size = n;
+      checksum = eqb-true (number b 0 4) (Crc.checksum (window b 4 508)) (t .1 .1 .0);
+      signature = same-equal (window b 4 16) signatureBytes (t .1 .0);
+      sectors = leb-true 2097152 (number b 20 8) (t .1 .1 .1 .0);
+      flags =
+          zero-facts b 28 4 (omega arith)
+          (and-left (allZero (window b 28 4)) (allZero (window b 116 12) && (allZero (window b 148 12) && allZero (window b 168 344))) z);
+      pool = λ i k. hex-facts (getD (poolOf b) i 0) (all-at isHex (poolOf b) (and-left (all isHex (poolOf b)) (all isHex (uuidOf b)) h) i k);
+      device = λ i k. hex-facts (getD (uuidOf b) i 0) (all-at isHex (uuidOf b) (and-right (all isHex (poolOf b)) (all isHex (uuidOf b)) h) i k);
+      entry-a =
+          within-facts (entryAt b 96)
+          (and-left (entryAllowed (entryAt b 96)) (entryAllowed (entryAt b 128) && differentTimes (entryAt b 96) (entryAt b 128)) w);
+      zero-116 = zero-facts b 116 12 (omega arith) (and-left (allZero (window b 116 12)) (allZero (window b 148 12) && allZero (window b 168 344)) z2);
+      entry-b = within-facts (entryAt b 128) (and-left (entryAllowed (entryAt b 128)) (differentTimes (entryAt b 96) (entryAt b 128)) w2);
+      times =
+          apart-facts (entryAt b 96) (entryAt b 128) (and-right (entryAllowed (entryAt b 128)) (differentTimes (entryAt b 96) (entryAt b 128)) w2);
+      zero-148 = zero-facts b 148 12 (omega arith) (and-left (allZero (window b 148 12)) (allZero (window b 168 344)) z3);
+      metadata-even = m .0;
+      metadata-least = m .1;
+      metadata-most = m .2;
+      reserved = leb-true (number b 164 4) 65536 (t .1 .1 .1 .1 .1 .1 .1 .0);
+      zero-168 = zero-facts b 168 344 (omega arith) (and-right (allZero (window b 148 12)) (allZero (window b 168 344)) z3);
+    }
+
+-- and a block that obeys them is refused by none
+pub no-refusal : (b : List ℕ) → Accepted b → first (readTests b) ≡ 0
+no-refusal b h =
+    first-all (readTests b) (
+      eq-eqb (length b) 512 (h .size),
+      (
+        equal-same (window b 4 16) signatureBytes (h .signature),
+        (
+          eq-eqb (number b 0 4) (Crc.checksum (window b 4 508)) (h .checksum),
+          (
+            le-leb 2097152 (number b 20 8) (h .sectors),
+            (
+              and-both (allZero (window b 28 4)) (allZero (window b 116 12) && (allZero (window b 148 12) && allZero (window b 168 344)))
+                  (zero-test (window b 28 4) 4 (h .flags))
+                  (and-both (allZero (window b 116 12)) (allZero (window b 148 12) && allZero (window b 168 344)) (zero-test (window b 116 12) 12 (h .zero-116))
+                  (and-both (allZero (window b 148 12)) (allZero (window b 168 344)) (zero-test (window b 148 12) 12 (h .zero-148)) (zero-test (window b 168 344) 344 (h .zero-168)))),
+              (
+                and-both (all isHex (poolOf b)) (all isHex (uuidOf b))
+                    (all-of isHex (poolOf b) (λ i k. hex-test (getD (poolOf b) i 0) (h .pool i k)))
+                    (all-of isHex (uuidOf b) (λ i k. hex-test (getD (uuidOf b) i 0) (h .device i k))),
+                (
+                  metadata-test (number b 160 4) (h .metadata-even) (h .metadata-least) (h .metadata-most),
+                  (
+                    le-leb (number b 164 4) 65536 (h .reserved),
+                    (
+                      and-both (entryAllowed (entryAt b 96)) (entryAllowed (entryAt b 128) && differentTimes (entryAt b 96) (entryAt b 128))
+                          (within-test (entryAt b 96) (h .entry-a))
+                          (and-both (entryAllowed (entryAt b 128)) (differentTimes (entryAt b 96) (entryAt b 128)) (within-test (entryAt b 128) (h .entry-b))
+                          (apart-test (entryAt b 96) (entryAt b 128) (h .times))),
+                      tt,
+                    ),
+                  ),
+                ),
+              ),
+            ),
+          ),
+        ),
+      ),
+    )

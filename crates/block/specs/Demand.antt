@@ -1,0 +1,46 @@
+-- Demand 2, first half, as statements about what `read` and `write` answer. `proofs/Demand.antt` proves them.
+-- Assumes nothing.
+use Prim.Native.Nat.{ℕ, _^_, _≤_, _<_}
+use mathlib.Core.Path.{_≡_}
+use mathlib.Core.List.{List}
+use lib.ListN.{length}
+use Rattle.endian.specs.Bytes.{Bytes}
+use Rattle.refusal.specs.Tests.{first, Fails}
+use Rattle.block.specs.declared.Entry.{Entry}
+use Rattle.block.specs.declared.Entry.the-variants.{Unused, Used}
+use Rattle.block.specs.declared.BlockFields.{BlockFields}
+use Rattle.block.specs.declared.Verdict.the-variants as Verdict
+use Rattle.block.specs.Block.{poolOf, uuidOf, fieldsOf, readTests, reading, acceptedReading, refusedReading}
+use Rattle.block.specs.Accepted.{Accepted}
+use Rattle.block.specs.Writing.{writeTests, written}
+
+-- A signature block is accepted exactly when it obeys the published layout and document 01's limits.
+abbrev pub Exactly : Type 0
+Exactly =
+    (b : List ℕ)
+    → (Accepted b → reading b ≡ acceptedReading b)
+    × ((f : BlockFields) → reading b .verdict ≡ Verdict.Accepted f → Accepted b)
+
+-- A refusal is the lowest number whose condition holds, with zero in every other field.
+abbrev pub Lowest : Type 0
+Lowest =
+    (b : List ℕ) (n : ℕ) → reading b .verdict ≡ Verdict.Refused n
+    → (reading b ≡ refusedReading n) × (Fails (readTests b) n × ((k : ℕ) → Fails (readTests b) k → n ≤ k))
+
+-- Writing what was read gives the same 512 bytes.
+abbrev pub WriteAfterRead : Type 0
+WriteAfterRead =
+    (b out : List ℕ) → Bytes b → Accepted b → length out ≡ 512
+    → (first (writeTests out (poolOf b) (uuidOf b) (fieldsOf b)) ≡ 0) × (written out (poolOf b) (uuidOf b) (fieldsOf b) ≡ b)
+
+-- numbers as the machine's types have them, where no limit of document 01 is narrower
+abbrev pub EntryFits : Entry → Type 0
+EntryFits Unused = Unit {0}
+EntryFits (Used h) = (h .seconds < 2 ^ 64) × (h .checksum < 2 ^ 32)
+
+-- Reading what was written gives the same fields.
+abbrev pub ReadAfterWrite : Type 0
+ReadAfterWrite =
+    (out p u : List ℕ) (f : BlockFields) → f .device .sectors < 2 ^ 64 → EntryFits (f .a) → EntryFits (f .b)
+    → first (writeTests out p u f) ≡ 0
+    → reading (written out p u f) ≡ record { verdict = Verdict.Accepted f; pool = p; device = u }
