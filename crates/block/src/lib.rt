@@ -300,7 +300,7 @@ pub fn read(s: &[u8]) -> Reading
 }
 
 // The four numbers of an entry; of an unused one all zero.
-fn holding_of(e: Entry) -> Holding
+pub fn holding_of(e: Entry) -> Holding
     ensures { λ r. ⌜ r ≡ holdingOf e ⌝ }
 {
     match e {

@@ -1,5 +1,5 @@
 -- Document 01's limits of the device numbers, and the size of records and copies. Assumes nothing.
-use Prim.Native.Nat.{ℕ, _+_, _*_, _/_, _%_}
+use Prim.Native.Nat.{ℕ, _%_}
 use mathlib.Core.Bool.{Bool, _&&_}
 use mathlib.Core.List.{List, [], _∷_}
 use lib.Dec.{leb, eqb}
@@ -38,7 +38,3 @@ recordLimit = 8192
 -- a record's bytes: 1 up to the most
 unfoldable pub lengthAllowed : ℕ → Bool
 lengthAllowed n = leb 1 n && leb n recordLimit
-
--- bytes of a copy as it is lent: the header's 8 sectors, then as much of each area as a record can fill
-unfoldable pub copyBytes : ℕ
-copyBytes = 8 * sectorBytes + 2 * recordLimit

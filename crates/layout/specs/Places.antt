@@ -1,6 +1,6 @@
 -- Where things lie: document 01, 'Where things lie', in its order. Differences of numbers stop at 0; with device numbers
 -- that are allowed none does. Assumes nothing.
-use Prim.Native.Nat.{ℕ, _+_, _-_, _/_}
+use Prim.Native.Nat.{ℕ, _+_, _-_, _*_, _/_}
 use mathlib.Core.Bool.{cond}
 use lib.Dec.{eqb}
 use Rattle.refusal.specs.Tests.{first}
@@ -13,7 +13,7 @@ use Rattle.layout.specs.declared.Copy.{Copy}
 use Rattle.layout.specs.declared.Places.{Places}
 use Rattle.layout.specs.declared.Placement.{Placement}
 use Rattle.layout.specs.declared.Placement.the-variants.{At, Refused}
-use Rattle.layout.specs.Limits.{deviceTests}
+use Rattle.layout.specs.Limits.{deviceTests, sectorBytes, recordLimit}
 
 -- front: header in sectors 0 to 7; back: header in the last 8 sectors
 abbrev pub headerSector : Side → Device → ℕ
@@ -43,6 +43,16 @@ dataStart d = 8 + d .metadata + d .reserved
 
 abbrev pub dataEnd : Device → ℕ
 dataEnd d = d .sectors - 8 - d .metadata - d .reserved
+
+-- A copy is lent as the header's 8 sectors, then as much of area a as a record can fill, then as much of area b: where
+-- an area begins there, in bytes.
+unfoldable pub areaOffset : Area → ℕ
+areaOffset A = 8 * sectorBytes
+areaOffset B = 8 * sectorBytes + recordLimit
+
+-- the bytes of a copy as it is lent
+unfoldable pub copyBytes : ℕ
+copyBytes = 8 * sectorBytes + recordLimit + recordLimit
 
 -- a copy's places
 abbrev pub copyOf : Side → Device → Copy

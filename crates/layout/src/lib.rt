@@ -4,7 +4,7 @@ ghost use mathlib.Core.Path.{_≡_};
 ghost use Prim.Native.Nat.{_-_};
 ghost use Rattle.refusal.specs.Tests.{first};
 ghost use Rattle.layout.specs.Limits.{sizeAllowed, metadataAllowed, reservedAllowed, lengthAllowed, deviceTests};
-ghost use Rattle.layout.specs.Places.{blockSector, areaSector, dataStart, dataEnd, placement};
+ghost use Rattle.layout.specs.Places.{blockSector, areaSector, dataStart, dataEnd, areaOffset, copyBytes, placement};
 
 pub const SECTOR_BYTES: usize = 512;
 
@@ -132,6 +132,23 @@ pub fn area_sector(side: Side, area: Area, d: Device) -> u64
             Area::B => less(less(d.sectors, 8), l / 2),
         },
     }
+}
+
+// Where an area begins in a copy as it is lent, in bytes.
+pub fn area_offset(x: Area) -> usize
+    ensures { λ r. ⌜ r ≡ areaOffset x ⌝ }
+{
+    match x {
+        Area::A => 4096,
+        Area::B => 4096 + RECORD_LIMIT as usize,
+    }
+}
+
+// The bytes of a copy as it is lent.
+pub fn copy_bytes() -> usize
+    ensures { λ r. ⌜ r ≡ copyBytes ⌝ }
+{
+    4096 + 2 * RECORD_LIMIT as usize
 }
 
 // The first data sector; of any numbers.

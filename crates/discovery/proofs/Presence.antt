@@ -1,0 +1,42 @@
+-- A copy's present record, by which areas are whole. Assumes nothing.
+use Prim.Native.Nat.{ℕ}
+use mathlib.Core.Path.{_≡_, refl, sym, ap, ap₂, _∙_}
+use mathlib.Core.Bool.{Bool, true, false, cond}
+use mathlib.Core.List.{List}
+use Rattle.layout.specs.declared.Area.{Area}
+use Rattle.block.specs.declared.Holding.{Holding}
+use Rattle.block.specs.declared.BlockFields.{BlockFields}
+use Rattle.block.specs.Writing.{holdingOf}
+use Rattle.discovery.specs.declared.Present.{Present}
+use Rattle.discovery.specs.declared.Present.the-variants.{Nothing, At}
+use Rattle.discovery.specs.Copy.{entryIn, otherArea, whole, newest, presentFrom, present}
+
+module _ (c : List ℕ) (f : BlockFields) where
+  -- the newest entry's area is whole
+  from-newest : (x : Area) → whole c f x ≡ true → presentFrom c f x ≡ At x (holdingOf (entryIn f x))
+  from-newest x w =
+      ap (λ (b : Bool). cond b (At x (holdingOf (entryIn f x))) (cond (whole c f (otherArea x)) (At (otherArea x) (holdingOf (entryIn f (otherArea x)))) Nothing)) w
+
+  -- it is not, and the other area may be
+  from-other : (x : Area) → whole c f x ≡ false
+      → presentFrom c f x ≡ cond (whole c f (otherArea x)) (At (otherArea x) (holdingOf (entryIn f (otherArea x)))) Nothing
+  from-other x w =
+      ap (λ (b : Bool). cond b (At x (holdingOf (entryIn f x))) (cond (whole c f (otherArea x)) (At (otherArea x) (holdingOf (entryIn f (otherArea x)))) Nothing)) w
+
+  pub present-newest : (x : Area) (h : Holding) → x ≡ newest f → whole c f x ≡ true → h ≡ holdingOf (entryIn f x) → At x h ≡ present c f
+  unfolding present
+  present-newest x h e w k = ap (At x) k ∙ (sym (from-newest x w) ∙ ap (presentFrom c f) e)
+
+  pub present-other : (x y : Area) (h : Holding) → x ≡ newest f → whole c f x ≡ false → y ≡ otherArea x → whole c f y ≡ true → h ≡ holdingOf (entryIn f y)
+      → At y h ≡ present c f
+  unfolding present
+  present-other x y h e w d v k =
+      ap (At y) k
+      ∙ (sym (ap (λ (b : Bool). cond b (At y (holdingOf (entryIn f y))) Nothing) v)
+      ∙ (ap (λ (z : Area). cond (whole c f z) (At z (holdingOf (entryIn f z))) Nothing) d ∙ (sym (from-other x w) ∙ ap (presentFrom c f) e)))
+
+  pub present-none : (x y : Area) → x ≡ newest f → whole c f x ≡ false → y ≡ otherArea x → whole c f y ≡ false → Nothing ≡ present c f
+  unfolding present
+  present-none x y e w d v =
+      sym (ap (λ (b : Bool). cond b (At y (holdingOf (entryIn f y))) Nothing) v)
+      ∙ (ap (λ (z : Area). cond (whole c f z) (At z (holdingOf (entryIn f z))) Nothing) d ∙ (sym (from-other x w) ∙ ap (presentFrom c f) e))

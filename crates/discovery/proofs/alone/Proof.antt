@@ -1,0 +1,22 @@
+-- `discovery::alone` meets its contract. Assumes nothing.
+use borrow.Author.Needs.{needs}
+use Rattle.discovery.proofs.alone.Statement.{statement}
+use Rattle.discovery.proofs.alone.Tie as tie
+
+enum-known-p : tie.Need-enum-known-p
+enum-known-p c = search needs
+
+enum-told : tie.Need-enum-told
+enum-told c = search needs
+
+returns : tie.Need-returns
+returns c = rw (c .enum-told .given .1)
+
+record-at-requires : tie.Need-record-at-requires
+record-at-requires c κs = search needs
+
+returns-2 : tie.Need-returns-2
+returns-2 c = rw (c .before .before .p .given .1, c .record-at .ensures)
+
+pub alone-spec : {M : Type 1} → statement M
+alone-spec = tie.close (tie.spec enum-known-p enum-told returns record-at-requires returns-2)

@@ -1,0 +1,80 @@
+-- Discovery over two copies, in step, and reading the found record: document 01, 'Discovery'. Assumes nothing.
+use Prim.Native.Nat.{ℕ}
+use mathlib.Core.Bool.{Bool, true, false, cond, _&&_}
+use mathlib.Core.List.{List}
+use lib.Dec.{eqb, leb}
+use lib.ListN.{length}
+use Rattle.endian.specs.Bytes.{same, splice}
+use Rattle.refusal.specs.Numbers.{sliceSize, noBlock, identity, noRecord, twoRecords}
+use Rattle.layout.specs.Places.{copyBytes}
+use Rattle.layout.specs.declared.Side.{Side}
+use Rattle.layout.specs.declared.Side.the-variants.{Front, Back}
+use Rattle.layout.specs.declared.Area.{Area}
+use Rattle.block.specs.declared.Holding.{Holding}
+use Rattle.block.specs.declared.BlockFields.{BlockFields}
+use Rattle.block.specs.declared.Reading.{Reading}
+use Rattle.block.specs.declared.Verdict.{Verdict}
+use Rattle.block.specs.declared.Verdict.the-variants as Verdict
+use Rattle.block.specs.Entry.{laterThan, sameTime, timeOf}
+use Rattle.block.specs.Writing.{holdingOf}
+use Rattle.discovery.specs.declared.Present.{Present}
+use Rattle.discovery.specs.declared.Present.the-variants.{Nothing, At}
+use Rattle.discovery.specs.declared.Record.{Record}
+use Rattle.discovery.specs.declared.Other.{Other}
+use Rattle.discovery.specs.declared.Other.the-variants.{Both, One}
+use Rattle.discovery.specs.declared.Answer.{Answer}
+use Rattle.discovery.specs.declared.Answer.the-variants.{Found, Refused}
+use Rattle.discovery.specs.Copy.{areaBytes, entryIn, whole, newest, present, readingIn}
+
+-- which copy and area, the length and time
+abbrev pub recordAt : Side → Area → Holding → Record
+recordAt s x h = record { side = s; area = x; bytes = h .bytes; seconds = h .seconds; nanoseconds = h .nanoseconds }
+
+-- one copy read alone, with the other's refusal number
+abbrev pub aloneOf : Side → Present → ℕ → Answer
+aloneOf s Nothing n = Refused noRecord
+aloneOf s (At x h) n = Found (recordAt s x h) (One n)
+
+-- both present records: the newest; on the same time and bytes, the front
+abbrev pub newestOf : List ℕ → List ℕ → Area → Holding → Area → Holding → Answer
+newestOf f b x h y k =
+    cond (sameTime (timeOf h) (timeOf k))
+    (cond (same (areaBytes f x (h .bytes)) (areaBytes b y (k .bytes))) (Found (recordAt Front x h) Both) (Refused twoRecords))
+    (cond (laterThan (timeOf k) (timeOf h)) (Found (recordAt Back y k) Both) (Found (recordAt Front x h) Both))
+
+abbrev pub togetherOf : List ℕ → List ℕ → Present → Present → Answer
+togetherOf f b Nothing Nothing = Refused noRecord
+togetherOf f b Nothing (At y k) = Found (recordAt Back y k) Both
+togetherOf f b (At x h) Nothing = Found (recordAt Front x h) Both
+togetherOf f b (At x h) (At y k) = newestOf f b x h y k
+
+-- S, L, R and both UUIDs are the same
+abbrev pub sameDevice : BlockFields → BlockFields → Bool
+sameDevice f g =
+    eqb (f .device .sectors) (g .device .sectors)
+    && (eqb (f .device .metadata) (g .device .metadata) && eqb (f .device .reserved) (g .device .reserved))
+
+abbrev pub sameUuids : Reading → Reading → Bool
+sameUuids r q = same (r .pool) (q .pool) && same (r .device) (q .device)
+
+-- the refusal number of a verdict
+abbrev pub numberOf : Verdict → ℕ
+numberOf (Verdict.Accepted x) = 0
+numberOf (Verdict.Refused n) = n
+
+-- a refused block in one copy is set aside at once and the other copy is read alone
+abbrev pub decide : Verdict → Verdict → Bool → List ℕ → List ℕ → Answer
+decide (Verdict.Refused m) (Verdict.Refused n) u f b = Refused noBlock
+decide (Verdict.Refused m) (Verdict.Accepted y) u f b = aloneOf Back (present b y) m
+decide (Verdict.Accepted x) (Verdict.Refused n) u f b = aloneOf Front (present f x) n
+decide (Verdict.Accepted x) (Verdict.Accepted y) u f b =
+    cond (sameDevice x y && u) (togetherOf f b (present f x) (present b y)) (Refused identity)
+
+-- both lent slices are copies by their size
+abbrev pub sized : List ℕ → List ℕ → Bool
+sized f b = eqb (length f) copyBytes && eqb (length b) copyBytes
+
+-- what `discover` answers for a front and a back copy
+unfoldable pub discovery : List ℕ → List ℕ → Answer
+discovery f b =
+    cond (sized f b) (decide (readingIn f .verdict) (readingIn b .verdict) (sameUuids (readingIn f) (readingIn b)) f b) (Refused sliceSize)

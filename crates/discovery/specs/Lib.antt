@@ -1,0 +1,3 @@
+-- What the contracts of `discovery` cite.
+pub mod Copy
+pub mod Discovery

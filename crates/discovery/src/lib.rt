@@ -1,0 +1,270 @@
+// Discovery: the newest whole record of two copies, or the number by which there is none; reading it; whether the copies
+// are in step. A copy is lent as the header's 8 sectors and as much of each area as a record can fill. Assumes nothing.
+ghost use mathlib.Core.Path.{_≡_};
+ghost use mathlib.Core.Bool.{true};
+ghost use mathlib.Core.List.{[]};
+ghost use Rattle.discovery.specs.Copy.{entryIn, otherArea, wholeEntry, whole, newer, newest, presentFrom, present, readingIn};
+ghost use Rattle.discovery.specs.Discovery.{recordAt, aloneOf, newestOf, togetherOf, sameDevice, sameUuids, numberOf, decide, discovery};
+ghost use Rattle.block.specs.declared.Verdict.the-variants as Verdict;
+use block::BlockFields;
+use block::Entry;
+use block::Holding;
+use block::Reading;
+use block::Time;
+use block::Verdict;
+use layout::Area;
+use layout::Side;
+
+// A copy's present record: the area that holds it and what its entry says.
+pub enum Present {
+    Nothing,
+    At(Area, Holding),
+}
+
+// Where a record was found, its length and its time.
+pub struct Record {
+    pub side: Side,
+    pub area: Area,
+    pub bytes: u32,
+    pub seconds: u64,
+    pub nanoseconds: u32,
+}
+
+// The other copy: accepted too, or refused with a number.
+pub enum Other {
+    Both,
+    One(u8),
+}
+
+// What discovery answers.
+pub enum Answer {
+    Found(Record, Other),
+    Refused(u8),
+}
+
+// Whether an area of a copy is whole: its entry is used, and the area's first used bytes have the entry's checksum.
+fn whole_entry(c: &[u8], x: Area, e: Entry) -> bool
+    ensures { λ r. ⌜ r ≡ wholeEntry (now (c .entry)) x e ⌝ }
+{
+    match e {
+        Entry::Unused => false,
+        Entry::Used(h) => checksum::checksum(endian::window(
+            c,
+            layout::area_offset(x),
+            h.bytes as usize,
+        ))
+            == h.checksum,
+    }
+}
+
+// The entry of an area.
+fn entry_in(f: BlockFields, x: Area) -> Entry
+    ensures { λ r. ⌜ r ≡ entryIn f x ⌝ }
+{
+    match x {
+        Area::A => f.a,
+        Area::B => f.b,
+    }
+}
+
+// The other area.
+fn other_area(x: Area) -> Area
+    ensures { λ r. ⌜ r ≡ otherArea x ⌝ }
+{
+    match x {
+        Area::A => Area::B,
+        Area::B => Area::A,
+    }
+}
+
+// Whether e is used, and d is unused or of an earlier time.
+fn newer(e: Entry, d: Entry) -> bool
+    ensures { λ r. ⌜ r ≡ newer e d ⌝ }
+{
+    let Entry::Used(h) = e else {
+        return false;
+    };
+    let Entry::Used(k) = d else {
+        return true;
+    };
+    block::later(
+        Time {
+            seconds: h.seconds,
+            nanoseconds: h.nanoseconds,
+        },
+        Time {
+            seconds: k.seconds,
+            nanoseconds: k.nanoseconds,
+        },
+    )
+}
+
+// The area of the used entry with the later time.
+pub fn newest(f: BlockFields) -> Area
+    ensures { λ r. ⌜ r ≡ newest f ⌝ }
+{
+    let a = f.a;
+    let b = f.b;
+    if newer(b, a) {
+        return Area::B;
+    }
+    Area::A
+}
+
+// Whether an area is whole.
+pub fn whole(c: &[u8], f: BlockFields, x: Area) -> bool
+    ensures { λ r. ⌜ r ≡ whole (now (c .entry)) f x ⌝ }
+{
+    whole_entry(c, x, entry_in(f, x))
+}
+
+// The present record of a copy, whose block has these fields: its whole area with the later time.
+pub fn present_in(c: &[u8], f: BlockFields) -> Present
+    ensures { λ r. ⌜ r ≡ present (now (c .entry)) f ⌝ }
+{
+    let x = newest(f);
+    if whole(c, f, x) {
+        return Present::At(x, block::holding_of(entry_in(f, x)));
+    }
+    let y = other_area(x);
+    if whole(c, f, y) {
+        return Present::At(y, block::holding_of(entry_in(f, y)));
+    }
+    Present::Nothing
+}
+
+fn record_at(side: Side, area: Area, h: Holding) -> Record
+    ensures { λ r. ⌜ r ≡ recordAt side area h ⌝ }
+{
+    Record {
+        side,
+        area,
+        bytes: h.bytes,
+        seconds: h.seconds,
+        nanoseconds: h.nanoseconds,
+    }
+}
+
+// One copy read alone, with the other's refusal number.
+fn alone(side: Side, p: Present, n: u8) -> Answer
+    ensures { λ r. ⌜ r ≡ aloneOf side p n ⌝ }
+{
+    let Present::At(x, h) = p else {
+        return Answer::Refused(refusal::NO_RECORD);
+    };
+    Answer::Found(record_at(side, x, h), Other::One(n))
+}
+
+// The newest of both copies' present records; on the same time and bytes, the front.
+fn newest_of(f: &[u8], b: &[u8], x: Area, h: Holding, y: Area, k: Holding) -> Answer
+    ensures { λ r. ⌜ r ≡ newestOf (now (f .entry)) (now (b .entry)) x h y k ⌝ }
+{
+    let t = Time {
+        seconds: h.seconds,
+        nanoseconds: h.nanoseconds,
+    };
+    let u = Time {
+        seconds: k.seconds,
+        nanoseconds: k.nanoseconds,
+    };
+    if block::same_time(t, u) {
+        let p = endian::window(f, layout::area_offset(x), h.bytes as usize);
+        let q = endian::window(b, layout::area_offset(y), k.bytes as usize);
+        if endian::same(p, q) {
+            return Answer::Found(record_at(Side::Front, x, h), Other::Both);
+        }
+        return Answer::Refused(refusal::TWO_RECORDS);
+    }
+    if block::later(u, t) {
+        return Answer::Found(record_at(Side::Back, y, k), Other::Both);
+    }
+    Answer::Found(record_at(Side::Front, x, h), Other::Both)
+}
+
+// What two copies with these present records give.
+fn together(f: &[u8], b: &[u8], p: Present, q: Present) -> Answer
+    ensures { λ r. ⌜ r ≡ togetherOf (now (f .entry)) (now (b .entry)) p q ⌝ }
+{
+    match p {
+        Present::Nothing => match q {
+            Present::Nothing => Answer::Refused(refusal::NO_RECORD),
+            Present::At(y, k) => Answer::Found(record_at(Side::Back, y, k), Other::Both),
+        },
+        Present::At(x, h) => match q {
+            Present::Nothing => Answer::Found(record_at(Side::Front, x, h), Other::Both),
+            Present::At(y, k) => newest_of(f, b, x, h, y, k),
+        },
+    }
+}
+
+// Whether S, L and R are the same.
+fn same_device(f: BlockFields, g: BlockFields) -> bool
+    ensures { λ r. ⌜ r ≡ sameDevice f g ⌝ }
+{
+    let d = f.device;
+    let e = g.device;
+    (d.sectors == e.sectors) & ((d.metadata == e.metadata) & (d.reserved == e.reserved))
+}
+
+// Whether both UUIDs are the same.
+fn same_uuids(r: Reading, q: Reading) -> bool
+    ensures { λ a. ⌜ a ≡ sameUuids r q ⌝ }
+{
+    let p = r.pool;
+    let s = q.pool;
+    let d = r.device;
+    let e = q.device;
+    endian::same(&p, &s) & endian::same(&d, &e)
+}
+
+// The refusal number of a verdict; 0 of an accepted block.
+fn number_of(v: Verdict) -> u8
+    ensures { λ r. ⌜ r ≡ numberOf v ⌝ }
+{
+    match v {
+        Verdict::Accepted(_) => 0,
+        Verdict::Refused(n) => n,
+    }
+}
+
+// The back copy by itself, where the front's block is refused with number m.
+fn back_only(b: &[u8], v: Verdict, m: u8) -> Answer
+    ensures { λ r. ⌜ r ≡ decide (Verdict.Refused m) v true [] (now (b .entry)) ⌝ }
+{
+    let Verdict::Accepted(y) = v else {
+        return Answer::Refused(refusal::NO_BLOCK);
+    };
+    alone(Side::Back, present_in(b, y), m)
+}
+
+// What two copies with these readings give.
+fn decide(f: &[u8], b: &[u8], r: Reading, q: Reading) -> Answer
+    ensures { λ a. ⌜ a ≡ decide (r .verdict) (q .verdict) (sameUuids r q) (now (f .entry)) (now (b .entry)) ⌝ }
+{
+    let v = r.verdict;
+    let w = q.verdict;
+    let Verdict::Accepted(x) = v else {
+        return back_only(b, w, number_of(v));
+    };
+    let Verdict::Accepted(y) = w else {
+        return alone(Side::Front, present_in(f, x), number_of(w));
+    };
+    let one = same_device(x, y) & same_uuids(r, q);
+    if !one {
+        return Answer::Refused(refusal::IDENTITY);
+    }
+    together(f, b, present_in(f, x), present_in(b, y))
+}
+
+// Finds the newest whole record of a front and a back copy.
+pub fn discover(f: &[u8], b: &[u8]) -> Answer
+    ensures { λ r. ⌜ r ≡ discovery (now (f .entry)) (now (b .entry)) ⌝ }
+{
+    let sized = (f.len() == layout::copy_bytes()) & (b.len() == layout::copy_bytes());
+    if !sized {
+        return Answer::Refused(refusal::SLICE_SIZE);
+    }
+    let r = block::read(endian::window(f, 512, 512));
+    let q = block::read(endian::window(b, 512, 512));
+    decide(f, b, r, q)
+}

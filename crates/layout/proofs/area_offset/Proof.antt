@@ -1,0 +1,26 @@
+-- `layout::area_offset` meets its contract. Assumes nothing.
+use Rattle.layout.specs.Limits.{recordLimit}
+use Rattle.layout.specs.Places.{areaOffset}
+use borrow.Author.Needs.{needs}
+use Rattle.layout.proofs.area_offset.Statement.{statement}
+use Rattle.layout.proofs.area_offset.Tie as tie
+
+enum-told : tie.Need-enum-told
+enum-told c = search needs
+
+enum-told-2 : tie.Need-enum-told-2
+enum-told-2 c = search needs
+
+add-result : tie.Need-add-result
+add-result c = search needs
+
+returns : tie.Need-returns
+unfolding areaOffset recordLimit
+returns c = rw (c .enum-told .given .1)
+
+returns-2 : tie.Need-returns-2
+unfolding areaOffset recordLimit
+returns-2 c = rw (c .enum-told2 .given .1)
+
+pub area-offset-spec : {M : Type 1} → statement M
+area-offset-spec = tie.close (tie.spec enum-told enum-told-2 add-result returns returns-2)

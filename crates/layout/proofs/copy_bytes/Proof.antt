@@ -1,0 +1,20 @@
+-- `layout::copy_bytes` meets its contract. Assumes nothing.
+use mathlib.Core.Path.{refl}
+use Rattle.layout.specs.Limits.{recordLimit}
+use Rattle.layout.specs.Places.{copyBytes}
+use borrow.Author.Needs.{needs}
+use Rattle.layout.proofs.copy_bytes.Statement.{statement}
+use Rattle.layout.proofs.copy_bytes.Tie as tie
+
+mul-result : tie.Need-mul-result
+mul-result c = search needs
+
+add-result : tie.Need-add-result
+add-result c = search needs
+
+returns : tie.Need-returns
+unfolding copyBytes recordLimit
+returns c = refl
+
+pub copy-bytes-spec : {M : Type 1} → statement M
+copy-bytes-spec = tie.close (tie.spec mul-result add-result returns)
