@@ -1,3 +1,5 @@
 -- The laws that callers cite.
 pub mod Presence
 pub mod Deciding
+mod Stepping
+pub mod Found

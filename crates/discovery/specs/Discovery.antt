@@ -78,3 +78,43 @@ sized f b = eqb (length f) copyBytes && eqb (length b) copyBytes
 unfoldable pub discovery : List ℕ → List ℕ → Answer
 discovery f b =
     cond (sized f b) (decide (readingIn f .verdict) (readingIn b .verdict) (sameUuids (readingIn f) (readingIn b)) f b) (Refused sliceSize)
+
+-- both records have the same time and bytes
+abbrev pub agree : List ℕ → List ℕ → Area → Holding → Area → Holding → Bool
+agree f b x h y k = sameTime (timeOf h) (timeOf k) && same (areaBytes f x (h .bytes)) (areaBytes b y (k .bytes))
+
+-- in each copy the used entry with the later time is whole, and both present records have the same time and bytes
+abbrev pub stepped : List ℕ → BlockFields → List ℕ → BlockFields → Bool
+stepped f x b y =
+    whole f x (newest x)
+    && (whole b y (newest y)
+    && agree f b (newest x) (holdingOf (entryIn x (newest x))) (newest y) (holdingOf (entryIn y (newest y))))
+
+-- both blocks accepted, identity equal, and that
+abbrev pub inStepOf : Verdict → Verdict → Bool → List ℕ → List ℕ → Bool
+inStepOf (Verdict.Refused m) w u f b = false
+inStepOf (Verdict.Accepted x) (Verdict.Refused n) u f b = false
+inStepOf (Verdict.Accepted x) (Verdict.Accepted y) u f b = (sameDevice x y && u) && stepped f x b y
+
+-- document 01's 'in step'
+unfoldable pub inStep : List ℕ → List ℕ → Bool
+inStep f b = sized f b && inStepOf (readingIn f .verdict) (readingIn b .verdict) (sameUuids (readingIn f) (readingIn b)) f b
+
+-- the copy on a side
+abbrev pub copyOn : Side → List ℕ → List ℕ → List ℕ
+copyOn Front f b = f
+copyOn Back f b = b
+
+-- the bytes of a found record
+abbrev pub recordBytes : Record → List ℕ → List ℕ → List ℕ
+recordBytes r f b = areaBytes (copyOn (r .side) f b) (r .area) (r .bytes)
+
+-- what `read_found` answers: discovery's answer, or 1 where the record has no room, tested last
+abbrev pub readAnswer : Answer → ℕ → Answer
+readAnswer (Refused n) room = Refused n
+readAnswer (Found r o) room = cond (leb (r .bytes) room) (Found r o) (Refused sliceSize)
+
+-- what it leaves in the lent buffer: the record at its start, or what was there
+abbrev pub readBytes : Answer → List ℕ → List ℕ → List ℕ → List ℕ
+readBytes (Refused n) f b out = out
+readBytes (Found r o) f b out = splice out 0 (recordBytes r f b)

@@ -3,8 +3,10 @@
 ghost use mathlib.Core.Path.{_≡_};
 ghost use mathlib.Core.Bool.{true};
 ghost use mathlib.Core.List.{[]};
+ghost use lib.ListN.{length};
 ghost use Rattle.discovery.specs.Copy.{entryIn, otherArea, wholeEntry, whole, newer, newest, presentFrom, present, readingIn};
-ghost use Rattle.discovery.specs.Discovery.{recordAt, aloneOf, newestOf, togetherOf, sameDevice, sameUuids, numberOf, decide, discovery};
+ghost use Rattle.discovery.specs.Discovery.{recordAt, aloneOf, newestOf, togetherOf, sameDevice, sameUuids, numberOf, decide, discovery, agree, stepped, inStepOf, inStep, recordBytes, readAnswer, readBytes};
+ghost use Rattle.endian.specs.Bytes.{splice};
 ghost use Rattle.block.specs.declared.Verdict.the-variants as Verdict;
 use block::BlockFields;
 use block::Entry;
@@ -267,4 +269,110 @@ pub fn discover(f: &[u8], b: &[u8]) -> Answer
     let r = block::read(endian::window(f, 512, 512));
     let q = block::read(endian::window(b, 512, 512));
     decide(f, b, r, q)
+}
+
+// Whether two records have the same time and bytes.
+fn agree(f: &[u8], b: &[u8], x: Area, h: Holding, y: Area, k: Holding) -> bool
+    ensures { λ r. ⌜ r ≡ agree (now (f .entry)) (now (b .entry)) x h y k ⌝ }
+{
+    let t = Time {
+        seconds: h.seconds,
+        nanoseconds: h.nanoseconds,
+    };
+    let u = Time {
+        seconds: k.seconds,
+        nanoseconds: k.nanoseconds,
+    };
+    let p = endian::window(f, layout::area_offset(x), h.bytes as usize);
+    let q = endian::window(b, layout::area_offset(y), k.bytes as usize);
+    block::same_time(t, u) & endian::same(p, q)
+}
+
+// Whether in each copy the newest entry is whole, and both records agree.
+fn stepped(f: &[u8], x: BlockFields, b: &[u8], y: BlockFields) -> bool
+    ensures { λ r. ⌜ r ≡ stepped (now (f .entry)) x (now (b .entry)) y ⌝ }
+{
+    let m = newest(x);
+    let n = newest(y);
+    if !whole(f, x, m) {
+        return false;
+    }
+    if !whole(b, y, n) {
+        return false;
+    }
+    agree(
+        f,
+        b,
+        m,
+        block::holding_of(entry_in(x, m)),
+        n,
+        block::holding_of(entry_in(y, n)),
+    )
+}
+
+// Whether two copies with these readings are in step.
+fn in_step_of(f: &[u8], b: &[u8], r: Reading, q: Reading) -> bool
+    ensures { λ a. ⌜ a ≡ inStepOf (r .verdict) (q .verdict) (sameUuids r q) (now (f .entry)) (now (b .entry)) ⌝ }
+{
+    let v = r.verdict;
+    let w = q.verdict;
+    let Verdict::Accepted(x) = v else {
+        return false;
+    };
+    let Verdict::Accepted(y) = w else {
+        return false;
+    };
+    let one = same_device(x, y) & same_uuids(r, q);
+    if !one {
+        return false;
+    }
+    stepped(f, x, b, y)
+}
+
+// Whether a front and a back copy are in step. Slices that are no copies by their size are not.
+pub fn in_step(f: &[u8], b: &[u8]) -> bool
+    ensures { λ r. ⌜ r ≡ inStep (now (f .entry)) (now (b .entry)) ⌝ }
+{
+    let sized = (f.len() == layout::copy_bytes()) & (b.len() == layout::copy_bytes());
+    if !sized {
+        return false;
+    }
+    let r = block::read(endian::window(f, 512, 512));
+    let q = block::read(endian::window(b, 512, 512));
+    in_step_of(f, b, r, q)
+}
+
+// Copies a record from the copy and area that it names to the start of out; where it has no room, nothing.
+fn put_record(r: Record, f: &[u8], b: &[u8], out: &mut [u8])
+    ensures { λ _. ⌜ now (out .exit) ≡ splice (now (out .entry)) 0 (recordBytes r (now (f .entry)) (now (b .entry))) ⌝ }
+{
+    let side = r.side;
+    let area = r.area;
+    let n = r.bytes as usize;
+    let at = layout::area_offset(area);
+    match side {
+        Side::Front => {
+            endian::put(out, 0, endian::window(f, at, n));
+        }
+        Side::Back => {
+            endian::put(out, 0, endian::window(b, at, n));
+        }
+    }
+}
+
+// Finds the newest whole record and copies it to the start of out; bytes past its length stay. Where it has no room the
+// answer is 1, tested after all others, and out stays.
+pub fn read_found(f: &[u8], b: &[u8], out: &mut [u8]) -> Answer
+    ensures { λ r. ⌜ r ≡ readAnswer (discovery (now (f .entry)) (now (b .entry))) (length (now (out .entry))) ⌝ }
+    ensures { λ r. ⌜ now (out .exit) ≡ readBytes r (now (f .entry)) (now (b .entry)) (now (out .entry)) ⌝ }
+{
+    let a = discover(f, b);
+    let Answer::Found(r, o) = a else {
+        return a;
+    };
+    if out.len() < r.bytes as usize {
+        return Answer::Refused(refusal::SLICE_SIZE);
+    }
+    put_record(r, f, b, out);
+    Answer::Found(r, o)
 }
