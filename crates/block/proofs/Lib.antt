@@ -5,3 +5,4 @@ pub mod Exactly
 mod Cuts
 pub mod RoundTrip
 pub mod Demand
+pub mod Times

@@ -3,3 +3,4 @@ pub mod Presence
 pub mod Deciding
 mod Stepping
 pub mod Found
+pub mod Latest

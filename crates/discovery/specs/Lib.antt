@@ -1,3 +1,4 @@
 -- What the contracts of `discovery` cite.
 pub mod Copy
 pub mod Discovery
+pub mod Newest

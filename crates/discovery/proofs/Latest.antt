@@ -1,0 +1,258 @@
+-- The record that discovery names is whole, and none whole is later. Assumes nothing.
+use Prim.Native.Nat.{ℕ}
+use mathlib.Core.Path.{_≡_, refl, sym, ap, ap₂, subst, _∙_}
+use mathlib.Core.Bool.{Bool, true, false, cond, _&&_, true≢false}
+use mathlib.Core.List.{List}
+use native.Mathlib.Omega.{arith}
+use Rattle.refusal.specs.Numbers.{noRecord, twoRecords, identity, sliceSize}
+use Rattle.endian.specs.Bytes.{same}
+use Rattle.layout.specs.declared.Side.{Side}
+use Rattle.layout.specs.declared.Side.the-variants.{Front, Back}
+use Rattle.layout.specs.declared.Area.{Area}
+use Rattle.layout.specs.declared.Area.the-variants.{A, B}
+use Rattle.block.specs.declared.Time.{Time}
+use Rattle.block.specs.declared.Holding.{Holding}
+use Rattle.block.specs.declared.Entry.{Entry}
+use Rattle.block.specs.declared.Entry.the-variants.{Unused, Used}
+use Rattle.block.specs.declared.BlockFields.{BlockFields}
+use Rattle.block.specs.declared.Verdict.{Verdict}
+use Rattle.block.specs.declared.Verdict.the-variants as Verdict
+use Rattle.block.specs.Entry.{laterThan, sameTime, timeOf}
+use Rattle.block.specs.Writing.{holdingOf}
+use Rattle.block.proofs.Times.{never-later, later-asym, not-later-trans, same-not-later}
+use Rattle.discovery.specs.declared.Present.{Present}
+use Rattle.discovery.specs.declared.Present.the-variants.{Nothing, At}
+use Rattle.discovery.specs.declared.Record.{Record}
+use Rattle.discovery.specs.declared.Other.{Other}
+use Rattle.discovery.specs.declared.Other.the-variants.{Both, One}
+use Rattle.discovery.specs.declared.Answer.{Answer}
+use Rattle.discovery.specs.declared.Answer.the-variants.{Found, Refused}
+use Rattle.discovery.specs.Copy.{areaBytes, entryIn, otherArea, wholeEntry, whole, newer, newest, presentFrom, present, readingIn}
+use Rattle.discovery.specs.Discovery.{recordAt, aloneOf, newestOf, togetherOf, sameDevice, sameUuids, decide, sized, discovery, copyOn}
+use Rattle.discovery.specs.Newest.{timeAt, Newest}
+
+-- the latest whole area of a copy
+pub record Latest (c : List ℕ) (f : BlockFields) (x : Area) (h : Holding) : Type 0 where
+  pub its-whole : whole c f x ≡ true
+  pub holds : h ≡ holdingOf (entryIn f x)
+  pub latest : (y : Area) → whole c f y ≡ true → laterThan (timeOf (holdingOf (entryIn f y))) (timeOf h) ≡ false
+
+-- a whole area's entry is no later than the newest entry
+newer-later : (a b : Entry) (c : List ℕ) (x : Area) → wholeEntry c x a ≡ true → newer b a ≡ false → wholeEntry c (otherArea x) b ≡ true
+    → laterThan (timeOf (holdingOf b)) (timeOf (holdingOf a)) ≡ false
+newer-later Unused b c x p q r = absurd (true≢false (sym p))
+newer-later (Used h) Unused c x p q r = absurd (true≢false (sym r))
+newer-later (Used h) (Used k) c x p q r = q
+
+newer-earlier : (a b : Entry) (c : List ℕ) (x : Area) → wholeEntry c x b ≡ true → newer b a ≡ true → wholeEntry c (otherArea x) a ≡ true
+    → laterThan (timeOf (holdingOf a)) (timeOf (holdingOf b)) ≡ false
+newer-earlier a Unused c x p q r = absurd (true≢false (sym p))
+newer-earlier Unused (Used k) c x p q r = absurd (true≢false (sym r))
+newer-earlier (Used h) (Used k) c x p q r = later-asym (timeOf k) (timeOf h) q
+
+module _ (c : List ℕ) (f : BlockFields) where
+  -- the newest entry's area is whole
+  of-newest : (t : Bool) → newer (f .b) (f .a) ≡ t → whole c f (cond t B A) ≡ true → (y : Area) → whole c f y ≡ true
+      → laterThan (timeOf (holdingOf (entryIn f y))) (timeOf (holdingOf (entryIn f (cond t B A)))) ≡ false
+  of-newest true n w A v = newer-earlier (f .a) (f .b) c B w n v
+  of-newest true n w B v = never-later (timeOf (holdingOf (f .b)))
+  of-newest false n w A v = never-later (timeOf (holdingOf (f .a)))
+  of-newest false n w B v = newer-later (f .a) (f .b) c A w n v
+
+  -- it is not, so no other whole area is there but the one
+  of-other : (x : Area) → whole c f x ≡ false → (y : Area) → whole c f y ≡ true
+      → laterThan (timeOf (holdingOf (entryIn f y))) (timeOf (holdingOf (entryIn f (otherArea x)))) ≡ false
+  of-other A w A v = absurd (true≢false (sym v ∙ w))
+  of-other A w B v = never-later (timeOf (holdingOf (f .b)))
+  of-other B w A v = never-later (timeOf (holdingOf (f .a)))
+  of-other B w B v = absurd (true≢false (sym v ∙ w))
+
+  at-same : (x y : Area) (h k : Holding) → At x h ≡ At y k → (x ≡ y) × (h ≡ k)
+  at-same x y h k e = (cc, cc)
+
+  latest-from : (z : Area) → ((y : Area) → whole c f z ≡ true → whole c f y ≡ true → laterThan (timeOf (holdingOf (entryIn f y))) (timeOf (holdingOf (entryIn f z))) ≡ false)
+      → (x : Area) (h : Holding) → presentFrom c f z ≡ At x h → Latest c f x h
+  latest-from z l x h e = go (whole c f z) refl (whole c f (otherArea z)) refl
+    where
+      pick : Bool → Bool → Present
+      pick s t = cond s (At z (holdingOf (entryIn f z))) (cond t (At (otherArea z) (holdingOf (entryIn f (otherArea z)))) Nothing)
+
+      build : (y : Area) → whole c f y ≡ true → ((w : Area) → whole c f w ≡ true → laterThan (timeOf (holdingOf (entryIn f w))) (timeOf (holdingOf (entryIn f y))) ≡ false)
+          → At y (holdingOf (entryIn f y)) ≡ At x h → Latest c f x h
+      build y w m d =
+          let p : y ≡ x = at-same y x (holdingOf (entryIn f y)) h d .0 in
+          let q : holdingOf (entryIn f y) ≡ h = at-same y x (holdingOf (entryIn f y)) h d .1 in
+          record {
+            its-whole = ap (whole c f) (sym p) ∙ w;
+            holds = sym q ∙ ap (λ (v : Area). holdingOf (entryIn f v)) p;
+            latest = λ v k. ap (λ (i : Holding). laterThan (timeOf (holdingOf (entryIn f v))) (timeOf i)) (sym q) ∙ m v k;
+          }
+
+      go : (s : Bool) → whole c f z ≡ s → (t : Bool) → whole c f (otherArea z) ≡ t → Latest c f x h
+      go true p t q = build z p (λ y k. l y p k) (sym (ap (λ (s : Bool). pick s (whole c f (otherArea z))) p) ∙ e)
+      go false p true q = build (otherArea z) q (of-other z p) (sym (ap₂ pick p q) ∙ e)
+      go false p false q =
+          let n : Nothing ≡ At x h = sym (ap₂ pick p q) ∙ e in
+          let o : _≡_ {A = ℕ} 0 1 = cc in
+          absurd (omega arith)
+
+  -- a copy's present record is whole, and none of its whole areas is later
+  pub present-latest : (x : Area) (h : Holding) → present c f ≡ At x h → Latest c f x h
+  unfolding present newest
+  present-latest = latest-from (newest f) (λ y w v. of-newest (newer (f .b) (f .a)) refl w y v)
+
+  none-from : (z : Area) → presentFrom c f z ≡ Nothing → (y : Area) → whole c f y ≡ true → ⊥
+  none-from z e = go (whole c f z) refl (whole c f (otherArea z)) refl
+    where
+      pick : Bool → Bool → Present
+      pick s t = cond s (At z (holdingOf (entryIn f z))) (cond t (At (otherArea z) (holdingOf (entryIn f (otherArea z)))) Nothing)
+
+      clash : (y : Area) (h : Holding) → At y h ≡ Nothing → ⊥
+      clash y h d = let o : _≡_ {A = ℕ} 0 1 = cc in omega arith
+
+      both : (x y : Area) → whole c f x ≡ false → whole c f (otherArea x) ≡ false → whole c f y ≡ true → ⊥
+      both A A p q v = true≢false (sym v ∙ p)
+      both A B p q v = true≢false (sym v ∙ q)
+      both B A p q v = true≢false (sym v ∙ q)
+      both B B p q v = true≢false (sym v ∙ p)
+
+      go : (s : Bool) → whole c f z ≡ s → (t : Bool) → whole c f (otherArea z) ≡ t → (y : Area) → whole c f y ≡ true → ⊥
+      go true p t q y v = clash z (holdingOf (entryIn f z)) (sym (ap (λ (s : Bool). pick s (whole c f (otherArea z))) p) ∙ e)
+      go false p true q y v = clash (otherArea z) (holdingOf (entryIn f (otherArea z))) (sym (ap₂ pick p q) ∙ e)
+      go false p false q y v = both z y p q v
+
+  -- a copy with no present record has no whole area
+  pub present-nothing : present c f ≡ Nothing → (y : Area) → whole c f y ≡ true → ⊥
+  unfolding present
+  present-nothing = none-from (newest f)
+
+abbrev opposite : Side → Side
+opposite Front = Back
+opposite Back = Front
+
+module _ (f b : List ℕ) (r : Record) (o : Other) where
+  -- a copy's present record, no whole area of the other copy later, is the newest
+  build : (s : Side) (g : BlockFields) (x : Area) (h : Holding) → readingIn (copyOn s f b) .verdict ≡ Verdict.Accepted g → Latest (copyOn s f b) g x h
+      → ((e : BlockFields) (y : Area) → readingIn (copyOn (opposite s) f b) .verdict ≡ Verdict.Accepted e → whole (copyOn (opposite s) f b) e y ≡ true
+      → laterThan (timeOf (holdingOf (entryIn e y))) (timeOf h) ≡ false)
+      → recordAt s x h ≡ r → Newest f b r
+  build s g x h a l n d = subst (λ (z : Record). Newest f b z) d
+      (record {
+        fields = g;
+        accepted = a;
+        its-area-is-whole = l .its-whole;
+        is = ap (recordAt s x) (l .holds);
+        none-later = go s g a l n;
+      })
+    where
+      inside : (c : List ℕ) (g e : BlockFields) (y : Area) → readingIn c .verdict ≡ Verdict.Accepted g → Latest c g x h → readingIn c .verdict ≡ Verdict.Accepted e
+          → whole c e y ≡ true → laterThan (timeOf (holdingOf (entryIn e y))) (timeOf h) ≡ false
+      inside c g e y p l q w =
+          let v : Verdict.Accepted g ≡ Verdict.Accepted e = sym p ∙ q in
+          let k : e ≡ g = cc in
+          ap (λ (i : BlockFields). laterThan (timeOf (holdingOf (entryIn i y))) (timeOf h)) k ∙ l .latest y (ap (λ (i : BlockFields). whole c i y) (sym k) ∙ w)
+
+      go : (s : Side) (g : BlockFields) → readingIn (copyOn s f b) .verdict ≡ Verdict.Accepted g → Latest (copyOn s f b) g x h
+          → ((e : BlockFields) (y : Area) → readingIn (copyOn (opposite s) f b) .verdict ≡ Verdict.Accepted e → whole (copyOn (opposite s) f b) e y ≡ true
+          → laterThan (timeOf (holdingOf (entryIn e y))) (timeOf h) ≡ false)
+          → (t : Side) (e : BlockFields) (y : Area) → readingIn (copyOn t f b) .verdict ≡ Verdict.Accepted e → whole (copyOn t f b) e y ≡ true
+          → laterThan (timeOf (holdingOf (entryIn e y))) (timeOf h) ≡ false
+      go Front g a l n Front e y p w = inside f g e y a l p w
+      go Front g a l n Back e y p w = n e y p w
+      go Back g a l n Front e y p w = n e y p w
+      go Back g a l n Back e y p w = inside b g e y a l p w
+
+  refused-found : (n : ℕ) → Refused n ≡ Found r o → ⊥
+  refused-found n e = let z : _≡_ {A = ℕ} 0 1 = cc in omega arith
+
+  found-same : (q : Record) (p : Other) → Found q p ≡ Found r o → q ≡ r
+  found-same q p e = cc
+
+  refused-accepted : (c : List ℕ) (n : ℕ) (e : BlockFields) → readingIn c .verdict ≡ Verdict.Refused n → readingIn c .verdict ≡ Verdict.Accepted e → ⊥
+  refused-accepted c n e p q =
+      let v : Verdict.Refused n ≡ Verdict.Accepted e = sym p ∙ q in
+      let z : _≡_ {A = ℕ} 0 1 = cc in
+      omega arith
+
+  accepted-same : (c : List ℕ) (g e : BlockFields) → readingIn c .verdict ≡ Verdict.Accepted g → readingIn c .verdict ≡ Verdict.Accepted e → g ≡ e
+  accepted-same c g e p q = let v : Verdict.Accepted g ≡ Verdict.Accepted e = sym p ∙ q in cc
+
+  -- one copy alone
+  alone-found : (s : Side) (g : BlockFields) (n m : ℕ) → readingIn (copyOn s f b) .verdict ≡ Verdict.Accepted g
+      → readingIn (copyOn (opposite s) f b) .verdict ≡ Verdict.Refused n → (p : Present) → present (copyOn s f b) g ≡ p → aloneOf s p m ≡ Found r o → Newest f b r
+  alone-found s g n m a d Nothing p e = absurd (refused-found noRecord e)
+  alone-found s g n m a d (At x h) p e =
+      build s g x h a (present-latest (copyOn s f b) g x h p) (λ i y q w. absurd (refused-accepted (copyOn (opposite s) f b) n i d q))
+      (found-same (recordAt s x h) (One m) e)
+
+  module _ (x y : BlockFields) (ax : readingIn f .verdict ≡ Verdict.Accepted x) (ay : readingIn b .verdict ≡ Verdict.Accepted y) where
+    -- no whole area of the other copy is later than h, where its present record is not
+    back-none : (h : Holding) → present b y ≡ Nothing → (e : BlockFields) (z : Area) → readingIn b .verdict ≡ Verdict.Accepted e → whole b e z ≡ true
+        → laterThan (timeOf (holdingOf (entryIn e z))) (timeOf h) ≡ false
+    back-none h p e z q w = absurd (present-nothing b y p z (ap (λ (i : BlockFields). whole b i z) (accepted-same b y e ay q) ∙ w))
+
+    front-none : (h : Holding) → present f x ≡ Nothing → (e : BlockFields) (z : Area) → readingIn f .verdict ≡ Verdict.Accepted e → whole f e z ≡ true
+        → laterThan (timeOf (holdingOf (entryIn e z))) (timeOf h) ≡ false
+    front-none h p e z q w = absurd (present-nothing f x p z (ap (λ (i : BlockFields). whole f i z) (accepted-same f x e ax q) ∙ w))
+
+    carried : (c : List ℕ) (g : BlockFields) (u : Area) (k h : Holding) → readingIn c .verdict ≡ Verdict.Accepted g → Latest c g u k
+        → laterThan (timeOf k) (timeOf h) ≡ false → (e : BlockFields) (z : Area) → readingIn c .verdict ≡ Verdict.Accepted e → whole c e z ≡ true
+        → laterThan (timeOf (holdingOf (entryIn e z))) (timeOf h) ≡ false
+    carried c g u k h a l n e z q w =
+        let i : g ≡ e = accepted-same c g e a q in
+        not-later-trans (timeOf (holdingOf (entryIn e z))) (timeOf k) (timeOf h)
+        (ap (λ (j : BlockFields). laterThan (timeOf (holdingOf (entryIn j z))) (timeOf k)) (sym i) ∙ l .latest z (ap (λ (j : BlockFields). whole c j z) i ∙ w)) n
+
+    both-found : (u : Area) (h : Holding) (v : Area) (k : Holding) → present f x ≡ At u h → present b y ≡ At v k → newestOf f b u h v k ≡ Found r o → Newest f b r
+    both-found u h v k p q e =
+        go (sameTime (timeOf h) (timeOf k)) refl (same (areaBytes f u (h .bytes)) (areaBytes b v (k .bytes))) refl (laterThan (timeOf k) (timeOf h)) refl
+      where
+        pick : Bool → Bool → Bool → Answer
+        pick s t l = cond s (cond t (Found (recordAt Front u h) Both) (Refused twoRecords)) (cond l (Found (recordAt Back v k) Both) (Found (recordAt Front u h) Both))
+
+        front : laterThan (timeOf k) (timeOf h) ≡ false → Found (recordAt Front u h) Both ≡ Found r o → Newest f b r
+        front n d =
+            build Front x u h ax (present-latest f x u h p) (carried b y v k h ay (present-latest b y v k q) n) (found-same (recordAt Front u h) Both d)
+
+        go : (s : Bool) → sameTime (timeOf h) (timeOf k) ≡ s → (t : Bool) → same (areaBytes f u (h .bytes)) (areaBytes b v (k .bytes)) ≡ t
+            → (l : Bool) → laterThan (timeOf k) (timeOf h) ≡ l → Newest f b r
+        go true i true j l m = front (same-not-later (timeOf h) (timeOf k) i) (sym (ap₂ (λ (s t : Bool). pick s t (laterThan (timeOf k) (timeOf h))) i j) ∙ e)
+        go true i false j l m = absurd (refused-found twoRecords (sym (ap₂ (λ (s t : Bool). pick s t (laterThan (timeOf k) (timeOf h))) i j) ∙ e))
+        go false i t j true m =
+            build Back y v k ay (present-latest b y v k q) (carried f x u h k ax (present-latest f x u h p) (later-asym (timeOf k) (timeOf h) m))
+            (found-same (recordAt Back v k) Both (sym (ap₂ (λ (s l : Bool). pick s (same (areaBytes f u (h .bytes)) (areaBytes b v (k .bytes))) l) i m) ∙ e))
+        go false i t j false m = front m (sym (ap₂ (λ (s l : Bool). pick s (same (areaBytes f u (h .bytes)) (areaBytes b v (k .bytes))) l) i m) ∙ e)
+
+    together-found : (p q : Present) → present f x ≡ p → present b y ≡ q → togetherOf f b p q ≡ Found r o → Newest f b r
+    together-found Nothing Nothing p q e = absurd (refused-found noRecord e)
+    together-found Nothing (At v k) p q e =
+        build Back y v k ay (present-latest b y v k q) (front-none k p) (found-same (recordAt Back v k) Both e)
+    together-found (At u h) Nothing p q e =
+        build Front x u h ax (present-latest f x u h p) (back-none h q) (found-same (recordAt Front u h) Both e)
+    together-found (At u h) (At v k) p q e = both-found u h v k p q e
+
+  decided : (u : Bool) (v w : Verdict) → readingIn f .verdict ≡ v → readingIn b .verdict ≡ w → decide v w u f b ≡ Found r o → Newest f b r
+  decided u (Verdict.Refused m) (Verdict.Refused n) p q e = absurd (refused-found Rattle.refusal.specs.Numbers.noBlock e)
+  decided u (Verdict.Refused m) (Verdict.Accepted y) p q e = alone-found Back y m m q p (present b y) refl e
+  decided u (Verdict.Accepted x) (Verdict.Refused n) p q e = alone-found Front x n n p q (present f x) refl e
+  decided u (Verdict.Accepted x) (Verdict.Accepted y) p q e = go (sameDevice x y && u) refl
+    where
+      go : (t : Bool) → (sameDevice x y && u) ≡ t → Newest f b r
+      go true k =
+          together-found x y p q (present f x) (present b y) refl refl
+          (sym (ap (λ (t : Bool). cond t (togetherOf f b (present f x) (present b y)) (Refused identity)) k) ∙ e)
+      go false k = absurd (refused-found identity (sym (ap (λ (t : Bool). cond t (togetherOf f b (present f x) (present b y)) (Refused identity)) k) ∙ e))
+
+-- what discovery finds is whole, and no whole record is later
+pub newest-found : (f b : List ℕ) (r : Record) (o : Other) → discovery f b ≡ Found r o → Newest f b r
+unfolding discovery
+newest-found f b r o e = go (sized f b) refl
+  where
+    inner : Answer
+    inner = decide (readingIn f .verdict) (readingIn b .verdict) (sameUuids (readingIn f) (readingIn b)) f b
+
+    go : (t : Bool) → sized f b ≡ t → Newest f b r
+    go true p =
+        decided f b r o (sameUuids (readingIn f) (readingIn b)) (readingIn f .verdict) (readingIn b .verdict) refl refl
+        (sym (ap (λ (t : Bool). cond t inner (Refused sliceSize)) p) ∙ e)
+    go false p = absurd (refused-found f b r o sliceSize (sym (ap (λ (t : Bool). cond t inner (Refused sliceSize)) p) ∙ e))
