@@ -156,11 +156,11 @@ pub fn put(s: &mut [u8], at: usize, v: &[u8]) -> u8
     if s.len() < at {
         return 1;
     }
-    let n = v.len();
-    if s.len() - at < n {
+    let k = v.len();
+    if s.len() - at < k {
         return 1;
     }
-    fill_from(&mut s[at..at + n], v);
+    fill_from(&mut s[at..at + k], v);
     0
 }
 

@@ -1,0 +1,38 @@
+-- What stores leave on a sector. Assumes nothing.
+use Prim.Native.Nat.{ℕ, zero, suc, _≤_, _<_}
+use mathlib.Core.Path.{_≡_, refl, sym, ap, _∙_}
+use mathlib.Core.Bool.{Bool, cond}
+use mathlib.Core.List.{List}
+use native.Mathlib.Decide.{ℕ-discrete}
+use native.Mathlib.Nat.{not-suc-le-zero}
+use native.Mathlib.Omega.{arith}
+use borrow.Author.Tests.{eq-eqb, ne-eqb}
+use Rattle.device.specs.Device.{Sectors, Store, landed}
+
+module _ (st : ℕ → Store) (d : Sectors) where
+  step-hit : (i n : ℕ) → n ≡ st i .sector → landed st (suc i) d n ≡ st i .content
+  unfolding landed
+  step-hit i n e = ap (λ (b : Bool). cond b (st i .content) (landed st i d n)) (eq-eqb n (st i .sector) e)
+
+  step-miss : (i n : ℕ) → (n ≡ st i .sector → ⊥) → landed st (suc i) d n ≡ landed st i d n
+  unfolding landed
+  step-miss i n h = ap (λ (b : Bool). cond b (st i .content) (landed st i d n)) (ne-eqb n (st i .sector) h)
+
+  pub landed-none : (n : ℕ) → landed st 0 d n ≡ d n
+  unfolding landed
+  landed-none n = refl
+
+  -- a sector that no store goes to is as it was
+  pub landed-old : (j n : ℕ) → ((i : ℕ) → i < j → n ≡ st i .sector → ⊥) → landed st j d n ≡ d n
+  landed-old zero n h = landed-none n
+  landed-old (suc j) n h = step-miss j n (h j (omega arith)) ∙ landed-old j n (λ i k. h i (omega arith))
+
+  -- a sector that one store alone goes to is as stored
+  pub landed-new : (j i n : ℕ) → i < j → n ≡ st i .sector → ((k : ℕ) → k < j → n ≡ st k .sector → k ≡ i) → landed st j d n ≡ st i .content
+  landed-new zero i n l e h = absurd (not-suc-le-zero l)
+  landed-new (suc j) i n l e h =
+      elim (ℕ-discrete i j)
+      [ yes p ↦ ap (λ (k : ℕ). landed st (suc k) d n) (sym p) ∙ step-hit i n e
+      | no p ↦
+          step-miss j n (λ q. p (sym (h j (omega arith) q)))
+          ∙ landed-new j i n (omega arith) e (λ k m. h k (omega arith)) ]

@@ -1,0 +1,68 @@
+use Rattle.refusal.specs.Numbers.{noSegment}
+use Rattle.record.proofs.Order.{position-past, position-there}
+-- `record::read_segment` meets its contract. Assumes nothing.
+use Rattle.record.proofs.Order.{answer-no, answer-yes, more-no, more-yes}
+use Rattle.record.specs.Answers.{positionTests}
+use Rattle.record.specs.Accept.{recordTests}
+use Rattle.record.specs.Items.{count, segmentAt}
+use Rattle.record.specs.declared.Found.the-variants.{At, Refused}
+use Rattle.layout.specs.declared.Device.{Device}
+use Rattle.refusal.proofs.Order.{first-pass, first-fail, first-nil}
+use Rattle.refusal.specs.Tests.{first}
+use lib.Dec.{ltb}
+use borrow.Author.Tests.{lt-ltb, le-ltb}
+use native.Mathlib.Omega.{arith}
+use mathlib.Core.Path.{_≡_, refl, sym, ap, _∙_}
+use mathlib.Core.List.{List, [], _++_}
+use Prim.Native.Nat.{ℕ, _≤_, _<_}
+use borrow.Author.Needs.{needs}
+use Rattle.record.proofs.read_segment.Statement.{statement}
+use Rattle.record.proofs.read_segment.Tie as tie
+use Rattle.record.proofs.read_segment.Reads as reads
+use Rattle.record.proofs.read_segment.Lts as lts
+use Rattle.record.proofs.check.Reads as check-reads
+use Rattle.record.proofs.count_of.Reads as count-of-reads
+use Rattle.record.proofs.segment_at.Reads as segment-at-reads
+
+check-requires : tie.Need-check-requires
+check-requires c κs = search needs
+
+returns : tie.Need-returns
+returns c =
+    let s : List ℕ = c .before .before .before .args .s .now in
+    let d : Device = c .before .before .before .args .d in
+    let p : ℕ = c .before .before .before .args .position in
+    answer-no (At (segmentAt s p)) Refused (c .before .check .result) (first (recordTests d s ++ positionTests s p))
+    (more-no d s (positionTests s p) (c .before .check .result) (c .before .check .ensures) (c .if1 .taken)) (c .if1 .taken)
+
+count-of-requires : tie.Need-count-of-requires
+count-of-requires c κs = search needs
+
+returns-2 : tie.Need-returns-2
+returns-2 c =
+    let s : List ℕ = c .before .before .before .before .before .args .s .now in
+    let d : Device = c .before .before .before .before .before .args .d in
+    let p : ℕ = c .before .before .before .before .before .args .position in
+    let h : count s ≤ p = omega arith in
+    answer-no (At (segmentAt s p)) Refused 22 (first (recordTests d s ++ positionTests s p))
+    (more-yes d s (positionTests s p) (c .before .before .before .check .result) 22 (c .before .before .before .check .ensures)
+    (c .before .before .if1 .left) (position-past s p h)) (omega arith)
+
+segment-at-requires : tie.Need-segment-at-requires
+segment-at-requires c κs = search needs
+
+returns-3 : tie.Need-returns-3
+returns-3 c =
+    let s : List ℕ = c .before .before .before .before .before .before .args .s .now in
+    let d : Device = c .before .before .before .before .before .before .args .d in
+    let p : ℕ = c .before .before .before .before .before .before .args .position in
+    let h : p < count s = omega arith in
+    ap At (c .segment-at .ensures)
+    ∙ answer-yes (At (segmentAt s p)) Refused 0 (first (recordTests d s ++ positionTests s p))
+    (more-yes d s (positionTests s p) (c .before .before .before .before .check .result) 0 (c .before .before .before .before .check .ensures)
+    (c .before .before .before .if1 .left) (position-there s p h)) refl
+
+pub read-segment-spec : {M : Type 1} → statement M
+read-segment-spec =
+    tie.close
+    (tie.spec check-requires returns count-of-requires returns-2 segment-at-requires returns-3)

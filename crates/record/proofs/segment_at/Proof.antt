@@ -1,0 +1,26 @@
+-- `record::segment_at` meets its contract. Assumes nothing.
+use borrow.Author.Needs.{needs}
+use Rattle.record.proofs.segment_at.Statement.{statement}
+use Rattle.record.proofs.segment_at.Tie as tie
+use Rattle.record.proofs.segment_at.Reads as reads
+use Rattle.record.proofs.segment_at.Lts as lts
+use Rattle.record.proofs.kind_at.Reads as kind-at-reads
+use Rattle.record.proofs.sectors_at.Reads as sectors-at-reads
+use Rattle.record.proofs.start_at.Reads as start-at-reads
+
+kind-at-requires : tie.Need-kind-at-requires
+kind-at-requires c κs = search needs
+
+start-at-requires : tie.Need-start-at-requires
+start-at-requires c κs = search needs
+
+sectors-at-requires : tie.Need-sectors-at-requires
+sectors-at-requires c κs = search needs
+
+returns : tie.Need-returns
+returns c =
+    rw (c .before .before .kind-at .ensures, c .before .start-at .ensures, c .sectors-at .ensures)
+
+pub segment-at-spec : {M : Type 1} → statement M
+segment-at-spec =
+    tie.close (tie.spec kind-at-requires start-at-requires sectors-at-requires returns)
