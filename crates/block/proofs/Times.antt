@@ -115,3 +115,15 @@ same-not-later t u h =
     let s : (t .seconds ≡ u .seconds) × (t .nanoseconds ≡ u .nanoseconds) = same-facts t u h in
     let e : t .nanoseconds ≡ u .nanoseconds = s .1 in
     not-later-test u t (inr (sym (s .0), omega arith))
+
+-- and the other way round
+pub later-differs-back : (t u : Time) → laterThan t u ≡ true → sameTime u t ≡ false
+unfolding sameTime
+later-differs-back t u h = go (later-facts t u h)
+  where
+    go : Before u t → (eqb (u .seconds) (t .seconds) && eqb (u .nanoseconds) (t .nanoseconds)) ≡ false
+    go (inl k) = ap (λ (x : Bool). x && eqb (u .nanoseconds) (t .nanoseconds)) (ne-eqb (u .seconds) (t .seconds) (λ e. let d : u .seconds ≡ t .seconds = e in omega arith))
+    go (inr k) =
+        let l : u .nanoseconds < t .nanoseconds = k .1 in
+        ap₂ (λ (x y : Bool). x && y) (eq-eqb (u .seconds) (t .seconds) (k .0))
+        (ne-eqb (u .nanoseconds) (t .nanoseconds) (λ e. let d : u .nanoseconds ≡ t .nanoseconds = e in omega arith))

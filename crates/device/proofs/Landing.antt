@@ -7,6 +7,7 @@ use native.Mathlib.Decide.{ℕ-discrete}
 use native.Mathlib.Nat.{not-suc-le-zero}
 use native.Mathlib.Omega.{arith}
 use borrow.Author.Tests.{eq-eqb, ne-eqb}
+use lib.ListN.{length}
 use Rattle.device.specs.Device.{Sectors, Store, landed}
 
 module _ (st : ℕ → Store) (d : Sectors) where
@@ -31,8 +32,16 @@ module _ (st : ℕ → Store) (d : Sectors) where
   pub landed-new : (j i n : ℕ) → i < j → n ≡ st i .sector → ((k : ℕ) → k < j → n ≡ st k .sector → k ≡ i) → landed st j d n ≡ st i .content
   landed-new zero i n l e h = absurd (not-suc-le-zero l)
   landed-new (suc j) i n l e h =
-      elim (ℕ-discrete i j)
-      [ yes p ↦ ap (λ (k : ℕ). landed st (suc k) d n) (sym p) ∙ step-hit i n e
-      | no p ↦
-          step-miss j n (λ q. p (sym (h j (omega arith) q)))
-          ∙ landed-new j i n (omega arith) e (λ k m. h k (omega arith)) ]
+      elim (ℕ-discrete i j) [
+        | yes p ↦ ap (λ (k : ℕ). landed st (suc k) d n) (sym p) ∙ step-hit i n e
+        | no p ↦
+            step-miss j n (λ q. p (sym (h j (omega arith) q)))
+            ∙ landed-new j i n (omega arith) e (λ k m. h k (omega arith))
+      ]
+
+  -- sectors keep their size where every store has it
+  pub landed-size : ((n : ℕ) → length (d n) ≡ 512) → ((i : ℕ) → length (st i .content) ≡ 512) → (j n : ℕ) → length (landed st j d n) ≡ 512
+  landed-size h c zero n = ap length (landed-none n) ∙ h n
+  landed-size h c (suc j) n =
+      elim (ℕ-discrete n (st j .sector))
+      [ yes e ↦ ap length (step-hit j n e) ∙ c j | no e ↦ ap length (step-miss j n e) ∙ landed-size h c j n ]

@@ -6,7 +6,6 @@ use mathlib.Core.Bool.{Bool, true, false, cond}
 use mathlib.Core.List.{List, [], _++_}
 use lib.Dec.{eqb}
 use lib.ListN.{length}
-use Rattle.endian.specs.Bytes.{Bytes}
 use Rattle.layout.specs.declared.Device.{Device}
 use Rattle.layout.specs.declared.Side.{Side}
 use Rattle.layout.specs.declared.Area.the-variants.{A, B}
@@ -20,7 +19,6 @@ Sectors = ℕ → List ℕ
 -- each sector holds 512 bytes
 pub record Sound (d : Sectors) : Type 0 where
   pub size : (n : ℕ) → length (d n) ≡ sectorBytes
-  pub bytes : (n : ℕ) → Bytes (d n)
 
 -- a store is a device sector number and 512 bytes
 pub record Store : Type 0 where

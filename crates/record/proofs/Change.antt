@@ -15,10 +15,10 @@ use lib.Seq.{drop-drop, drop-append-le, take-append-le, drop-append-add, length-
 use Rattle.endian.specs.Bytes.{le, window, splice}
 use Rattle.endian.proofs.Parts.{window-window}
 use Rattle.layout.specs.declared.Device.{Device}
-use Rattle.layout.specs.Limits.{recordLimit}
+use Rattle.layout.specs.Limits.{lengthAllowed, recordLimit}
 use Rattle.record.specs.declared.Segment.{Segment}
 use Rattle.record.specs.Items.{itemOf, isHead, headBytes, headRight, blockSize, blockSizeAllowed, itemBytes, count, place, sizeAt, kindAt, startAt, sectorsAt, kindKnown, segmentAt}
-use Rattle.record.specs.Accept.{lengthAllowed, mostSegments, itemRight}
+use Rattle.record.specs.Accept.{mostSegments, itemRight}
 use Rattle.record.specs.Making.{segmentBytes, appended, removed}
 use Rattle.record.proofs.Search.{and-left, and-right, and-both}
 use Rattle.record.proofs.Making.{length-segment}
@@ -273,8 +273,8 @@ module _ (s : List ℕ) (p : ℕ) (framed : headBytes s ≤ length s) (whole : (
   unfolding removed place headBytes
   removed-head =
       same-head (removed s p) s (λ k n h.
-        let e : length (take (8 + 20 * p) s) ≡ 8 + 20 * p = front in
-        window-left (take (8 + 20 * p) s) (drop (8 + 20 * p + 20) s) k n (omega arith) ∙ window-take s (8 + 20 * p) k n (omega arith))
+      let e : length (take (8 + 20 * p) s) ≡ 8 + 20 * p = front in
+      window-left (take (8 + 20 * p) s) (drop (8 + 20 * p + 20) s) k n (omega arith) ∙ window-take s (8 + 20 * p) k n (omega arith))
 
 -- which old position a position of the shorter record is
 abbrev pub oldOf : ℕ → ℕ → ℕ
@@ -304,8 +304,8 @@ accepted-removed d s p a t =
       items = λ i l. item i (rw less at l);
       ranges = λ i l. rw (removed-is s p (a .framed) (a .whole) t i) (a .ranges (oldOf p i) (old i (rw less at l)));
       disjoint = λ i j l k.
-        apart-same (removed-is s p (a .framed) (a .whole) t i) (removed-is s p (a .framed) (a .whole) t j)
-            (a .disjoint (oldOf p i) (oldOf p j) (order i j l) (old j (rw less at k)));
+          apart-same (removed-is s p (a .framed) (a .whole) t i) (removed-is s p (a .framed) (a .whole) t j)
+          (a .disjoint (oldOf p i) (oldOf p j) (order i j l) (old j (rw less at k)));
     }
   where
     less : count (removed s p) ≡ count s - 1

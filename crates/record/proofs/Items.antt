@@ -1,9 +1,9 @@
 -- Laws of a record's items: where each stands and what is read there. Assumes nothing.
 use Prim.Native.Nat.{ℕ, zero, suc, _+_, _-_, _*_, _/_, _%_, _^_, _≤_, _<_, min}
 use mathlib.Core.Path.{_≡_, refl, sym, ap, _∙_}
-use mathlib.Core.Bool.{Bool, true, false, cond}
+use mathlib.Core.Bool.{Bool, true, false, cond, true≢false}
 use mathlib.Core.List.{List, [], _∷_, _++_}
-use native.Mathlib.Decide.{decLe}
+use native.Mathlib.Decide.{decLe, decLt}
 use native.Mathlib.Omega.{arith}
 use borrow.Author.Tests.{ne-eqb}
 use lib.ListN.{length}
@@ -11,7 +11,7 @@ use Rattle.endian.specs.Bytes.{le, window}
 use Rattle.endian.proofs.Numbers.{le-bound}
 use Rattle.endian.proofs.Parts.{length-window, window-past}
 use Rattle.record.specs.declared.Item.the-variants.{Unknown}
-use Rattle.record.specs.Items.{itemOf, headBytes, count, place, kindAt, startAt, sectorsAt}
+use Rattle.record.specs.Items.{itemOf, isSegment, kindKnown, headBytes, count, place, kindAt, startAt, sectorsAt}
 
 -- a number that is none of the known kinds
 pub item-unknown : (k : ℕ) → (k ≡ 1 → ⊥) → (k ≡ 2 → ⊥) → (k ≡ 3 → ⊥) → (k ≡ 4 → ⊥) → (k ≡ 16 → ⊥) → itemOf k ≡ Unknown
@@ -41,3 +41,13 @@ kind-bound s i = le-bound (window s (place s i + 2) 2) 2 (length-window s (place
 -- what a reader answers that reads k bytes on from there
 pub read-at : (s : List ℕ) (i k n p r : ℕ) → p ≡ min (place s i) (length s) → r ≡ le (window s (p + k) n) → r ≡ le (window s (place s i + k) n)
 read-at s i k n p r h e = e ∙ (ap (λ (z : ℕ). le (window s (z + k) n)) h ∙ ap le (window-min s (place s i) k n))
+
+-- a known kind has room in its two bytes
+pub kind-small : (k : ℕ) → kindKnown k ≡ true → k < 256 ^ 2
+unfolding kindKnown
+kind-small k h =
+    elim (decLt k 17) [
+      | yes l ↦ (let m : k < 65536 = omega arith in m)
+      | no l ↦
+          absurd (true≢false (sym h ∙ ap isSegment (item-unknown k (omega arith) (omega arith) (omega arith) (omega arith) (omega arith))))
+    ]

@@ -13,14 +13,14 @@ use lib.ListN.{length}
 use Rattle.refusal.specs.Tests.{first, AllHold}
 use Rattle.refusal.proofs.Order.{first-zero, first-all}
 use Rattle.layout.specs.declared.Device.{Device}
-use Rattle.layout.specs.Limits.{recordLimit, sizeAllowed, metadataAllowed, reservedAllowed}
+use Rattle.layout.specs.Limits.{lengthAllowed, recordLimit, sizeAllowed, metadataAllowed, reservedAllowed}
 use Rattle.layout.specs.Places.{dataStart, dataEnd}
 use Rattle.record.specs.declared.Segment.{Segment}
 use Rattle.record.specs.declared.Clash.{Clash}
 use Rattle.record.specs.declared.Clash.the-variants.{Pair, Nothing}
 use Rattle.record.specs.Search.{every, least}
 use Rattle.record.specs.Items.{headBytes, headRight, itemBytes, count, startAt, sectorsAt, segmentAt}
-use Rattle.record.specs.Accept.{lengthAllowed, itemRight, wellFormed, inRange, rangeAt, allInRange, meets, clashesAt, clashesLater, laterOf, earlierOf, apart, recordTests}
+use Rattle.record.specs.Accept.{itemRight, wellFormed, inRange, rangeAt, allInRange, meets, clashesAt, clashesLater, laterOf, earlierOf, apart, recordTests}
 use Rattle.record.specs.Answers.{firstClash}
 use Rattle.record.specs.Sectors.{within, holds}
 use Rattle.record.proofs.Order.{record-ascending}

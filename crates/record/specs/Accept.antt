@@ -7,15 +7,11 @@ use lib.ListN.{length}
 use Rattle.refusal.specs.Numbers.{recordLength, recordForm, segmentPlace, segmentClash}
 use Rattle.refusal.specs.Tests.{Test, _or_}
 use Rattle.layout.specs.declared.Device.{Device}
-use Rattle.layout.specs.Limits.{deviceTests, recordLimit}
+use Rattle.layout.specs.Limits.{deviceTests, lengthAllowed, recordLimit}
 use Rattle.layout.specs.Places.{dataStart, dataEnd}
 use Rattle.record.specs.declared.Segment.{Segment}
 use Rattle.record.specs.Search.{every, least}
 use Rattle.record.specs.Items.{headBytes, headRight, itemBytes, count, sizeAt, kindAt, kindKnown, segmentAt}
-
--- record length 0 or over the limit: not so
-unfoldable pub lengthAllowed : ℕ → Bool
-lengthAllowed n = leb 1 n && leb n recordLimit
 
 -- the most segments of a record with a head of h bytes
 unfoldable pub mostSegments : ℕ → ℕ

@@ -10,12 +10,9 @@ ghost use Rattle.refusal.specs.Tests.{first};
 ghost use Rattle.endian.specs.Bytes.{room, splice};
 ghost use Rattle.record.specs.Search.{every};
 ghost use Rattle.record.specs.Items.{itemOf, isSegment, isHead, kindKnown, headBytes, blockSize, blockSizeAllowed, headRight, itemBytes, count, place, sizeAt, kindAt, startAt, sectorsAt, segmentAt};
-ghost use Rattle.record.specs.Accept.{lengthAllowed, mostSegments, itemRight, wellFormed, inRange, allInRange, meets, clashesAt, laterOf, apart, contentTests, recordTests};
+ghost use Rattle.record.specs.Accept.{mostSegments, itemRight, wellFormed, inRange, allInRange, meets, clashesAt, laterOf, apart, contentTests, recordTests};
 ghost use Rattle.record.specs.Answers.{firstClash, segmentAnswer, countAnswer, headAnswer};
 ghost use Rattle.record.specs.Making.{headOf, segmentBytes, beginTests, begun};
-
-// The most bytes of a record.
-const LIMIT: usize = 8192;
 
 // Bytes of a segment's item.
 const ITEM: usize = 20;
@@ -156,7 +153,7 @@ pub fn count_of(s: &[u8]) -> usize
 pub fn most_segments(s: &[u8]) -> usize
     ensures { λ r. ⌜ r ≡ mostSegments (headBytes (now (s .entry))) ⌝ }
 {
-    (LIMIT - head_bytes(s)) / ITEM
+    (layout::RECORD_LIMIT as usize - head_bytes(s)) / ITEM
 }
 
 // Where the segment at position i begins, or the end of s where that is past it.
@@ -210,13 +207,6 @@ pub fn segment_at(s: &[u8], i: usize) -> Segment
         start: start_at(s, i),
         sectors: sectors_at(s, i),
     }
-}
-
-// Whether a record can have n bytes.
-pub fn length_allowed(n: usize) -> bool
-    ensures { λ r. ⌜ r ≡ lengthAllowed n ⌝ }
-{
-    (1 <= n) & (n <= LIMIT)
 }
 
 // Whether the item at position i is a segment as it has to be.
@@ -342,7 +332,7 @@ fn all_apart(s: &[u8]) -> bool
 pub fn check_content(d: Device, s: &[u8]) -> u8
     ensures { λ r. ⌜ r ≡ first (contentTests d (now (s .entry))) ⌝ }
 {
-    if !length_allowed(s.len()) {
+    if !layout::length_allowed(s.len() as u64) {
         return refusal::RECORD_LENGTH;
     }
     if !well_formed(s) {

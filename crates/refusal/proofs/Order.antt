@@ -22,17 +22,30 @@ pub first-fail : (b : Bool) (n : ℕ) (ts : List Test) → b ≡ false → first
 unfolding first
 first-fail b n ts h = ap (λ (x : Bool). cond x (first ts) n) h
 
--- given numbers that ascend, 0 means that all tests hold
-pub first-zero : (m : ℕ) (ts : List Test) → Ascending m ts → first ts ≡ 0 → AllHold ts
-first-zero m [] a e = tt
-first-zero m (t ∷ ts) a e = go (first-zero (t .otherwise) ts (a .1)) (t .holds) refl
+-- every test has a number
+abbrev pub Numbered : List Test → Type 0
+Numbered [] = Unit {0}
+Numbered (t ∷ ts) = (0 < t .otherwise) × Numbered ts
+
+-- then 0 means that all tests hold
+pub first-holds : (ts : List Test) → Numbered ts → first ts ≡ 0 → AllHold ts
+first-holds [] a e = tt
+first-holds (t ∷ ts) a e = go (first-holds ts (a .1)) (t .holds) refl
   where
     go : (first ts ≡ 0 → AllHold ts) → (b : Bool) → t .holds ≡ b → AllHold (t ∷ ts)
     go r true p = (p, r (sym (first-pass (t .holds) (t .otherwise) ts p) ∙ e))
     go r false p =
         let z : t .otherwise ≡ 0 = sym (first-fail (t .holds) (t .otherwise) ts p) ∙ e in
-        let l : m < t .otherwise = a .0 in
+        let l : 0 < t .otherwise = a .0 in
         absurd (omega arith)
+
+-- numbers that ascend are numbers
+ascending-numbered : (m : ℕ) (ts : List Test) → Ascending m ts → Numbered ts
+ascending-numbered m [] a = tt
+ascending-numbered m (t ∷ ts) a = (let l : m < t .otherwise = a .0 in omega arith, ascending-numbered (t .otherwise) ts (a .1))
+
+pub first-zero : (m : ℕ) (ts : List Test) → Ascending m ts → first ts ≡ 0 → AllHold ts
+first-zero m ts a = first-holds ts (ascending-numbered m ts a)
 
 pub first-all : (ts : List Test) → AllHold ts → first ts ≡ 0
 first-all [] h = first-nil

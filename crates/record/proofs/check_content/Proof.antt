@@ -8,7 +8,6 @@ use Rattle.record.proofs.check_content.Reads as reads
 use Rattle.record.proofs.check_content.Lts as lts
 use Rattle.record.proofs.all_apart.Reads as all-apart-reads
 use Rattle.record.proofs.all_in_range.Reads as all-in-range-reads
-use Rattle.record.proofs.length_allowed.Reads as length-allowed-reads
 use Rattle.record.proofs.well_formed.Reads as well-formed-reads
 
 length-allowed-requires : tie.Need-length-allowed-requires

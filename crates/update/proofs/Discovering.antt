@@ -1,0 +1,103 @@
+-- What discovery gives where a copy holds a record and the other does, or is refused. Assumes nothing.
+use Prim.Native.Nat.{ℕ, _+_, _≤_}
+use mathlib.Core.Path.{_≡_, refl, sym, ap, ap₂, _∙_}
+use mathlib.Core.Bool.{Bool, true, false, cond, _&&_}
+use mathlib.Core.List.{List, _++_}
+use native.Mathlib.Omega.{arith}
+use lib.ListN.{length, take, drop}
+use lib.Seq.{take-at}
+use Rattle.endian.specs.Bytes.{same, splice}
+use Rattle.endian.proofs.Parts.{splice-fits}
+use Rattle.endian.proofs.Tests.{equal-same, and-both, same-refl}
+use Rattle.refusal.specs.Numbers.{twoRecords}
+use Rattle.layout.specs.declared.Side.{Side}
+use Rattle.layout.specs.declared.Side.the-variants.{Front, Back}
+use Rattle.layout.specs.declared.Area.{Area}
+use Rattle.block.specs.declared.Time.{Time}
+use Rattle.block.specs.declared.Holding.{Holding}
+use Rattle.block.specs.declared.BlockFields.{BlockFields}
+use Rattle.block.specs.declared.Reading.{Reading}
+use Rattle.block.specs.declared.Verdict.the-variants as Verdict
+use Rattle.block.specs.Entry.{laterThan, sameTime, timeOf}
+use Rattle.block.proofs.Times.{later-asym, later-differs}
+use Rattle.discovery.specs.declared.Present.{Present}
+use Rattle.discovery.specs.declared.Record.{Record}
+use Rattle.discovery.specs.declared.Other.{Other}
+use Rattle.discovery.specs.declared.Other.the-variants.{Both, One}
+use Rattle.discovery.specs.declared.Answer.{Answer}
+use Rattle.discovery.specs.declared.Answer.the-variants.{Found, Refused}
+use Rattle.discovery.specs.Copy.{areaBytes, present, readingIn}
+use Rattle.discovery.specs.Discovery.{recordAt, aloneOf, newestOf, togetherOf, sameDevice, sameUuids, decide, sized, discovery, copyOn, recordBytes, readAnswer, readBytes}
+use Rattle.discovery.proofs.Deciding.{decide-back, decide-front, decide-same, discovery-sized}
+use Rattle.discovery.proofs.Found.{with-room}
+use Rattle.update.specs.Demand.{Gives}
+use Rattle.update.proofs.Holding.{Holds, its-present}
+
+-- a found record is given
+pub gives : (f b : List ℕ) (s : Side) (x : Area) (h : Holding) (o : Other) (t : Time) (r : List ℕ) → discovery f b ≡ Found (recordAt s x h) o
+    → areaBytes (copyOn s f b) x (h .bytes) ≡ r → h .bytes ≡ length r → timeOf h ≡ t → Gives f b t r
+gives f b s x h o t r e a l w =
+    record {
+      found = recordAt s x h;
+      other = o;
+      answers = e;
+      long = l;
+      seconds = ap (λ (z : Time). z .seconds) w;
+      nanoseconds = ap (λ (z : Time). z .nanoseconds) w;
+      starts = a;
+      reads = λ out k. sym (with-room (discovery f b) (length out) (recordAt s x h) o e (omega arith));
+      copies = λ out k.
+          ap (λ (z : Answer). take (length r) (readBytes z f b out)) e
+          ∙ (ap (λ (z : List ℕ). take (length r) (splice out 0 z)) a
+          ∙ (ap (take (length r)) (splice-fits out 0 r (omega arith)) ∙ take-at r (drop (0 + length r) out) (length r) refl));
+    }
+
+module _ (f b : List ℕ) (z : sized f b ≡ true) where
+  -- the front's block is refused
+  pub back-found : {g : BlockFields} {p u : List ℕ} {y : Area} {k : Holding} {r : List ℕ} (n : ℕ) → readingIn f .verdict ≡ Verdict.Refused n
+      → Holds b g p u y k r → discovery f b ≡ Found (recordAt Back y k) (One n)
+  back-found {g} {p} {u} {y} {k} {r} n e h =
+      sym (discovery-sized f b z)
+      ∙ (ap₂ (λ v w. decide v w (sameUuids (readingIn f) (readingIn b)) f b) e (ap (λ (q : Reading). q .verdict) (h .reads))
+      ∙ ap (λ (q : Present). aloneOf Back q n) (its-present h))
+
+  -- the back's is
+  pub front-found : {g : BlockFields} {p u : List ℕ} {x : Area} {k : Holding} {r : List ℕ} (n : ℕ) → Holds f g p u x k r
+      → readingIn b .verdict ≡ Verdict.Refused n → discovery f b ≡ Found (recordAt Front x k) (One n)
+  front-found {g} {p} {u} {x} {k} {r} n h e =
+      sym (discovery-sized f b z)
+      ∙ (ap₂ (λ v w. decide v w (sameUuids (readingIn f) (readingIn b)) f b) (ap (λ (q : Reading). q .verdict) (h .reads)) e
+      ∙ ap (λ (q : Present). aloneOf Front q n) (its-present h))
+
+  module _ {g j : BlockFields} {p u : List ℕ} {x y : Area} {h k : Holding} {r q : List ℕ} (m : Holds f g p u x h r) (n : Holds b j p u y k q)
+      (one : sameDevice g j ≡ true) where
+    uuids : sameUuids (readingIn f) (readingIn b) ≡ true
+    uuids = ap₂ sameUuids (m .reads) (n .reads) ∙ and-both (same p p) (same u u) (same-refl p) (same-refl u)
+
+    both : discovery f b ≡ newestOf f b x h y k
+    both =
+        sym (discovery-sized f b z)
+        ∙ (sym
+        (decide-same (readingIn f .verdict) (readingIn b .verdict) (sameUuids (readingIn f) (readingIn b)) f b g j
+        (ap (λ (w : Reading). w .verdict) (m .reads)) (ap (λ (w : Reading). w .verdict) (n .reads))
+        (and-both (sameDevice g j) (sameUuids (readingIn f) (readingIn b)) one uuids))
+        ∙ ap₂ (togetherOf f b) (its-present m) (its-present n))
+
+    -- both hold the same record
+    pub both-found : sameTime (timeOf h) (timeOf k) ≡ true → r ≡ q → discovery f b ≡ Found (recordAt Front x h) Both
+    both-found t e =
+        both
+        ∙ ap₂
+        (λ (a c : Bool). cond a (cond c (Found (recordAt Front x h) Both) (Refused twoRecords))
+        (cond (laterThan (timeOf k) (timeOf h)) (Found (recordAt Back y k) Both) (Found (recordAt Front x h) Both)))
+        t (equal-same (areaBytes f x (h .bytes)) (areaBytes b y (k .bytes)) (m .bytes ∙ (e ∙ sym (n .bytes))))
+
+    -- the front's is later
+    pub later-found : laterThan (timeOf h) (timeOf k) ≡ true → discovery f b ≡ Found (recordAt Front x h) Both
+    later-found l =
+        both
+        ∙ ap₂
+        (λ (a c : Bool). cond a
+        (cond (same (areaBytes f x (h .bytes)) (areaBytes b y (k .bytes))) (Found (recordAt Front x h) Both) (Refused twoRecords))
+        (cond c (Found (recordAt Back y k) Both) (Found (recordAt Front x h) Both)))
+        (later-differs (timeOf h) (timeOf k) l) (later-asym (timeOf h) (timeOf k) l)

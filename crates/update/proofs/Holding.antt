@@ -1,0 +1,56 @@
+-- A copy that holds a record as its present one. Assumes nothing.
+use Prim.Native.Nat.{ℕ}
+use mathlib.Core.Path.{_≡_, refl, sym, ap, ap₂, _∙_}
+use mathlib.Core.Bool.{Bool, true, false, cond}
+use mathlib.Core.List.{List}
+use borrow.Author.Tests.{eq-eqb}
+use lib.Dec.{eqb}
+use lib.ListN.{length}
+use Rattle.checksum.specs.Crc as Crc
+use Rattle.layout.specs.declared.Area.{Area}
+use Rattle.layout.specs.declared.Area.the-variants.{A, B}
+use Rattle.block.specs.declared.Holding.{Holding}
+use Rattle.block.specs.declared.Entry.{Entry}
+use Rattle.block.specs.declared.Entry.the-variants.{Unused, Used}
+use Rattle.block.specs.declared.BlockFields.{BlockFields}
+use Rattle.block.specs.declared.Verdict.the-variants as Verdict
+use Rattle.block.specs.Entry.{laterThan, timeOf}
+use Rattle.block.specs.Writing.{holdingOf}
+use Rattle.block.proofs.Times.{later-asym}
+use Rattle.discovery.specs.declared.Present.the-variants.{At}
+use Rattle.discovery.specs.Copy.{areaBytes, entryIn, otherArea, wholeEntry, whole, newer, newest, present, readingIn}
+use Rattle.discovery.proofs.Presence.{present-newest}
+use Rattle.update.specs.Update.{withEntry}
+
+pub record Holds (c : List ℕ) (f : BlockFields) (p u : List ℕ) (x : Area) (h : Holding) (r : List ℕ) : Type 0 where
+  pub reads : readingIn c ≡ record { verdict = Verdict.Accepted f; pool = p; device = u }
+  pub area : newest f ≡ x
+  pub entry : entryIn f x ≡ Used h
+  pub bytes : areaBytes c x (h .bytes) ≡ r
+  pub sum : h .checksum ≡ Crc.checksum r
+  pub long : h .bytes ≡ length r
+
+module _ {c : List ℕ} {f : BlockFields} {p u : List ℕ} {x : Area} {h : Holding} {r : List ℕ} (k : Holds c f p u x h r) where
+  pub its-whole : whole c f x ≡ true
+  its-whole =
+      ap (wholeEntry c x) (k .entry)
+      ∙ eq-eqb (Crc.checksum (areaBytes c x (h .bytes))) (h .checksum) (ap Crc.checksum (k .bytes) ∙ sym (k .sum))
+
+  pub its-present : present c f ≡ At x h
+  its-present = sym (present-newest c f x h (sym (k .area)) its-whole (sym (ap holdingOf (k .entry))))
+
+-- the newest entry, after a later one was put beside it
+pub newest-changed : (f : BlockFields) (x : Area) (h k : Holding) → entryIn f x ≡ Used h → laterThan (timeOf k) (timeOf h) ≡ true
+    → newest (withEntry f (otherArea x) (Used k)) ≡ otherArea x
+unfolding newest
+newest-changed f A h k e l = ap (λ (b : Bool). cond b B A) (ap (newer (Used k)) e ∙ l)
+newest-changed f B h k e l = ap (λ (b : Bool). cond b B A) (ap (λ (z : Entry). newer z (Used k)) e ∙ later-asym (timeOf k) (timeOf h) l)
+
+pub entry-changed : (f : BlockFields) (y : Area) (e : Entry) → entryIn (withEntry f y e) y ≡ e
+entry-changed f A e = refl
+entry-changed f B e = refl
+
+-- an area that is whole has a used entry
+pub whole-used : (c : List ℕ) (x : Area) (e : Entry) → wholeEntry c x e ≡ true → e ≡ Used (holdingOf e)
+whole-used c x Unused w = absurd (mathlib.Core.Bool.true≢false (sym w))
+whole-used c x (Used h) w = refl

@@ -1,0 +1,10 @@
+-- The laws that callers cite.
+pub mod NewBlock
+pub mod Holding
+pub mod Discovering
+pub mod Padding
+pub mod OneSide
+pub mod InStep
+pub mod OneCopy
+pub mod Stores
+pub mod Demand

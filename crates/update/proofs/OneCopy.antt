@@ -1,0 +1,145 @@
+-- One copy of a device after a cut: it holds the old record where its block is old, the new one where its block is new and
+-- the area has landed. Assumes nothing.
+use Prim.Native.Nat.{ℕ, suc, _+_, _-_, _*_, _^_, _≤_, _<_}
+use mathlib.Core.Path.{_≡_, refl, sym, ap, ap₂, _∙_}
+use mathlib.Core.Bool.{Bool, true}
+use mathlib.Core.List.{List}
+use native.Mathlib.Omega.{arith}
+use borrow.Author.Tests.{eqb-true, leb-true}
+use lib.Dec.{leb, eqb}
+use lib.ListN.{length, take}
+use Rattle.endian.specs.Bytes.{window}
+use Rattle.endian.proofs.Parts.{length-window-fits}
+use Rattle.endian.proofs.Tests.{and-left, and-right}
+use Rattle.checksum.specs.Crc as Crc
+use Rattle.refusal.specs.Tests.{first, AllHold}
+use Rattle.refusal.proofs.Order.{first-zero}
+use Rattle.layout.specs.declared.Device.{Device}
+use Rattle.layout.specs.declared.Side.{Side}
+use Rattle.layout.specs.declared.Side.the-variants.{Front, Back}
+use Rattle.layout.specs.declared.Area.{Area}
+use Rattle.layout.specs.declared.Area.the-variants.{A, B}
+use Rattle.layout.specs.Limits.{recordLimit, lengthAllowed}
+use Rattle.layout.specs.Places.{headerSector, blockSector, areaSector, areaOffset, copyBytes}
+use Rattle.layout.proofs.Laws.{length-facts}
+use Rattle.block.specs.declared.Time.{Time}
+use Rattle.block.specs.declared.Holding.{Holding}
+use Rattle.block.specs.declared.Entry.{Entry}
+use Rattle.block.specs.declared.Entry.the-variants.{Unused, Used}
+use Rattle.block.specs.declared.BlockFields.{BlockFields}
+use Rattle.block.specs.Entry.{laterThan, timeOf, entryAllowed, differentTimes}
+use Rattle.block.specs.Block.{poolOf, uuidOf, fieldsOf, readTests, reading}
+use Rattle.block.specs.Writing.{holdingOf}
+use Rattle.block.proofs.Readings.{ascending, accepted-reading}
+use Rattle.discovery.specs.Copy.{blockIn, areaBytes, entryIn, otherArea, wholeEntry, whole, newest, readingIn}
+use Rattle.device.specs.Device.{Sectors, Sound, gather, areaSectors, copyFrom}
+use Rattle.device.proofs.Copies.{limit-sectors, length-copy, copy-block, copy-area, gather-same}
+use Rattle.update.specs.Update.{sectorsOf, sectorOf, holdingFor, withEntry, spare, newBlock}
+use Rattle.update.specs.Demand.{heldIn, recordIn}
+use Rattle.update.proofs.NewBlock.{new-reads}
+use Rattle.update.proofs.Holding.{Holds, newest-changed, entry-changed, whole-used}
+use Rattle.update.proofs.Padding.{gather-record, sectors-most}
+
+-- an area lies within a copy
+area-fits : (x : Area) → areaOffset x + recordLimit ≤ copyBytes
+unfolding areaOffset copyBytes
+area-fits A = omega arith
+area-fits B = omega arith
+
+-- the block's sector follows the header's first
+block-place : (s : Side) (v : Device) → 8 ≤ v .sectors → suc (headerSector s v) ≡ blockSector s v
+block-place Front v h = refl
+block-place Back v h = omega arith
+
+-- both entries of an accepted block are within their limits
+entry-allowed : (b : List ℕ) → first (readTests b) ≡ 0 → (x : Area) → entryAllowed (entryIn (fieldsOf b) x) ≡ true
+entry-allowed b ok x = go x (first-zero 0 (readTests b) (ascending b) ok .1 .1 .1 .1 .1 .1 .1 .1 .0)
+  where
+    f : BlockFields
+    f = fieldsOf b
+
+    go : (x : Area) → Rattle.block.specs.Entry.entriesAllowed (fieldsOf b .a) (fieldsOf b .b) ≡ true → entryAllowed (entryIn (fieldsOf b) x) ≡ true
+    go A w = and-left (entryAllowed (fieldsOf b .a)) _ w
+    go B w = and-left (entryAllowed (fieldsOf b .b)) _ (and-right (entryAllowed (fieldsOf b .a)) _ w)
+
+used-bytes : (e : Entry) (h : Holding) → e ≡ Used h → entryAllowed e ≡ true → h .bytes ≤ recordLimit
+used-bytes e h d w =
+    length-facts (h .bytes) (and-left (lengthAllowed (h .bytes)) (leb (h .nanoseconds) 999999999) (sym (ap entryAllowed d) ∙ w)) .1
+
+module _ (s : Side) (v : Device) (d : Sectors) (sd : Sound d) (big : 8 ≤ v .sectors) (ok : first (readTests (blockIn (copyFrom s v d))) ≡ 0)
+    (wh : whole (copyFrom s v d) (fieldsOf (blockIn (copyFrom s v d))) (newest (fieldsOf (blockIn (copyFrom s v d)))) ≡ true) where
+  c : List ℕ
+  c = copyFrom s v d
+
+  -- the newest entry is used
+  pub used : entryIn (fieldsOf (blockIn (copyFrom s v d))) (newest (fieldsOf (blockIn (copyFrom s v d)))) ≡ Used (heldIn (copyFrom s v d))
+  used = whole-used (copyFrom s v d) (newest (fieldsOf (blockIn (copyFrom s v d)))) _ wh
+
+  held-small : heldIn (copyFrom s v d) .bytes ≤ recordLimit
+  held-small =
+      used-bytes (entryIn (fieldsOf (blockIn (copyFrom s v d))) (newest (fieldsOf (blockIn (copyFrom s v d))))) (heldIn (copyFrom s v d)) used
+      (entry-allowed (blockIn (copyFrom s v d)) ok (newest (fieldsOf (blockIn (copyFrom s v d)))))
+
+  -- its record has the length that the entry says
+  pub held-long : heldIn (copyFrom s v d) .bytes ≡ length (recordIn (copyFrom s v d))
+  held-long =
+      let x : Area = newest (fieldsOf (blockIn (copyFrom s v d))) in
+      let n : length (copyFrom s v d) ≡ copyBytes = length-copy s v d sd in
+      let a : areaOffset x + recordLimit ≤ copyBytes = area-fits x in
+      let k : heldIn (copyFrom s v d) .bytes ≤ recordLimit = held-small in
+      sym (length-window-fits (copyFrom s v d) (areaOffset x) (heldIn (copyFrom s v d) .bytes) (omega arith))
+
+  held-sum : heldIn (copyFrom s v d) .checksum ≡ Crc.checksum (recordIn (copyFrom s v d))
+  held-sum =
+      sym
+      (eqb-true (Crc.checksum (recordIn (copyFrom s v d))) (heldIn (copyFrom s v d) .checksum)
+      (sym (ap (wholeEntry (copyFrom s v d) (newest (fieldsOf (blockIn (copyFrom s v d))))) used) ∙ wh))
+
+  module _ (e : Sectors) (se : Sound e) where
+    pub block-of : blockIn (copyFrom s v e) ≡ e (blockSector s v)
+    block-of = copy-block s v e se ∙ ap e (block-place s v big)
+
+    -- the block is old, and so are the sectors of the present area
+    pub old-held : e (blockSector s v) ≡ d (blockSector s v)
+        → ((i : ℕ) → i < areaSectors → e (areaSector s (newest (fieldsOf (blockIn (copyFrom s v d)))) v + i) ≡ d (areaSector s (newest (fieldsOf (blockIn (copyFrom s v d)))) v + i))
+        → Holds (copyFrom s v e) (fieldsOf (blockIn (copyFrom s v d))) (poolOf (blockIn (copyFrom s v d))) (uuidOf (blockIn (copyFrom s v d)))
+        (newest (fieldsOf (blockIn (copyFrom s v d)))) (heldIn (copyFrom s v d)) (recordIn (copyFrom s v d))
+    old-held b a =
+        let x : Area = newest (fieldsOf (blockIn (copyFrom s v d))) in
+        let n : ℕ = heldIn (copyFrom s v d) .bytes in
+        record {
+          reads =
+              ap reading (block-of ∙ (b ∙ sym (copy-block s v d sd ∙ ap d (block-place s v big))))
+              ∙ sym (accepted-reading (blockIn (copyFrom s v d)) ok);
+          area = refl;
+          entry = used;
+          bytes =
+              copy-area s v e se x n held-small
+              ∙ (ap (take n) (gather-same e d (areaSector s x v) areaSectors a) ∙ sym (copy-area s v d sd x n held-small));
+          sum = held-sum;
+          long = held-long;
+        }
+
+    -- the block is new, and the record's sectors have landed
+    pub new-held : (t : Time) (r : List ℕ) → t .seconds < 2 ^ 64 → leb (t .nanoseconds) 999999999 ≡ true → lengthAllowed (length r) ≡ true
+        → laterThan t (timeOf (heldIn (copyFrom s v d))) ≡ true
+        → e (blockSector s v) ≡ newBlock (copyFrom s v d) t r
+        → ((i : ℕ) → i < sectorsOf (length r) → e (areaSector s (spare (copyFrom s v d)) v + i) ≡ sectorOf r i)
+        → Holds (copyFrom s v e) (withEntry (fieldsOf (blockIn (copyFrom s v d))) (spare (copyFrom s v d)) (Used (holdingFor t r)))
+        (poolOf (blockIn (copyFrom s v d))) (uuidOf (blockIn (copyFrom s v d))) (spare (copyFrom s v d)) (holdingFor t r) r
+    new-held t r fits ns len later b a =
+        let y : Area = spare (copyFrom s v d) in
+        let l : length r ≤ recordLimit = length-facts (length r) len .1 in
+        let m : areaSectors * 512 ≡ recordLimit = limit-sectors in
+        record {
+          reads =
+              ap reading (block-of ∙ b) ∙ new-reads (copyFrom s v d) ok (heldIn (copyFrom s v d)) used t r fits ns len later;
+          area =
+              newest-changed (fieldsOf (blockIn (copyFrom s v d))) (newest (fieldsOf (blockIn (copyFrom s v d)))) (heldIn (copyFrom s v d)) (holdingFor t r) used later;
+          entry = entry-changed (fieldsOf (blockIn (copyFrom s v d))) y (Used (holdingFor t r));
+          bytes =
+              copy-area s v e se y (length r) l
+              ∙ gather-record e r (areaSector s y v) areaSectors (sectors-most (length r) areaSectors (omega arith)) a;
+          sum = refl;
+          long = refl;
+        }

@@ -1,0 +1,81 @@
+-- Demand 3: what a cut in an update leaves. `proofs/Demand.antt` proves `Cutting` and `Landing`. Assumes nothing.
+use Prim.Native.Nat.{ℕ, _^_, _≤_, _<_}
+use mathlib.Core.Path.{_≡_}
+use mathlib.Core.Bool.{true}
+use mathlib.Core.List.{List}
+use lib.ListN.{length, take}
+use Rattle.refusal.specs.Tests.{first}
+use Rattle.layout.specs.declared.Device.{Device}
+use Rattle.layout.specs.declared.Side.{Side}
+use Rattle.layout.specs.declared.Side.the-variants.{Front, Back}
+use Rattle.block.specs.declared.Time.{Time}
+use Rattle.block.specs.declared.Holding.{Holding}
+use Rattle.block.specs.Entry.{timeOf}
+use Rattle.block.specs.Block.{fieldsOf, readTests}
+use Rattle.block.specs.Writing.{holdingOf}
+use Rattle.discovery.specs.declared.Record.{Record}
+use Rattle.discovery.specs.declared.Other.{Other}
+use Rattle.discovery.specs.declared.Answer.the-variants.{Found}
+use Rattle.discovery.specs.Copy.{blockIn, areaBytes, entryIn, newest}
+use Rattle.discovery.specs.Discovery.{discovery, inStep, recordBytes, readAnswer, readBytes}
+use Rattle.device.specs.Device.{Sectors, Sound, landed, Cut, copyFrom}
+use Rattle.update.specs.Update.{deviceIn, updateNumber, newBlock, storeOf, groupStart}
+
+-- Discovery gives a record: it answers that length and time, the area it names starts with those bytes, and reading what it
+-- found into a buffer with room copies them to the buffer's start.
+pub record Gives (f b : List ℕ) (t : Time) (r : List ℕ) : Type 0 where
+  pub found : Record
+  pub other : Other
+  pub answers : discovery f b ≡ Found found other
+  pub long : found .bytes ≡ length r
+  pub seconds : found .seconds ≡ t .seconds
+  pub nanoseconds : found .nanoseconds ≡ t .nanoseconds
+  pub starts : recordBytes found f b ≡ r
+  pub reads : (out : List ℕ) → length r ≤ length out → readAnswer (discovery f b) (length out) ≡ Found found other
+  pub copies : (out : List ℕ) → length r ≤ length out → take (length r) (readBytes (discovery f b) f b out) ≡ r
+
+-- what the newest entry of a copy's block says, and the record of its area: the present one of copies in step
+abbrev pub heldIn : List ℕ → Holding
+heldIn c = holdingOf (entryIn (fieldsOf (blockIn c)) (newest (fieldsOf (blockIn c))))
+
+abbrev pub recordIn : List ℕ → List ℕ
+recordIn c = areaBytes c (newest (fieldsOf (blockIn c))) (heldIn c .bytes)
+
+-- any two copies in step, read from the device where their own S and L place them, and any update that is not refused
+pub record Start (v : Device) (d : Sectors) (t : Time) (r : List ℕ) : Type 0 where
+  pub sound : Sound d
+  pub placed : deviceIn (copyFrom Front v d) ≡ v
+  pub in-step : inStep (copyFrom Front v d) (copyFrom Back v d) ≡ true
+  pub fits : t .seconds < 2 ^ 64
+  pub not-refused : updateNumber (copyFrom Front v d) (copyFrom Back v d) t r ≡ 0
+
+-- a signature block equals neither of its versions and is still accepted
+abbrev pub Excused : Device → Sectors → Sectors → Time → List ℕ → Type 0
+Excused v d e t r =
+    (s : Side)
+    × (blockIn (copyFrom s v e) ≡ blockIn (copyFrom s v d) → ⊥)
+    × (blockIn (copyFrom s v e) ≡ newBlock (copyFrom s v d) t r → ⊥)
+    × (first (readTests (blockIn (copyFrom s v e))) ≡ 0)
+
+-- Whatever a cut in one of the four groups leaves, discovery gives the new record exactly when the front signature block
+-- stands in its new version, and otherwise the old record.
+abbrev pub Cutting : Type 0
+Cutting =
+    (v : Device) (d e : Sectors) (t : Time) (r : List ℕ) (g : ℕ) → Start v d t r → g < 4
+    → Cut (storeOf (copyFrom Front v d) (copyFrom Back v d) t r) (groupStart r g) (groupStart r (Prim.Native.Nat.suc g)) d e
+    → (Excused v d e t r → ⊥)
+    → (blockIn (copyFrom Front v e) ≡ newBlock (copyFrom Front v d) t r → Gives (copyFrom Front v e) (copyFrom Back v e) t r)
+    × ((blockIn (copyFrom Front v e) ≡ newBlock (copyFrom Front v d) t r → ⊥)
+    → Gives (copyFrom Front v e) (copyFrom Back v e) (timeOf (heldIn (copyFrom Front v d))) (recordIn (copyFrom Front v d)))
+
+-- the device after all stores
+abbrev pub after : Device → Sectors → Time → List ℕ → Sectors
+after v d t r = landed (storeOf (copyFrom Front v d) (copyFrom Back v d) t r) (groupStart r 4) d
+
+-- All stores landed: discovery gives the new record with its time, and the two copies are in step on it.
+abbrev pub Landing : Type 0
+Landing =
+    (v : Device) (d : Sectors) (t : Time) (r : List ℕ) → Start v d t r
+    → Gives (copyFrom Front v (after v d t r)) (copyFrom Back v (after v d t r)) t r
+    × ((inStep (copyFrom Front v (after v d t r)) (copyFrom Back v (after v d t r)) ≡ true)
+    × ((s : Side) → (recordIn (copyFrom s v (after v d t r)) ≡ r) × (timeOf (heldIn (copyFrom s v (after v d t r))) ≡ t)))

@@ -1,0 +1,3 @@
+-- What the contracts of `update` cite, and demand 3.
+pub mod Update
+pub mod Demand

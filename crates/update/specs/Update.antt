@@ -1,0 +1,92 @@
+-- An update: its refusals, its stores and their groups. Document 01, 'Updates, formatting and mending'. Assumes nothing.
+use Prim.Native.Nat.{ℕ, zero, suc, _+_, _-_, _*_, _/_}
+use mathlib.Core.Bool.{Bool, cond}
+use mathlib.Core.List.{List, [], _∷_, _++_}
+use lib.Dec.{leb, ltb}
+use lib.ListN.{length}
+use Rattle.endian.specs.Bytes.{window, zeros}
+use Rattle.checksum.specs.Crc as Crc
+use Rattle.refusal.specs.Numbers.{notInStep, areaEntry, notLater}
+use Rattle.refusal.specs.Tests.{Test, _or_, first}
+use Rattle.layout.specs.declared.Device.{Device}
+use Rattle.layout.specs.declared.Side.{Side}
+use Rattle.layout.specs.declared.Side.the-variants.{Front, Back}
+use Rattle.layout.specs.declared.Area.{Area}
+use Rattle.layout.specs.declared.Area.the-variants.{A, B}
+use Rattle.layout.specs.Places.{blockSector, areaSector}
+use Rattle.block.specs.declared.Time.{Time}
+use Rattle.block.specs.declared.Holding.{Holding}
+use Rattle.block.specs.declared.Entry.{Entry}
+use Rattle.block.specs.declared.Entry.the-variants.{Used}
+use Rattle.block.specs.declared.BlockFields.{BlockFields}
+use Rattle.block.specs.Entry.{laterThan}
+use Rattle.block.specs.Block.{deviceOf, poolOf, uuidOf, fieldsOf}
+use Rattle.block.specs.Writing.{blockOf}
+use Rattle.record.specs.Accept.{contentTests}
+use Rattle.discovery.specs.declared.Answer.{Answer}
+use Rattle.discovery.specs.declared.Answer.the-variants as Answer
+use Rattle.discovery.specs.Copy.{blockIn, otherArea, newest}
+use Rattle.discovery.specs.Discovery.{discovery, inStep}
+use Rattle.discovery.specs.Newest.{timeAt}
+use Rattle.device.specs.Device.{Store}
+
+-- the device that the copies are of
+abbrev pub deviceIn : List ℕ → Device
+deviceIn f = deviceOf (blockIn f)
+
+-- after discovery: in step, the time's nanoseconds, its order, and the record
+abbrev pub updateTests : List ℕ → List ℕ → Time → Time → List ℕ → List Test
+updateTests f b old t r =
+    (inStep f b or notInStep) ∷ (leb (t .nanoseconds) 999999999 or areaEntry) ∷ (laterThan t old or notLater) ∷ contentTests (deviceIn f) r
+
+-- discovery's number, or the first of those tests that fails
+abbrev pub numberAfter : Answer → List ℕ → List ℕ → Time → List ℕ → ℕ
+numberAfter (Answer.Refused n) f b t r = n
+numberAfter (Answer.Found q o) f b t r = first (updateTests f b (timeAt q) t r)
+
+-- the refusal number of an update of the copies f and b with a time and a record; 0 where it is not refused
+unfoldable pub updateNumber : List ℕ → List ℕ → Time → List ℕ → ℕ
+updateNumber f b t r = numberAfter (discovery f b) f b t r
+
+-- k = ceiling(length / 512)
+unfoldable pub sectorsOf : ℕ → ℕ
+sectorsOf n = (n + 511) / 512
+
+-- sector j of a record, the last one filled with zeros
+unfoldable pub sectorOf : List ℕ → ℕ → List ℕ
+sectorOf r j = window r (512 * j) 512 ++ zeros (512 - length (window r (512 * j) 512))
+
+-- what the new entry says
+abbrev pub holdingFor : Time → List ℕ → Holding
+holdingFor t r = record { seconds = t .seconds; nanoseconds = t .nanoseconds; bytes = length r; checksum = Crc.checksum r }
+
+-- a block's numbers with one entry changed
+abbrev pub withEntry : BlockFields → Area → Entry → BlockFields
+withEntry f A e = record { device = f .device; a = e; b = f .b }
+withEntry f B e = record { device = f .device; a = f .a; b = e }
+
+-- in each copy the record goes to the area that is not present there
+abbrev pub spare : List ℕ → Area
+spare c = otherArea (newest (fieldsOf (blockIn c)))
+
+-- the block changes only that area's entry and the CRC
+unfoldable pub newBlock : List ℕ → Time → List ℕ → List ℕ
+newBlock c t r = blockOf (poolOf (blockIn c)) (uuidOf (blockIn c)) (withEntry (fieldsOf (blockIn c)) (spare c) (Used (holdingFor t r)))
+
+-- the store with number i: front area, front signature block, back area, back signature block
+unfoldable pub storeOf : List ℕ → List ℕ → Time → List ℕ → ℕ → Store
+storeOf f b t r i =
+    cond (ltb i (sectorsOf (length r))) (record { sector = areaSector Front (spare f) (deviceIn f) + i; content = sectorOf r i })
+    (cond (ltb i (sectorsOf (length r) + 1)) (record { sector = blockSector Front (deviceIn f); content = newBlock f t r })
+    (cond (ltb i (sectorsOf (length r) + 1 + sectorsOf (length r)))
+    (record
+    { sector = areaSector Back (spare b) (deviceIn f) + (i - (sectorsOf (length r) + 1)); content = sectorOf r (i - (sectorsOf (length r) + 1)) })
+    (record { sector = blockSector Back (deviceIn f); content = newBlock b t r })))
+
+-- the four groups, by the number of their first store; the last number ends the last group
+abbrev pub groupStart : List ℕ → ℕ → ℕ
+groupStart r zero = 0
+groupStart r (suc zero) = sectorsOf (length r)
+groupStart r (suc (suc zero)) = sectorsOf (length r) + 1
+groupStart r (suc (suc (suc zero))) = sectorsOf (length r) + 1 + sectorsOf (length r)
+groupStart r (suc (suc (suc (suc g)))) = sectorsOf (length r) + 1 + sectorsOf (length r) + 1

@@ -1,0 +1,1 @@
+// Updates: the stores that bring a new record to both copies. Assumes nothing.
