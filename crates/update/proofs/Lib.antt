@@ -8,3 +8,4 @@ pub mod InStep
 pub mod OneCopy
 pub mod Stores
 pub mod Demand
+pub mod Number
