@@ -70,7 +70,7 @@ fn entry_in(f: BlockFields, x: Area) -> Entry
 }
 
 // The other area.
-fn other_area(x: Area) -> Area
+pub fn other_area(x: Area) -> Area
     ensures { λ r. ⌜ r ≡ otherArea x ⌝ }
 {
     match x {

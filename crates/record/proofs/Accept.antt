@@ -1,24 +1,23 @@
 -- Laws of the tests of a record. Assumes nothing.
-use Prim.Native.Nat.{ℕ, zero, suc, _+_, _-_, _*_, _/_, _%_, _^_, _≤_, _<_, min}
-use mathlib.Core.Path.{_≡_, refl, sym, ap, _∙_}
-use mathlib.Core.Bool.{Bool, true, false, cond, _&&_}
-use mathlib.Core.List.{List, [], _∷_, _++_}
+use Prim.Native.Nat.{ℕ, _+_, _-_, _≤_, _<_}
+use mathlib.Core.Path.{_≡_, sym, ap, _∙_}
+use mathlib.Core.Bool.{Bool, true, false, _&&_}
+use mathlib.Core.List.{List}
 use native.Mathlib.Decide.{decLe, decLt}
-use native.Mathlib.Nat.{le-trans, le-refl}
+use native.Mathlib.Nat.{le-refl}
 use native.Mathlib.Omega.{arith}
-use borrow.Author.Tests.{lt-ltb, le-ltb, le-leb, lt-leb, ltb-true, leb-true}
+use borrow.Author.Tests.{lt-ltb, le-ltb, le-leb, lt-leb}
 use lib.Dec.{leb, ltb}
-use lib.ListN.{length}
 use Rattle.layout.specs.declared.Device.{Device}
 use Rattle.layout.specs.Places.{dataStart, dataEnd}
 use Rattle.record.specs.declared.Segment.{Segment}
 use Rattle.record.specs.declared.Clash.{Clash}
 use Rattle.record.specs.declared.Clash.the-variants.{Pair, Nothing}
 use Rattle.record.specs.Answers.{firstClash}
-use Rattle.record.specs.Search.{every, least}
+use Rattle.record.specs.Search.{least}
 use Rattle.record.specs.Items.{count, segmentAt}
 use Rattle.record.specs.Accept.{inRange, meets, clashesAt, laterOf, clashesLater, earlierOf, apart}
-use Rattle.record.proofs.Search.{and-left, and-right, and-both, and-false-left, and-false-right, least-none, least-more, least-found, least-le, least-holds, least-below}
+use Rattle.record.proofs.Search.{and-false-left, and-false-right, least-none, least-more, least-found}
 
 -- a sum that the code does not take
 pub leb-shift : (a b e : ℕ) → a ≤ e → leb b (e - a) ≡ leb (a + b) e

@@ -1,28 +1,27 @@
 -- A record with a segment appended or removed: what it holds, and that it is accepted. Assumes nothing.
-use Prim.Native.Nat.{ℕ, zero, suc, _+_, _-_, _*_, _/_, _%_, _^_, _≤_, _<_}
+use Prim.Native.Nat.{ℕ, suc, _+_, _-_, _*_, _%_, _≤_, _<_}
 use mathlib.Core.Path.{_≡_, refl, sym, ap, subst, _∙_}
-use mathlib.Core.Bool.{Bool, true, false, cond, _&&_}
-use mathlib.Core.Logic.{_⊎_, inl, inr, ⊎-elim}
-use mathlib.Core.List.{List, [], _∷_, _++_, append-assoc, append-nil}
-use native.Mathlib.Decide.{decLe, decLt}
-use native.Mathlib.Nat.{add-zero, zero-add, le-refl, eq-or-lt-of-le, le-of-suc-le-suc}
-use native.Mathlib.Numerals.{add-one}
+use mathlib.Core.Bool.{true, cond}
+use mathlib.Core.Logic.{_⊎_, inl, inr}
+use mathlib.Core.List.{List, [], _∷_, _++_, append-nil}
+use native.Mathlib.Decide.{decLt}
+use native.Mathlib.Nat.{add-zero, zero-add, eq-or-lt-of-le}
 use native.Mathlib.Omega.{arith}
-use borrow.Author.Tests.{le-leb, leb-true, eqb-true, eq-eqb, lt-ltb, le-ltb}
+use borrow.Author.Tests.{le-leb, leb-true, eq-eqb, lt-ltb, le-ltb}
 use lib.Dec.{leb, ltb, eqb}
-use lib.ListN.{length, take, drop, length-append, length-take, length-drop}
-use lib.Seq.{drop-drop, drop-append-le, take-append-le, drop-append-add, length-take-le, take-take}
+use lib.ListN.{length, take, drop, length-append, length-drop}
+use lib.Seq.{take-at, drop-at, drop-drop, drop-append-le, take-append-le, drop-append-add, length-take-le}
 use Rattle.endian.specs.Bytes.{le, window, splice}
 use Rattle.endian.proofs.Parts.{window-window}
 use Rattle.layout.specs.declared.Device.{Device}
 use Rattle.layout.specs.Limits.{lengthAllowed, recordLimit}
 use Rattle.record.specs.declared.Segment.{Segment}
-use Rattle.record.specs.Items.{itemOf, isHead, headBytes, headRight, blockSize, blockSizeAllowed, itemBytes, count, place, sizeAt, kindAt, startAt, sectorsAt, kindKnown, segmentAt}
+use Rattle.record.specs.Items.{headBytes, headRight, blockSize, itemBytes, count, place, sizeAt, kindAt, startAt, sectorsAt, kindKnown, segmentAt, segmentsFrom, segments}
 use Rattle.record.specs.Accept.{mostSegments, itemRight}
 use Rattle.record.specs.Making.{segmentBytes, appended, removed}
-use Rattle.record.proofs.Search.{and-left, and-right, and-both}
+use Rattle.record.proofs.Search.{and-right, and-both}
 use Rattle.record.proofs.Making.{length-segment}
-use Rattle.record.proofs.RoundTrip.{Fit, segment-made, size-made}
+use Rattle.record.proofs.RoundTrip.{Fit, segment-made, size-made, length-from, from-split, from-same}
 use Rattle.record.proofs.Meaning.{InRange, Apart, Accepted}
 
 -- parts of joined lists
@@ -340,3 +339,55 @@ accepted-removed d s p a t =
               same-right (removed s p) i s (i + 1) (after-item s p (a .framed) (a .whole) t i (let m : p ≤ i = omega arith in m))
               ∙ a .items (i + 1) (let m : i + 1 < count s = omega arith in m)
         ]
+
+last-one : (s : List ℕ) (i : ℕ) (g : Segment) → segmentAt s i ≡ g → segmentsFrom s i 1 ≡ g ∷ []
+unfolding segmentsFrom
+last-one s i g h = ap (λ (z : Segment). z ∷ []) h
+
+-- APPENDED: the old segments in order, and the new one last
+pub segments-appended : (s : List ℕ) (g : Segment) → headBytes s ≤ length s → (length s - headBytes s) % itemBytes ≡ 0 → Fit g
+    → segments (appended s g) ≡ segments s ++ (g ∷ [])
+segments-appended s g f w h =
+    ap (segmentsFrom (appended s g) 0) (count-appended s g f w)
+    ∙ (from-split (appended s g) 0 (count s) 1
+    ∙ (ap (λ (z : List Segment). z ++ segmentsFrom (appended s g) (0 + count s) 1)
+    (from-same (appended s g) s 0 0 (count s) (λ k l. ap (segmentAt (appended s g)) (zero-add k) ∙ (appended-old s g f w k l ∙ ap (segmentAt s) (sym (zero-add k)))))
+    ∙ ap (λ (z : List Segment). segments s ++ z) (last-one (appended s g) (0 + count s) g (ap (segmentAt (appended s g)) (zero-add (count s)) ∙ appended-new s g f w h))))
+
+-- REMOVED: the other segments, in order
+pub segments-removed : (s : List ℕ) (p : ℕ) → headBytes s ≤ length s → (length s - headBytes s) % itemBytes ≡ 0 → p < count s
+    → segments (removed s p) ≡ take p (segments s) ++ drop (suc p) (segments s)
+segments-removed s p f w t =
+    let n : ℕ = count s - 1 - p in
+    let a : count (removed s p) ≡ p + n = count-removed s p f w t ∙ (let e : count s - 1 ≡ p + n = omega arith in e) in
+    let b : count s ≡ p + suc n = omega arith in
+    let c : count s ≡ suc p + n = omega arith in
+    let q : segments s ≡ segmentsFrom s 0 p ++ segmentsFrom s (0 + p) (suc n) = ap (segmentsFrom s 0) b ∙ from-split s 0 p (suc n) in
+    let r : segments s ≡ segmentsFrom s 0 (suc p) ++ segmentsFrom s (0 + suc p) n = ap (segmentsFrom s 0) c ∙ from-split s 0 (suc p) n in
+    let u : take p (segments s) ≡ segmentsFrom s 0 p =
+    ap (take p) q ∙ take-at (segmentsFrom s 0 p) (segmentsFrom s (0 + p) (suc n)) p (length-from s 0 p) in
+    let v : drop (suc p) (segments s) ≡ segmentsFrom s (0 + suc p) n =
+    ap (drop (suc p)) r ∙ drop-at (segmentsFrom s 0 (suc p)) (segmentsFrom s (0 + suc p) n) (suc p) (length-from s 0 (suc p)) in
+    let x : segmentsFrom (removed s p) 0 p ≡ segmentsFrom s 0 p =
+    from-same (removed s p) s 0 0 p (λ k l.
+    ap (segmentAt (removed s p)) (zero-add k) ∙ (removed-before s p f w t k l ∙ ap (segmentAt s) (sym (zero-add k)))) in
+    let y : segmentsFrom (removed s p) (0 + p) n ≡ segmentsFrom s (0 + suc p) n =
+    from-same (removed s p) s (0 + p) (0 + suc p) n (λ k l.
+    removed-after s p f w t (0 + p + k) (let m : p ≤ 0 + p + k = omega arith in m)
+    ∙ ap (segmentAt s) (let e : 0 + p + k + 1 ≡ 0 + suc p + k = omega arith in e)) in
+    ap (segmentsFrom (removed s p) 0) a
+    ∙ (from-split (removed s p) 0 p n
+    ∙ (ap (λ (z : List Segment). z ++ segmentsFrom (removed s p) (0 + p) n) (x ∙ sym u)
+    ∙ ap (λ (z : List Segment). take p (segments s) ++ z) (y ∙ sym v)))
+
+-- the most segments with a head of kind 16
+pub most-of-eight : mostSegments 8 ≡ 409
+unfolding mostSegments recordLimit
+most-of-eight = refl
+
+-- an accepted record has no more
+pub count-most : (d : Device) (s : List ℕ) → Accepted d s → count s ≤ mostSegments (headBytes s)
+unfolding mostSegments count lengthAllowed headBytes
+count-most d s a =
+    let l : length s ≤ recordLimit = leb-true (length s) recordLimit (and-right (leb 1 (length s)) (leb (length s) recordLimit) (a .bytes)) in
+    omega arith

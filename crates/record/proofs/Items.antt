@@ -1,8 +1,8 @@
 -- Laws of a record's items: where each stands and what is read there. Assumes nothing.
-use Prim.Native.Nat.{ℕ, zero, suc, _+_, _-_, _*_, _/_, _%_, _^_, _≤_, _<_, min}
-use mathlib.Core.Path.{_≡_, refl, sym, ap, _∙_}
-use mathlib.Core.Bool.{Bool, true, false, cond, true≢false}
-use mathlib.Core.List.{List, [], _∷_, _++_}
+use Prim.Native.Nat.{ℕ, _+_, _-_, _^_, _<_, min}
+use mathlib.Core.Path.{_≡_, sym, ap, _∙_}
+use mathlib.Core.Bool.{true, false, true≢false}
+use mathlib.Core.List.{List}
 use native.Mathlib.Decide.{decLe, decLt}
 use native.Mathlib.Omega.{arith}
 use borrow.Author.Tests.{ne-eqb}
@@ -11,7 +11,7 @@ use Rattle.endian.specs.Bytes.{le, window}
 use Rattle.endian.proofs.Numbers.{le-bound}
 use Rattle.endian.proofs.Parts.{length-window, window-past}
 use Rattle.record.specs.declared.Item.the-variants.{Unknown}
-use Rattle.record.specs.Items.{itemOf, isSegment, kindKnown, headBytes, count, place, kindAt, startAt, sectorsAt}
+use Rattle.record.specs.Items.{itemOf, isSegment, kindKnown, place, kindAt, startAt, sectorsAt}
 
 -- a number that is none of the known kinds
 pub item-unknown : (k : ℕ) → (k ≡ 1 → ⊥) → (k ≡ 2 → ⊥) → (k ≡ 3 → ⊥) → (k ≡ 4 → ⊥) → (k ≡ 16 → ⊥) → itemOf k ≡ Unknown

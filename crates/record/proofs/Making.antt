@@ -1,12 +1,12 @@
 -- Laws of making a record: parts written one after the other, and what is read of what was made. Assumes nothing.
-use Prim.Native.Nat.{ℕ, zero, suc, _+_, _-_, _*_, _/_, _%_, _^_, _≤_, _<_, min}
-use mathlib.Core.Path.{_≡_, refl, sym, ap, _∙_}
-use mathlib.Core.Bool.{Bool, true, false, cond, not, _&&_}
+use Prim.Native.Nat.{ℕ, _+_, _-_, _≤_, _<_, min}
+use mathlib.Core.Path.{_≡_, sym, ap, _∙_}
+use mathlib.Core.Bool.{Bool, true, false, not}
 use mathlib.Core.List.{List, [], _∷_, _++_, append-assoc}
 use native.Mathlib.Omega.{arith}
-use lib.ListN.{length, take, drop, length-append, length-take, length-drop}
+use lib.ListN.{length, take, drop, length-append}
 use lib.Seq.{take-at, drop-at, drop-drop, length-take-le}
-use Rattle.endian.specs.Bytes.{le, toLe, window, splice, fits, room}
+use Rattle.endian.specs.Bytes.{toLe, splice, fits, room}
 use Rattle.endian.proofs.Numbers.{length-toLe}
 use Rattle.endian.proofs.Parts.{splice-fits, splice-short, length-splice, room-fits, room-short}
 use Rattle.record.specs.declared.Segment.{Segment}

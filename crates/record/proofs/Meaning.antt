@@ -1,30 +1,29 @@
 -- What it means that a record is accepted, both ways; and what its clash search finds. Assumes nothing.
-use Prim.Native.Nat.{ℕ, zero, suc, _+_, _-_, _*_, _/_, _%_, _≤_, _<_, max}
+use Prim.Native.Nat.{ℕ, _+_, _-_, _%_, _≤_, _<_, max}
 use mathlib.Core.Path.{_≡_, refl, sym, ap, _∙_}
-use mathlib.Core.Bool.{Bool, true, false, cond, _&&_, true≢false}
+use mathlib.Core.Bool.{Bool, true, false, _&&_, true≢false}
 use mathlib.Core.Logic.{_⊎_, inl, inr, ⊎-elim}
-use mathlib.Core.List.{List, [], _∷_, _++_}
+use mathlib.Core.List.{List}
 use native.Mathlib.Decide.{decLe, decLt}
 use native.Mathlib.Nat.{le-refl, eq-or-lt-of-le}
 use native.Mathlib.Omega.{arith}
-use borrow.Author.Tests.{lt-ltb, le-ltb, le-leb, lt-leb, ltb-true, ltb-false, leb-true, leb-false, eqb-true, eq-eqb}
+use borrow.Author.Tests.{lt-ltb, le-ltb, le-leb, ltb-true, ltb-false, leb-true, leb-false, eqb-true}
 use lib.Dec.{leb, ltb, eqb}
 use lib.ListN.{length}
 use Rattle.refusal.specs.Tests.{first, AllHold}
 use Rattle.refusal.proofs.Order.{first-zero, first-all}
 use Rattle.layout.specs.declared.Device.{Device}
-use Rattle.layout.specs.Limits.{lengthAllowed, recordLimit, sizeAllowed, metadataAllowed, reservedAllowed}
+use Rattle.layout.specs.Limits.{lengthAllowed, sizeAllowed, metadataAllowed, reservedAllowed}
 use Rattle.layout.specs.Places.{dataStart, dataEnd}
 use Rattle.record.specs.declared.Segment.{Segment}
-use Rattle.record.specs.declared.Clash.{Clash}
 use Rattle.record.specs.declared.Clash.the-variants.{Pair, Nothing}
 use Rattle.record.specs.Search.{every, least}
-use Rattle.record.specs.Items.{headBytes, headRight, itemBytes, count, startAt, sectorsAt, segmentAt}
+use Rattle.record.specs.Items.{headBytes, headRight, itemBytes, count, sectorsAt, segmentAt}
 use Rattle.record.specs.Accept.{itemRight, wellFormed, inRange, rangeAt, allInRange, meets, clashesAt, clashesLater, laterOf, earlierOf, apart, recordTests}
 use Rattle.record.specs.Answers.{firstClash}
-use Rattle.record.specs.Sectors.{within, holds}
+use Rattle.record.specs.Sectors.{holds}
 use Rattle.record.proofs.Order.{record-ascending}
-use Rattle.record.proofs.Search.{and-left, and-right, and-both, every-at, every-all, least-le, least-holds, least-below, least-none}
+use Rattle.record.proofs.Search.{and-left, and-right, and-both, every-at, every-all, least-holds, least-below, least-none}
 use Rattle.record.proofs.Accept.{clash-later, clash-not-later}
 
 -- a segment that is not empty and lies in the data range

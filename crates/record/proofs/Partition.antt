@@ -2,13 +2,13 @@
 -- Assumes nothing.
 use Prim.Native.Nat.{ℕ, zero, suc, _+_, _-_, _*_, _%_, _≤_, _<_, min}
 use mathlib.Core.Path.{_≡_, refl, sym, ap, _∙_}
-use mathlib.Core.Bool.{Bool, true, false, cond, not, _&&_, true≢false, and-true}
-use mathlib.Core.Logic.{_⊎_, inl, inr, ⊎-elim}
-use mathlib.Core.List.{List, [], _∷_, _++_}
+use mathlib.Core.Bool.{Bool, true, false, not, _&&_, true≢false, and-true}
+use mathlib.Core.Logic.{_⊎_, inl, inr}
+use mathlib.Core.List.{List}
 use native.Mathlib.Decide.{decLe, decLt}
-use native.Mathlib.Nat.{le-refl, eq-or-lt-of-le, le-of-suc-le-suc, not-suc-le-zero}
+use native.Mathlib.Nat.{le-refl}
 use native.Mathlib.Omega.{arith}
-use borrow.Author.Tests.{lt-ltb, le-ltb, le-leb, lt-leb, ltb-true, ltb-false, leb-true, leb-false, eqb-true}
+use borrow.Author.Tests.{lt-ltb, le-ltb, le-leb, lt-leb, ltb-true, leb-true}
 use lib.Dec.{leb, ltb, eqb}
 use Rattle.refusal.specs.Tests.{first}
 use Rattle.layout.specs.declared.Device.{Device}
@@ -19,8 +19,8 @@ use Rattle.record.specs.Search.{every, total}
 use Rattle.record.specs.Items.{count, sectorsAt, segmentAt}
 use Rattle.record.specs.Accept.{recordTests}
 use Rattle.record.specs.Sectors.{within, holds, freeOf, isFree, one, parts, allocated, freeSectors}
-use Rattle.record.proofs.Search.{and-left, and-right, and-both, and-false-left, and-false-right, every-at, every-all, every-false, every-more, total-zero, total-suc, total-same}
-use Rattle.record.proofs.Meaning.{InRange, Apart, apart-holds, Accepted, accepted}
+use Rattle.record.proofs.Search.{and-left, and-right, and-both, and-false-left, and-false-right, total-zero, total-suc, total-same}
+use Rattle.record.proofs.Meaning.{Apart, apart-holds, Accepted, accepted}
 
 -- x in an interval, or not
 pub in-within : (a b x : ℕ) → a ≤ x → x < b → within a b x ≡ true
@@ -249,3 +249,57 @@ counted-of d s a =
 pub counted : (d : Device) (s : List ℕ) → first (recordTests d s) ≡ 0
     → allocated s + freeSectors d s + 2 * (8 + d .metadata + d .reserved) ≡ d .sectors
 counted d s h = counted-of d s (accepted d s h)
+
+-- the one segment that holds x
+pub record Holder (s : List ℕ) (x : ℕ) : Type 0 where
+  pub at : ℕ
+  pub there : at < count s
+  pub has : holds (segmentAt s at) x ≡ true
+  pub only : (j : ℕ) → j < count s → holds (segmentAt s j) x ≡ true → j ≡ at
+
+-- a sector that is not free of the first n segments is in one of them
+find-held : (s : List ℕ) (x n : ℕ) → freeOf s n x ≡ false → (i : ℕ) × ((i < n) × (holds (segmentAt s i) x ≡ true))
+find-held s x zero h = absurd (true≢false (sym (free-none s x) ∙ h))
+find-held s x (suc n) h = go (find-held s x n) (holds (segmentAt s n) x) refl
+  where
+    go : (freeOf s n x ≡ false → (i : ℕ) × ((i < n) × (holds (segmentAt s i) x ≡ true))) → (b : Bool) → holds (segmentAt s n) x ≡ b
+        → (i : ℕ) × ((i < suc n) × (holds (segmentAt s i) x ≡ true))
+    go r true e = (n, (le-refl (suc n), e))
+    go r false e =
+        let f : freeOf s n x ≡ false = sym (free-more s n x ∙ (ap (λ (q : Bool). freeOf s n x && not q) e ∙ and-true (freeOf s n x))) ∙ h in
+        let u : (i : ℕ) × ((i < n) × (holds (segmentAt s i) x ≡ true)) = r f in
+        let l : u .0 < n = u .1 .0 in
+        (u .0, ((let m : u .0 < suc n = omega arith in m), u .1 .1))
+
+-- the same theorem by cases; `partition` says that no two of them are so
+pub partition-cases : (d : Device) (s : List ℕ) → first (recordTests d s) ≡ 0 → (x : ℕ) → x < d .sectors
+    → (x < dataStart d) ⊎ ((dataEnd d ≤ x) ⊎ (Holder s x ⊎ (isFree d s x ≡ true)))
+partition-cases d s h x l =
+    elim (decLt x (dataStart d)) [
+      | yes k ↦ inl k
+      | no k ↦
+          elim (decLe (dataEnd d) x) [
+            | yes m ↦ inr (inl m)
+            | no m ↦ inr (inr (go (in-within (dataStart d) (dataEnd d) x (omega arith) (omega arith)) (freeOf s (count s) x) refl))
+          ]
+    ]
+  where
+    a : Accepted d s
+    a = accepted d s h
+
+    only : (i : ℕ) → i < count s → holds (segmentAt s i) x ≡ true → (j : ℕ) → j < count s → holds (segmentAt s j) x ≡ true → j ≡ i
+    only i p u j q v =
+        elim (decLt i j) [
+          | yes w ↦ absurd (apart-holds (segmentAt s i) (segmentAt s j) x (a .disjoint i j w q) u v)
+          | no w ↦
+              elim (decLt j i) [
+                | yes y ↦ absurd (apart-holds (segmentAt s j) (segmentAt s i) x (a .disjoint j i y p) v u)
+                | no y ↦ omega arith
+              ]
+        ]
+
+    go : within (dataStart d) (dataEnd d) x ≡ true → (b : Bool) → freeOf s (count s) x ≡ b → Holder s x ⊎ (isFree d s x ≡ true)
+    go w true e = inr (free-data d s x w ∙ e)
+    go w false e =
+        let u : (i : ℕ) × ((i < count s) × (holds (segmentAt s i) x ≡ true)) = find-held s x (count s) e in
+        inl (record { at = u .0; there = u .1 .0; has = u .1 .1; only = only (u .0) (u .1 .0) (u .1 .1) })

@@ -2,24 +2,26 @@
 use Prim.Native.Nat.{ℕ, zero, suc, _+_, _-_, _*_, _/_, _%_, _^_, _≤_, _<_}
 use mathlib.Core.Path.{_≡_, refl, sym, ap, _∙_}
 use mathlib.Core.Bool.{Bool, true, false, cond, _&&_, true≢false}
-use mathlib.Core.List.{List, [], _∷_, _++_, append-assoc, append-nil}
-use native.Mathlib.Nat.{le-refl, add-zero}
+use mathlib.Core.List.{List, [], _∷_, _++_, append-assoc}
+use native.Mathlib.Nat.{add-zero, zero-add, suc-add, eq-or-lt-of-le}
 use native.Mathlib.Omega.{arith}
 use native.Mathlib.Decide.{ℕ-discrete}
 use borrow.Author.Tests.{le-leb, leb-true, eqb-true, eq-eqb, ne-eqb}
-use Rattle.record.specs.declared.Item.the-variants.{ThinMetadata, ThinData, Spare, MetadataVolume, Head, Unknown}
+use Rattle.record.specs.declared.Item.the-variants.{ThinMetadata, ThinData, Spare, MetadataVolume, Unknown}
+use borrow.Author.Needs.{zero≤}
 use lib.Dec.{lit<, leb, eqb}
-use lib.ListN.{length, getD, take, drop, length-append, length-drop, take-append-drop, drop-of-length-le}
-use lib.Seq.{take-at, drop-at, drop-drop, take-all, take-add}
+use lib.ListN.{length, take, drop, length-append, take-append-drop, drop-of-length-le}
+use lib.Seq.{take-at, drop-at, drop-drop}
 use Rattle.endian.specs.Bytes.{le, toLe, window, Bytes}
 use Rattle.endian.proofs.Numbers.{length-toLe, le-toLe, toLe-le}
 use Rattle.endian.proofs.Parts.{length-window-fits, window-append, bytes-window}
 use Rattle.record.specs.declared.Segment.{Segment}
 use Rattle.record.specs.Search.{every}
-use Rattle.record.specs.Items.{itemOf, isHead, headBytes, headRight, blockSize, blockSizeAllowed, itemBytes, count, place, sizeAt, kindAt, startAt, sectorsAt, kindKnown, segmentAt, segmentsFrom, segments}
+use Rattle.record.specs.Items.{itemOf, isHead, headBytes, headRight, blockSize, blockSizeAllowed, count, place, sizeAt, kindAt, startAt, sectorsAt, kindKnown, segmentAt, segmentsFrom, segments}
 use Rattle.record.specs.Accept.{itemRight, wellFormed}
 use Rattle.record.specs.Making.{headOf, segmentBytes, allBytes, recordOf}
-use Rattle.record.proofs.Search.{and-left, and-right, every-at, every-all}
+use mathlib.Core.Logic.{⊎-elim}
+use Rattle.record.proofs.Search.{and-left, and-right, and-both, every-at, every-all}
 use Rattle.record.proofs.Making.{length-head, length-segment}
 
 -- a part between two others
@@ -198,3 +200,88 @@ record-again s b h =
           (λ j k. eqb-true (sizeAt s j) 20 (and-left (eqb (sizeAt s j) 20) (kindKnown (kindAt s j)) (every-at (itemRight s) (count s) q j (let z : j < count s = omega arith in z)))) b,
     )
     (rejoin s 0 8)
+
+-- lists of segments
+pub length-from : (s : List ℕ) (i n : ℕ) → length (segmentsFrom s i n) ≡ n
+unfolding segmentsFrom
+length-from s i zero = refl
+length-from s i (suc n) = ap suc (length-from s (suc i) n)
+
+pub from-split : (s : List ℕ) (i m n : ℕ) → segmentsFrom s i (m + n) ≡ segmentsFrom s i m ++ segmentsFrom s (i + m) n
+unfolding segmentsFrom
+from-split s i zero n = ap (segmentsFrom s i) (zero-add n) ∙ ap (λ (z : ℕ). segmentsFrom s z n) (sym (add-zero i))
+from-split s i (suc m) n =
+    ap (segmentsFrom s i) (suc-add m n)
+    ∙ ap (λ (z : List Segment). segmentAt s i ∷ z)
+    (from-split s (suc i) m n ∙ ap (λ (z : ℕ). segmentsFrom s (suc i) m ++ segmentsFrom s z n) (let e : suc i + m ≡ i + suc m = omega arith in e))
+
+pub from-same : (s t : List ℕ) (i j n : ℕ) → ((k : ℕ) → k < n → segmentAt s (i + k) ≡ segmentAt t (j + k)) → segmentsFrom s i n ≡ segmentsFrom t j n
+unfolding segmentsFrom
+from-same s t i j zero h = refl
+from-same s t i j (suc n) h =
+    let a : segmentAt s i ≡ segmentAt t j =
+    ap (segmentAt s) (sym (add-zero i)) ∙ (h 0 (let l : 0 < suc n = omega arith in l) ∙ ap (segmentAt t) (add-zero j)) in
+    let r : segmentsFrom s (suc i) n ≡ segmentsFrom t (suc j) n =
+    from-same s t (suc i) (suc j) n (λ k l.
+    ap (segmentAt s) (let e : suc i + k ≡ i + suc k = omega arith in e)
+    ∙ (h (suc k) (let m : suc k < suc n = omega arith in m) ∙ ap (segmentAt t) (let e : j + suc k ≡ suc j + k = omega arith in e))) in
+    ap (λ (z : Segment). z ∷ segmentsFrom s (suc i) n) a ∙ ap (λ (z : List Segment). segmentAt t j ∷ z) r
+
+record-is : (b : ℕ) (gs : List Segment) → recordOf b gs ≡ headOf b ++ allBytes gs
+unfolding recordOf
+record-is b gs = refl
+
+length-record : (b : ℕ) (gs : List Segment) → length (recordOf b gs) ≡ 8 + 20 * length gs
+length-record b gs =
+    let h : length (headOf b) ≡ 8 = length-head b in
+    let r : length (allBytes gs) ≡ 20 * length gs = length-all gs in
+    rw (record-is b gs, length-append) (omega arith)
+
+size-head : (b : ℕ) (gs : List Segment) → le (window (recordOf b gs) 0 2) ≡ 8
+unfolding recordOf headOf
+size-head b gs =
+    ap le (field (toLe 2 8 ++ toLe 2 16 ++ toLe 4 b ++ allBytes gs) [] (toLe 2 8) (toLe 2 16 ++ (toLe 4 b ++ allBytes gs)) 0 2 (simp append-assoc) refl (length-toLe 2 8))
+    ∙ le-toLe 2 8 (lit< tt)
+
+kind-head : (b : ℕ) (gs : List Segment) → le (window (recordOf b gs) 2 2) ≡ 16
+unfolding recordOf headOf
+kind-head b gs =
+    ap le (field (toLe 2 8 ++ toLe 2 16 ++ toLe 4 b ++ allBytes gs) (toLe 2 8) (toLe 2 16) (toLe 4 b ++ allBytes gs) 2 2 (simp append-assoc) (length-toLe 2 8) (length-toLe 2 16))
+    ∙ le-toLe 2 16 (lit< tt)
+
+-- every segment has a kind that a segment can have
+abbrev pub AllKnown : List Segment → Type 0
+AllKnown [] = Unit {0}
+AllKnown (g ∷ gs) = (kindKnown (g .kind) ≡ true) × AllKnown gs
+
+all-right : (gs : List Segment) (p : List ℕ) (i : ℕ) → length p ≡ 8 + 20 * i → AllFit gs → AllKnown gs → (j : ℕ) → i ≤ j → j < i + length gs
+    → itemRight (p ++ allBytes gs) j ≡ true
+unfolding allBytes itemRight
+all-right [] p i h f k j l m = absurd (omega arith)
+all-right (g ∷ gs) p i h f k j l m =
+    let e : length (segmentBytes g) ≡ 20 = length-segment g in
+    let n : length (p ++ segmentBytes g) ≡ 8 + 20 * suc i = rw length-append (omega arith) in
+    ⊎-elim
+    (λ (q : i ≡ j).
+    ap (itemRight (p ++ (segmentBytes g ++ allBytes gs))) (sym q)
+    ∙ and-both (eqb (sizeAt (p ++ (segmentBytes g ++ allBytes gs)) i) 20) (kindKnown (kindAt (p ++ (segmentBytes g ++ allBytes gs)) i))
+    (eq-eqb (sizeAt (p ++ (segmentBytes g ++ allBytes gs)) i) 20 (size-made p (allBytes gs) g i h))
+    (ap kindKnown (kind-made p (allBytes gs) g i h (f .0 .kind)) ∙ k .0))
+    (λ (q : i < j).
+    ap (λ (z : List ℕ). itemRight z j) (sym (append-assoc p (segmentBytes g) (allBytes gs)))
+    ∙ all-right gs (p ++ segmentBytes g) (suc i) n (f .1) (k .1) j q (omega arith))
+    (eq-or-lt-of-le l)
+
+-- what is made of an allowed block size and known kinds is well formed
+pub formed-made : (b : ℕ) (gs : List Segment) → blockSizeAllowed b ≡ true → b < 256 ^ 4 → AllFit gs → AllKnown gs → wellFormed (recordOf b gs) ≡ true
+unfolding wellFormed headBytes headRight itemOf
+formed-made b gs a h f k =
+    let l : length (recordOf b gs) ≡ 8 + 20 * length gs = length-record b gs in
+    let m : (length (recordOf b gs) - 8) % 20 ≡ 0 = omega arith in
+    let n : 8 ≤ length (recordOf b gs) = omega arith in
+    rw (le-leb 8 (length (recordOf b gs)) n, m, size-head b gs, kind-head b gs, block-made b gs h, a)
+    (every-all (itemRight (recordOf b gs)) (count (recordOf b gs)) (λ i q. item i (rw (count-made b gs) at q)))
+  where
+    item : (i : ℕ) → i < length gs → itemRight (recordOf b gs) i ≡ true
+    item i q =
+        rw (record-is b gs) (all-right gs (headOf b) 0 (length-head b) f k i zero≤ (rw zero-add q))

@@ -1,8 +1,8 @@
 -- Making a record: the bytes of a head and of a segment, and where they are laid. Assumes nothing.
-use Prim.Native.Nat.{ℕ, _+_, _*_}
+use Prim.Native.Nat.{ℕ, _+_}
 use mathlib.Core.Bool.{cond}
 use mathlib.Core.List.{List, [], _∷_, _++_}
-use lib.Dec.{leb, eqb}
+use lib.Dec.{eqb}
 use lib.ListN.{length, take, drop}
 use Rattle.refusal.specs.Numbers.{recordForm, sliceSize}
 use Rattle.refusal.specs.Tests.{Test, _or_, first}

@@ -1,6 +1,6 @@
 -- Tests of all numbers below a limit: whether each passes, which is the lowest that passes, and sums. Assumes nothing.
 use Prim.Native.Nat.{ℕ, zero, suc, _+_}
-use mathlib.Core.Bool.{Bool, true, false, cond, _&&_}
+use mathlib.Core.Bool.{Bool, true, cond, _&&_}
 use lib.Dec.{ltb}
 
 -- p holds of every number below n

@@ -2,20 +2,19 @@
 // numbers, read by position, and made. Assumes nothing.
 use layout::Device;
 ghost use mathlib.Core.Path.{_≡_};
-ghost use mathlib.Core.Bool.{_&&_};
-ghost use Prim.Native.Nat.{_+_, _*_, _≤_, _<_, min};
+ghost use Prim.Native.Nat.{_+_, min};
 ghost use lib.ListN.{length};
-ghost use lib.Dec.{leb, ltb};
+ghost use lib.Dec.{ltb};
 ghost use Rattle.refusal.specs.Tests.{first};
 ghost use Rattle.endian.specs.Bytes.{room, splice};
 ghost use Rattle.record.specs.Search.{every};
 ghost use Rattle.record.specs.Items.{itemOf, isSegment, isHead, kindKnown, headBytes, blockSize, blockSizeAllowed, headRight, itemBytes, count, place, sizeAt, kindAt, startAt, sectorsAt, segmentAt};
-ghost use Rattle.record.specs.Accept.{mostSegments, itemRight, wellFormed, inRange, allInRange, meets, clashesAt, laterOf, apart, contentTests, recordTests};
+ghost use Rattle.record.specs.Accept.{mostSegments, itemRight, wellFormed, inRange, allInRange, meets, laterOf, apart, contentTests, recordTests};
 ghost use Rattle.record.specs.Answers.{firstClash, segmentAnswer, countAnswer, headAnswer};
-ghost use Rattle.record.specs.Making.{headOf, segmentBytes, beginTests, begun};
+ghost use Rattle.record.specs.Making.{segmentBytes, beginTests, begun};
 
 // Bytes of a segment's item.
-const ITEM: usize = 20;
+pub const ITEM_BYTES: usize = 20;
 
 // A segment: its kind's number, its first sector, and its length in sectors.
 pub struct Segment {
@@ -146,14 +145,14 @@ pub fn count_of(s: &[u8]) -> usize
     if s.len() < h {
         return 0;
     }
-    (s.len() - h) / ITEM
+    (s.len() - h) / ITEM_BYTES
 }
 
 // The most segments of a record with the head of s.
 pub fn most_segments(s: &[u8]) -> usize
     ensures { λ r. ⌜ r ≡ mostSegments (headBytes (now (s .entry))) ⌝ }
 {
-    (layout::RECORD_LIMIT as usize - head_bytes(s)) / ITEM
+    (layout::RECORD_LIMIT as usize - head_bytes(s)) / ITEM_BYTES
 }
 
 // Where the segment at position i begins, or the end of s where that is past it.
@@ -161,13 +160,13 @@ pub fn place_in(s: &[u8], i: usize) -> usize
     ensures { λ r. ⌜ r ≡ min (place (now (s .entry)) i) (length (now (s .entry))) ⌝ }
 {
     let h = head_bytes(s);
-    if s.len() / ITEM < i {
+    if s.len() / ITEM_BYTES < i {
         return s.len();
     }
-    if s.len() < h + ITEM * i {
+    if s.len() < h + ITEM_BYTES * i {
         return s.len();
     }
-    h + ITEM * i
+    h + ITEM_BYTES * i
 }
 
 // The length of the item at position i, of any bytes.
@@ -239,7 +238,7 @@ pub fn well_formed(s: &[u8]) -> bool
     if s.len() < h {
         return false;
     }
-    let framed = ((s.len() - h) % ITEM == 0) & head_right(s);
+    let framed = ((s.len() - h) % ITEM_BYTES == 0) & head_right(s);
     framed & items_right(s)
 }
 
@@ -417,7 +416,7 @@ pub fn put_segment(out: &mut [u8], position: usize, g: Segment) -> u8
     ensures { λ _. ⌜ now (out .exit) ≡ splice (now (out .entry)) (place (now (out .entry)) position) (segmentBytes g) ⌝ }
 {
     let at = place_in(out, position);
-    if out.len() - at < ITEM {
+    if out.len() - at < ITEM_BYTES {
         return refusal::SLICE_SIZE;
     }
     endian::write_u16(out, at, 20);

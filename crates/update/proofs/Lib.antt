@@ -9,3 +9,5 @@ pub mod OneCopy
 pub mod Stores
 pub mod Demand
 pub mod Number
+pub mod Choosing
+pub mod Planning

@@ -1,13 +1,45 @@
 // An update: its refusal number, and what it stores. The copies are lent as discovery takes them. Assumes nothing.
-ghost use Prim.Native.Nat.{_*_, _+_};
 ghost use mathlib.Core.Path.{_≡_};
-ghost use mathlib.Core.Bool.{cond};
-ghost use lib.Dec.{eqb};
 ghost use lib.ListN.{length};
 ghost use Rattle.refusal.specs.Tests.{first};
-ghost use Rattle.update.specs.Update.{updateTests, updateNumber, sectorsOf, sectorOf};
+ghost use Rattle.update.specs.Update.{updateTests, updateNumber, sectorsOf, withEntry};
+ghost use Rattle.update.specs.Plan.{partOf, planned, storesIn, groupOf, sectorIn, partAnswer, partBytes, storeAnswer, storeBytes};
+use block::BlockFields;
+use block::Entry;
+use block::Holding;
 use block::Time;
 use discovery::Answer;
+use layout::Area;
+use layout::Device;
+use layout::Side;
+
+// What an update stores on one side: the record from sector `area` on, then at sector `block` a block with these numbers.
+pub struct Part {
+    pub area: u64,
+    pub block: u64,
+    pub fields: BlockFields,
+}
+
+// An update worked out once: the sectors that the record fills, and the two sides.
+pub struct Plan {
+    pub sectors: u32,
+    pub front: Part,
+    pub back: Part,
+}
+
+// What `work_out` answers.
+pub enum Planned {
+    Ready(Plan),
+    Refused(u8),
+}
+
+// What `store` answers: the sector that the lent bytes go to, or a refusal number.
+pub enum Given {
+    At(u64),
+    Refused(u8),
+}
+
+const LAST: u64 = 18446744073709551615;
 
 // The tests after discovery has found a record of time `old`.
 fn check_after(f: &[u8], b: &[u8], old: Time, t: Time, r: &[u8]) -> u8
@@ -50,4 +82,148 @@ pub fn sectors(n: u32) -> u32
     ensures { λ k. ⌜ k ≡ sectorsOf n ⌝ }
 {
     ((n as u64 + 511) / 512) as u32
+}
+
+// A block's numbers with one entry changed.
+fn with_entry(f: BlockFields, x: Area, e: Entry) -> BlockFields
+    ensures { λ r. ⌜ r ≡ withEntry f x e ⌝ }
+{
+    let d = f.device;
+    let a = f.a;
+    let b = f.b;
+    match x {
+        Area::A => BlockFields {
+            device: d,
+            a: e,
+            b: b,
+        },
+        Area::B => BlockFields {
+            device: d,
+            a: a,
+            b: e,
+        },
+    }
+}
+
+// One side of an update of a copy, with what the new entry says.
+fn side_part(w: Side, d: Device, c: &[u8], h: Holding) -> Part
+    ensures { λ p. ⌜ p ≡ partOf w d (now (c .entry)) h ⌝ }
+{
+    let x = block::fields(endian::window(c, 512, 512));
+    let y = discovery::other_area(discovery::newest(x));
+    let fields = with_entry(x, y, Entry::Used(h));
+    let area = layout::area_sector(w, y, d);
+    let block = layout::block_sector(w, d);
+    Part {
+        area: area,
+        block: block,
+        fields: fields,
+    }
+}
+
+// Works an update out: the plan of its stores, or its refusal number.
+pub fn work_out(f: &[u8], b: &[u8], t: Time, r: &[u8]) -> Planned
+    ensures { λ p. ⌜ p ≡ planned (now (f .entry)) (now (b .entry)) t (now (r .entry)) ⌝ }
+{
+    let n = check(f, b, t, r);
+    if n != 0 {
+        return Planned::Refused(n);
+    }
+    let bytes = r.len() as u32;
+    let h = Holding {
+        seconds: t.seconds,
+        nanoseconds: t.nanoseconds,
+        bytes: bytes,
+        checksum: checksum::checksum(r),
+    };
+    let x = block::fields(endian::window(f, 512, 512));
+    let k = sectors(bytes);
+    let front = side_part(Side::Front, x.device, f, h);
+    let back = side_part(Side::Back, x.device, b, h);
+    Planned::Ready(Plan {
+        sectors: k,
+        front: front,
+        back: back,
+    })
+}
+
+// How many stores a plan has.
+pub fn count(p: Plan) -> u64
+    ensures { λ n. ⌜ n ≡ storesIn p ⌝ }
+{
+    2 * (p.sectors as u64) + 2
+}
+
+// The group of a plan's store: 0 front area, 1 front block, 2 back area, 3 back block; 4 past the last store. A flush
+// belongs after the last store of each group.
+pub fn group(p: Plan, i: u64) -> u8
+    ensures { λ g. ⌜ g ≡ groupOf p i ⌝ }
+{
+    let k = p.sectors as u64;
+    if i < k {
+        return 0;
+    }
+    if i <= k {
+        return 1;
+    }
+    if i <= 2 * k {
+        return 2;
+    }
+    if i < count(p) {
+        return 3;
+    }
+    4
+}
+
+// Sector j of a record, as far as out has room for it, and zeros after it.
+fn put_sector(r: &[u8], j: u32, out: &mut [u8])
+    ensures { λ _. ⌜ now (out .exit) ≡ sectorIn (now (r .entry)) j (now (out .entry)) ⌝ }
+{
+    endian::clear(out);
+    endian::put(out, 0, endian::window(r, 512 * (j as usize), 512));
+}
+
+// Store j of one side's k + 1.
+fn put_part(p: Part, k: u32, c: &[u8], r: &[u8], j: u64, out: &mut [u8]) -> Given
+    ensures { λ g. ⌜ g ≡ partAnswer p k (now (c .entry)) j (now (out .entry)) ⌝ }
+    ensures { λ _. ⌜ now (out .exit) ≡ partBytes p k (now (c .entry)) (now (r .entry)) j (now (out .entry)) ⌝ }
+{
+    if j < k as u64 {
+        if LAST - j < p.area {
+            return Given::Refused(refusal::NO_STORE);
+        }
+        put_sector(r, j as u32, out);
+        return Given::At(p.area + j);
+    }
+    let s = endian::window(c, 512, 512);
+    let n = block::write(
+        out,
+        endian::window(s, 32, 32),
+        endian::window(s, 64, 32),
+        p.fields,
+    );
+    if n != 0 {
+        return Given::Refused(n);
+    }
+    Given::At(p.block)
+}
+
+// The store of a plan with number i, counted from 0: its 512 bytes into out, its sector as the answer. The copies and the
+// record are those that the plan was made of. 1 unless out has 512 bytes, 23 past the last store; a block that the writer
+// refuses gives its number. Then out stays.
+pub fn store(p: Plan, f: &[u8], b: &[u8], r: &[u8], i: u64, out: &mut [u8]) -> Given
+    ensures { λ g. ⌜ g ≡ storeAnswer p (now (f .entry)) (now (b .entry)) i (now (out .entry)) ⌝ }
+    ensures { λ _. ⌜ now (out .exit) ≡ storeBytes p (now (f .entry)) (now (b .entry)) (now (r .entry)) i (now (out .entry)) ⌝ }
+{
+    if out.len() != 512 {
+        return Given::Refused(refusal::SLICE_SIZE);
+    }
+    if count(p) <= i {
+        return Given::Refused(refusal::NO_STORE);
+    }
+    let k = p.sectors;
+    if i <= k as u64 {
+        return put_part(p.front, k, f, r, i, out);
+    }
+    put_part(p.back, k, b, r, i - (k as u64 + 1), out)
 }

@@ -4,9 +4,6 @@ use mathlib.Core.Path.{sym, ap, _∙_}
 use borrow.Author.Needs.{needs}
 use Rattle.record.proofs.all_apart.Statement.{statement}
 use Rattle.record.proofs.all_apart.Tie as tie
-use Rattle.record.proofs.all_apart.Reads as reads
-use Rattle.record.proofs.all_apart.Lts as lts
-use Rattle.record.proofs.first_clash.Reads as first-clash-reads
 
 first-clash-requires : tie.Need-first-clash-requires
 first-clash-requires c κs = search needs

@@ -7,16 +7,11 @@ use Rattle.layout.specs.declared.Device.{Device}
 use borrow.Author.Needs.{needs}
 use native.Mathlib.Omega.{arith}
 use mathlib.Core.List.{List}
-use mathlib.Core.Bool.{true, false}
-use mathlib.Core.Path.{_≡_, sym, ap, _∙_}
-use Prim.Native.Nat.{ℕ, _≤_, _<_, _-_}
+use mathlib.Core.Bool.{true}
+use mathlib.Core.Path.{_≡_, ap, _∙_}
+use Prim.Native.Nat.{ℕ, _≤_, _-_}
 use Rattle.record.proofs.all_in_range.Statement.{statement}
 use Rattle.record.proofs.all_in_range.Tie as tie
-use Rattle.record.proofs.all_in_range.Reads as reads
-use Rattle.record.proofs.all_in_range.Lts as lts
-use Rattle.record.proofs.count_of.Reads as count-of-reads
-use Rattle.record.proofs.in_range.Reads as in-range-reads
-use Rattle.record.proofs.segment_at.Reads as segment-at-reads
 
 abbrev Inv-loop : tie.InvT-loop
 Inv-loop d s n i₀ i = (i ≤ n) × (every (rangeAt d s) i ≡ true)

@@ -6,8 +6,6 @@ use mathlib.Core.Path.{sym}
 use native.Mathlib.Omega.{arith}
 use Rattle.record.proofs.before_end.Statement.{statement}
 use Rattle.record.proofs.before_end.Tie as tie
-use Rattle.record.proofs.before_end.Reads as reads
-use Rattle.record.proofs.before_end.Lts as lts
 
 returns : tie.Need-returns
 returns c =

@@ -3,11 +3,6 @@ use Rattle.record.proofs.Making.{begin-kind, begin-short, begin-written
 use borrow.Author.Needs.{needs}
 use Rattle.record.proofs.begin.Statement.{statement}
 use Rattle.record.proofs.begin.Tie as tie
-use Rattle.record.proofs.begin.Reads as reads
-use Rattle.record.proofs.begin.Lts as lts
-use Rattle.endian.proofs.write_u16.Reads as write-u16-reads
-use Rattle.endian.proofs.write_u32.Reads as write-u32-reads
-use Rattle.record.proofs.block_size_allowed.Reads as block-size-allowed-reads
 
 block-size-allowed-requires : tie.Need-block-size-allowed-requires
 block-size-allowed-requires c κs = search needs

@@ -3,9 +3,6 @@ use Rattle.record.specs.Items.{blockSize}
 use borrow.Author.Needs.{needs}
 use Rattle.record.proofs.block_size_of.Statement.{statement}
 use Rattle.record.proofs.block_size_of.Tie as tie
-use Rattle.record.proofs.block_size_of.Reads as reads
-use Rattle.record.proofs.block_size_of.Lts as lts
-use Rattle.endian.proofs.read_u32.Reads as read-u32-reads
 
 read-u32-requires : tie.Need-read-u32-requires
 read-u32-requires c κs = search needs

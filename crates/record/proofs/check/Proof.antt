@@ -4,10 +4,6 @@ use Rattle.record.specs.Accept.{contentTests}
 use borrow.Author.Needs.{needs}
 use Rattle.record.proofs.check.Statement.{statement}
 use Rattle.record.proofs.check.Tie as tie
-use Rattle.record.proofs.check.Reads as reads
-use Rattle.record.proofs.check.Lts as lts
-use Rattle.layout.proofs.check.Reads as check-reads
-use Rattle.record.proofs.check_content.Reads as check-content-reads
 
 check-requires : tie.Need-check-requires
 check-requires c κs = search needs

@@ -4,11 +4,6 @@ use mathlib.Core.Path.{sym}
 use borrow.Author.Needs.{needs}
 use Rattle.record.proofs.check_content.Statement.{statement}
 use Rattle.record.proofs.check_content.Tie as tie
-use Rattle.record.proofs.check_content.Reads as reads
-use Rattle.record.proofs.check_content.Lts as lts
-use Rattle.record.proofs.all_apart.Reads as all-apart-reads
-use Rattle.record.proofs.all_in_range.Reads as all-in-range-reads
-use Rattle.record.proofs.well_formed.Reads as well-formed-reads
 
 length-allowed-requires : tie.Need-length-allowed-requires
 length-allowed-requires c κs = search needs

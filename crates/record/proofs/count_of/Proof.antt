@@ -4,9 +4,6 @@ use Rattle.record.specs.Items.{count, headBytes}
 use borrow.Author.Needs.{needs}
 use Rattle.record.proofs.count_of.Statement.{statement}
 use Rattle.record.proofs.count_of.Tie as tie
-use Rattle.record.proofs.count_of.Reads as reads
-use Rattle.record.proofs.count_of.Lts as lts
-use Rattle.record.proofs.head_bytes.Reads as head-bytes-reads
 
 head-bytes-requires : tie.Need-head-bytes-requires
 head-bytes-requires c κs = search needs

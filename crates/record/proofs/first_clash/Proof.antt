@@ -1,20 +1,16 @@
 -- `record::first_clash` meets its contract: no position that was passed clashes with a later one. Assumes nothing.
 use Rattle.record.proofs.Accept.{earlier-more, earlier-found, earlier-none, clash-pair, clash-nothing}
 use Rattle.record.proofs.Search.{least-zero}
-use Rattle.record.specs.Accept.{clashesLater, laterOf, earlierOf}
+use Rattle.record.specs.Accept.{clashesLater, laterOf}
 use Rattle.record.specs.Items.{count}
 use Rattle.record.specs.Search.{least}
 use borrow.Author.Needs.{needs}
 use native.Mathlib.Omega.{arith}
 use mathlib.Core.List.{List}
-use mathlib.Core.Path.{_≡_, sym, ap, _∙_}
+use mathlib.Core.Path.{_≡_, sym}
 use Prim.Native.Nat.{ℕ, _≤_, _<_, _-_}
 use Rattle.record.proofs.first_clash.Statement.{statement}
 use Rattle.record.proofs.first_clash.Tie as tie
-use Rattle.record.proofs.first_clash.Reads as reads
-use Rattle.record.proofs.first_clash.Lts as lts
-use Rattle.record.proofs.count_of.Reads as count-of-reads
-use Rattle.record.proofs.later_of.Reads as later-of-reads
 
 abbrev Inv-loop : tie.InvT-loop
 Inv-loop s n i₀ i = (i ≤ n) × (least (clashesLater s) i ≡ i)

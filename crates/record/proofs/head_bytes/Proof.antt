@@ -3,8 +3,6 @@ use borrow.Author.Needs.{needs}
 use Rattle.record.specs.Items.{headBytes}
 use Rattle.record.proofs.head_bytes.Statement.{statement}
 use Rattle.record.proofs.head_bytes.Tie as tie
-use Rattle.record.proofs.head_bytes.Reads as reads
-use Rattle.record.proofs.head_bytes.Lts as lts
 
 returns : tie.Need-returns
 unfolding headBytes

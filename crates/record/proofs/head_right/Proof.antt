@@ -1,18 +1,8 @@
-use Rattle.record.specs.Items.{isHead, itemOf, blockSizeAllowed}
-use mathlib.Core.Path.{ap, _∙_}
-use mathlib.Core.Bool.{Bool}
 -- `record::head_right` meets its contract. Assumes nothing.
 use Rattle.record.specs.Items.{headRight}
 use borrow.Author.Needs.{needs}
 use Rattle.record.proofs.head_right.Statement.{statement}
 use Rattle.record.proofs.head_right.Tie as tie
-use Rattle.record.proofs.head_right.Reads as reads
-use Rattle.record.proofs.head_right.Lts as lts
-use Rattle.endian.proofs.read_u16.Reads as read-u16-reads
-use Rattle.record.proofs.block_size_allowed.Reads as block-size-allowed-reads
-use Rattle.record.proofs.block_size_of.Reads as block-size-of-reads
-use Rattle.record.proofs.is_head.Reads as is-head-reads
-use Rattle.record.proofs.item_of.Reads as item-of-reads
 
 read-u16-requires : tie.Need-read-u16-requires
 read-u16-requires c κs = search needs

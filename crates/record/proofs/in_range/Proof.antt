@@ -3,14 +3,10 @@ use Prim.Native.Nat.{_<_, _≤_}
 -- `record::in_range` meets its contract. Assumes nothing.
 use Rattle.record.proofs.Accept.{range-past, range-by}
 use native.Mathlib.Omega.{arith}
-use mathlib.Core.Path.{sym, _∙_}
+use mathlib.Core.Path.{sym}
 use borrow.Author.Needs.{needs}
 use Rattle.record.proofs.in_range.Statement.{statement}
 use Rattle.record.proofs.in_range.Tie as tie
-use Rattle.record.proofs.in_range.Reads as reads
-use Rattle.record.proofs.in_range.Lts as lts
-use Rattle.layout.proofs.data_end.Reads as data-end-reads
-use Rattle.layout.proofs.data_start.Reads as data-start-reads
 
 data-end-requires : tie.Need-data-end-requires
 data-end-requires c κs = search needs

@@ -4,8 +4,6 @@ use Rattle.record.proofs.Items.{item-unknown}
 use Rattle.record.specs.Items.{itemOf}
 use Rattle.record.proofs.item_of.Statement.{statement}
 use Rattle.record.proofs.item_of.Tie as tie
-use Rattle.record.proofs.item_of.Reads as reads
-use Rattle.record.proofs.item_of.Lts as lts
 
 returns : tie.Need-returns
 unfolding itemOf

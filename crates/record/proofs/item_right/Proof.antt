@@ -1,15 +1,8 @@
-use Rattle.record.specs.Items.{kindKnown}
-use mathlib.Core.Path.{ap, _∙_}
 -- `record::item_right` meets its contract. Assumes nothing.
 use Rattle.record.specs.Accept.{itemRight}
 use borrow.Author.Needs.{needs}
 use Rattle.record.proofs.item_right.Statement.{statement}
 use Rattle.record.proofs.item_right.Tie as tie
-use Rattle.record.proofs.item_right.Reads as reads
-use Rattle.record.proofs.item_right.Lts as lts
-use Rattle.record.proofs.kind_at.Reads as kind-at-reads
-use Rattle.record.proofs.kind_known.Reads as kind-known-reads
-use Rattle.record.proofs.size_at.Reads as size-at-reads
 
 size-at-requires : tie.Need-size-at-requires
 size-at-requires c κs = search needs

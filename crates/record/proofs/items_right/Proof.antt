@@ -6,15 +6,11 @@ use Rattle.record.specs.Search.{every}
 use borrow.Author.Needs.{needs}
 use native.Mathlib.Omega.{arith}
 use mathlib.Core.List.{List}
-use mathlib.Core.Bool.{true, false}
-use mathlib.Core.Path.{_≡_, sym, ap, _∙_}
-use Prim.Native.Nat.{ℕ, _≤_, _<_, _-_}
+use mathlib.Core.Bool.{true}
+use mathlib.Core.Path.{_≡_}
+use Prim.Native.Nat.{ℕ, _≤_, _-_}
 use Rattle.record.proofs.items_right.Statement.{statement}
 use Rattle.record.proofs.items_right.Tie as tie
-use Rattle.record.proofs.items_right.Reads as reads
-use Rattle.record.proofs.items_right.Lts as lts
-use Rattle.record.proofs.count_of.Reads as count-of-reads
-use Rattle.record.proofs.item_right.Reads as item-right-reads
 
 abbrev Inv-loop : tie.InvT-loop
 Inv-loop s n i₀ i = (i ≤ n) × (every (itemRight s) i ≡ true)

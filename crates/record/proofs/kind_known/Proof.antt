@@ -5,10 +5,6 @@ use Rattle.record.specs.Items.{kindKnown}
 use borrow.Author.Needs.{needs}
 use Rattle.record.proofs.kind_known.Statement.{statement}
 use Rattle.record.proofs.kind_known.Tie as tie
-use Rattle.record.proofs.kind_known.Reads as reads
-use Rattle.record.proofs.kind_known.Lts as lts
-use Rattle.record.proofs.is_segment.Reads as is-segment-reads
-use Rattle.record.proofs.item_of.Reads as item-of-reads
 
 item-of-requires : tie.Need-item-of-requires
 item-of-requires c κs = search needs

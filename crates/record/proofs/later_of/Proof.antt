@@ -1,21 +1,15 @@
 -- `record::later_of` meets its contract: no position that was passed clashes with i. Assumes nothing.
 use Rattle.record.proofs.Accept.{clash-begin, clash-more, later-found, later-none, later-past}
-use Rattle.record.specs.Accept.{clashesAt, laterOf, meets}
+use Rattle.record.specs.Accept.{clashesAt, meets}
 use Rattle.record.specs.Items.{count, segmentAt}
 use Rattle.record.specs.Search.{least}
 use borrow.Author.Needs.{needs}
 use native.Mathlib.Omega.{arith}
 use mathlib.Core.List.{List}
-use mathlib.Core.Bool.{true, false}
-use mathlib.Core.Path.{_≡_, sym, ap, _∙_}
+use mathlib.Core.Path.{_≡_, sym, _∙_}
 use Prim.Native.Nat.{ℕ, _≤_, _<_, _-_}
 use Rattle.record.proofs.later_of.Statement.{statement}
 use Rattle.record.proofs.later_of.Tie as tie
-use Rattle.record.proofs.later_of.Reads as reads
-use Rattle.record.proofs.later_of.Lts as lts
-use Rattle.record.proofs.count_of.Reads as count-of-reads
-use Rattle.record.proofs.meet.Reads as meet-reads
-use Rattle.record.proofs.segment_at.Reads as segment-at-reads
 
 abbrev Inv-loop : tie.InvT-loop
 Inv-loop s i n a j₀ j = (j ≤ n) × (i < j) × (least (clashesAt s i) j ≡ j)

@@ -3,9 +3,6 @@ use Rattle.record.specs.Accept.{meets}
 use borrow.Author.Needs.{needs}
 use Rattle.record.proofs.meet.Statement.{statement}
 use Rattle.record.proofs.meet.Tie as tie
-use Rattle.record.proofs.meet.Reads as reads
-use Rattle.record.proofs.meet.Lts as lts
-use Rattle.record.proofs.before_end.Reads as before-end-reads
 
 before-end-requires : tie.Need-before-end-requires
 before-end-requires c κs = search needs

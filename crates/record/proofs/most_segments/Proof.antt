@@ -8,9 +8,6 @@ use native.Mathlib.Omega.{arith}
 use borrow.Author.Needs.{needs}
 use Rattle.record.proofs.most_segments.Statement.{statement}
 use Rattle.record.proofs.most_segments.Tie as tie
-use Rattle.record.proofs.most_segments.Reads as reads
-use Rattle.record.proofs.most_segments.Lts as lts
-use Rattle.record.proofs.head_bytes.Reads as head-bytes-reads
 
 head-bytes-requires : tie.Need-head-bytes-requires
 head-bytes-requires c κs = search needs

@@ -4,9 +4,6 @@ use Rattle.record.specs.Items.{place, headBytes}
 use borrow.Author.Needs.{needs}
 use Rattle.record.proofs.place_in.Statement.{statement}
 use Rattle.record.proofs.place_in.Tie as tie
-use Rattle.record.proofs.place_in.Reads as reads
-use Rattle.record.proofs.place_in.Lts as lts
-use Rattle.record.proofs.head_bytes.Reads as head-bytes-reads
 
 head-bytes-requires : tie.Need-head-bytes-requires
 head-bytes-requires c κs = search needs

@@ -1,17 +1,9 @@
 -- `record::put_segment` meets its contract. Assumes nothing.
 use Rattle.record.proofs.Making.{put-short, put-written}
-use lib.ListN.{length}
-use native.Mathlib.Omega.{arith}
-use mathlib.Core.List.{List}
-use Prim.Native.Nat.{ℕ, _≤_, _-_}
+use Prim.Native.Nat.{_-_}
 use borrow.Author.Needs.{needs}
 use Rattle.record.proofs.put_segment.Statement.{statement}
 use Rattle.record.proofs.put_segment.Tie as tie
-use Rattle.record.proofs.put_segment.Reads as reads
-use Rattle.record.proofs.put_segment.Lts as lts
-use Rattle.endian.proofs.write_u16.Reads as write-u16-reads
-use Rattle.endian.proofs.write_u64.Reads as write-u64-reads
-use Rattle.record.proofs.place_in.Reads as place-in-reads
 
 place-in-requires : tie.Need-place-in-requires
 place-in-requires c κs = search needs

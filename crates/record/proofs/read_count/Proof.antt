@@ -5,14 +5,9 @@ use Rattle.record.specs.Items.{count}
 use Rattle.record.specs.declared.Counted.the-variants.{Segments, Refused}
 use Rattle.refusal.specs.Tests.{first}
 use mathlib.Core.Path.{ap, _∙_}
-use Prim.Native.Nat.{ℕ}
 use borrow.Author.Needs.{needs}
 use Rattle.record.proofs.read_count.Statement.{statement}
 use Rattle.record.proofs.read_count.Tie as tie
-use Rattle.record.proofs.read_count.Reads as reads
-use Rattle.record.proofs.read_count.Lts as lts
-use Rattle.record.proofs.check.Reads as check-reads
-use Rattle.record.proofs.count_of.Reads as count-of-reads
 
 check-requires : tie.Need-check-requires
 check-requires c κs = search needs

@@ -5,14 +5,9 @@ use Rattle.record.specs.Items.{blockSize}
 use Rattle.record.specs.declared.Heading.the-variants.{BlockSize, Refused}
 use Rattle.refusal.specs.Tests.{first}
 use mathlib.Core.Path.{ap, _∙_}
-use Prim.Native.Nat.{ℕ}
 use borrow.Author.Needs.{needs}
 use Rattle.record.proofs.read_head.Statement.{statement}
 use Rattle.record.proofs.read_head.Tie as tie
-use Rattle.record.proofs.read_head.Reads as reads
-use Rattle.record.proofs.read_head.Lts as lts
-use Rattle.record.proofs.block_size_of.Reads as block-size-of-reads
-use Rattle.record.proofs.check.Reads as check-reads
 
 check-requires : tie.Need-check-requires
 check-requires c κs = search needs

@@ -1,4 +1,3 @@
-use Rattle.refusal.specs.Numbers.{noSegment}
 use Rattle.record.proofs.Order.{position-past, position-there}
 -- `record::read_segment` meets its contract. Assumes nothing.
 use Rattle.record.proofs.Order.{answer-no, answer-yes, more-no, more-yes}
@@ -7,22 +6,14 @@ use Rattle.record.specs.Accept.{recordTests}
 use Rattle.record.specs.Items.{count, segmentAt}
 use Rattle.record.specs.declared.Found.the-variants.{At, Refused}
 use Rattle.layout.specs.declared.Device.{Device}
-use Rattle.refusal.proofs.Order.{first-pass, first-fail, first-nil}
 use Rattle.refusal.specs.Tests.{first}
-use lib.Dec.{ltb}
-use borrow.Author.Tests.{lt-ltb, le-ltb}
 use native.Mathlib.Omega.{arith}
-use mathlib.Core.Path.{_≡_, refl, sym, ap, _∙_}
-use mathlib.Core.List.{List, [], _++_}
+use mathlib.Core.Path.{refl, ap, _∙_}
+use mathlib.Core.List.{List, _++_}
 use Prim.Native.Nat.{ℕ, _≤_, _<_}
 use borrow.Author.Needs.{needs}
 use Rattle.record.proofs.read_segment.Statement.{statement}
 use Rattle.record.proofs.read_segment.Tie as tie
-use Rattle.record.proofs.read_segment.Reads as reads
-use Rattle.record.proofs.read_segment.Lts as lts
-use Rattle.record.proofs.check.Reads as check-reads
-use Rattle.record.proofs.count_of.Reads as count-of-reads
-use Rattle.record.proofs.segment_at.Reads as segment-at-reads
 
 check-requires : tie.Need-check-requires
 check-requires c κs = search needs

@@ -2,11 +2,6 @@
 use borrow.Author.Needs.{needs}
 use Rattle.record.proofs.segment_at.Statement.{statement}
 use Rattle.record.proofs.segment_at.Tie as tie
-use Rattle.record.proofs.segment_at.Reads as reads
-use Rattle.record.proofs.segment_at.Lts as lts
-use Rattle.record.proofs.kind_at.Reads as kind-at-reads
-use Rattle.record.proofs.sectors_at.Reads as sectors-at-reads
-use Rattle.record.proofs.start_at.Reads as start-at-reads
 
 kind-at-requires : tie.Need-kind-at-requires
 kind-at-requires c κs = search needs

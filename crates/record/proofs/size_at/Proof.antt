@@ -1,18 +1,14 @@
 use Rattle.record.proofs.Items.{read-at}
 use Rattle.endian.specs.Bytes.{le, window}
 use mathlib.Core.List.{List}
-use mathlib.Core.Path.{_≡_, sym, ap, _∙_}
+use mathlib.Core.Path.{sym, ap, _∙_}
 use native.Mathlib.Nat.{add-zero}
-use Prim.Native.Nat.{ℕ, _+_, min}
+use Prim.Native.Nat.{ℕ}
 -- `record::size_at` meets its contract. Assumes nothing.
 use Rattle.record.specs.Items.{sizeAt, place}
 use borrow.Author.Needs.{needs}
 use Rattle.record.proofs.size_at.Statement.{statement}
 use Rattle.record.proofs.size_at.Tie as tie
-use Rattle.record.proofs.size_at.Reads as reads
-use Rattle.record.proofs.size_at.Lts as lts
-use Rattle.endian.proofs.read_u16.Reads as read-u16-reads
-use Rattle.record.proofs.place_in.Reads as place-in-reads
 
 place-in-requires : tie.Need-place-in-requires
 place-in-requires c κs = search needs

@@ -4,10 +4,6 @@ use Rattle.record.specs.Items.{startAt}
 use borrow.Author.Needs.{needs}
 use Rattle.record.proofs.start_at.Statement.{statement}
 use Rattle.record.proofs.start_at.Tie as tie
-use Rattle.record.proofs.start_at.Reads as reads
-use Rattle.record.proofs.start_at.Lts as lts
-use Rattle.endian.proofs.read_u64.Reads as read-u64-reads
-use Rattle.record.proofs.place_in.Reads as place-in-reads
 
 place-in-requires : tie.Need-place-in-requires
 place-in-requires c κs = search needs

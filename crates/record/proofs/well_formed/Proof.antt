@@ -4,17 +4,11 @@ use Rattle.record.specs.Items.{headBytes}
 use lib.ListN.{length}
 use borrow.Author.Tests.{lt-leb, le-leb}
 use native.Mathlib.Omega.{arith}
-use mathlib.Core.Path.{sym}
 use mathlib.Core.List.{List}
 use Prim.Native.Nat.{ℕ, _<_, _≤_}
 use borrow.Author.Needs.{needs}
 use Rattle.record.proofs.well_formed.Statement.{statement}
 use Rattle.record.proofs.well_formed.Tie as tie
-use Rattle.record.proofs.well_formed.Reads as reads
-use Rattle.record.proofs.well_formed.Lts as lts
-use Rattle.record.proofs.head_bytes.Reads as head-bytes-reads
-use Rattle.record.proofs.head_right.Reads as head-right-reads
-use Rattle.record.proofs.items_right.Reads as items-right-reads
 
 head-bytes-requires : tie.Need-head-bytes-requires
 head-bytes-requires c κs = search needs

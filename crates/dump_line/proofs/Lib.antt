@@ -1,0 +1,4 @@
+-- The laws that callers cite.
+pub mod Decimals
+pub mod Texts
+pub mod Lines

@@ -1,0 +1,437 @@
+// Runs document 01's printed record, its examples 9 to 11, and records and requests that are refused, and prints a line
+// each. The file stdout beside src/ has what must be printed. Assumes what `io` and `libc` do.
+use layout::Device;
+use record::Counted;
+use record::Found;
+use record::Heading;
+use record::Segment;
+use room::Allocation;
+use room::FreeTotal;
+use room::Released;
+use room::RunFound;
+use room::RunNumber;
+ghost use Prim.Native.Nat.{_≤_};
+
+const OUT: i32 = 1;
+
+// Prints a name.
+fn name(s: &[u8]) {
+    io::write_all(OUT, s);
+    io::write_all(OUT, b":");
+}
+
+// Prints a number after a blank.
+fn number(n: u64) {
+    io::write_all(OUT, b" ");
+    io::print_decimal(OUT, n);
+}
+
+// Prints a number in 16 digits after a blank.
+fn hex(n: u64) {
+    io::write_all(OUT, b" ");
+    io::print_hex(OUT, n, 16);
+}
+
+// Ends a line.
+fn end() {
+    io::write_all(OUT, b"\n");
+}
+
+// Prints a refusal and ends the line.
+fn refused(n: u8) {
+    io::write_all(OUT, b" refused");
+    number(n as u64);
+    end();
+}
+
+// The example device.
+fn device() -> Device {
+    Device {
+        sectors: 2097152,
+        metadata: 2040,
+        reserved: 0,
+    }
+}
+
+// A record with one segment.
+fn one(kind: u16, start: u64, sectors: u64) -> [u8; 28] {
+    let mut s = [0u8; 28];
+    record::begin(&mut s, 128);
+    let g = Segment {
+        kind,
+        start,
+        sectors,
+    };
+    record::put_segment(&mut s, 0, g);
+    s
+}
+
+// A record with two data segments.
+fn two(start: u64, sectors: u64, start2: u64, sectors2: u64) -> [u8; 48] {
+    let mut s = [0u8; 48];
+    record::begin(&mut s, 128);
+    let a = Segment {
+        kind: 2,
+        start,
+        sectors,
+    };
+    record::put_segment(&mut s, 0, a);
+    let b = Segment {
+        kind: 2,
+        start: start2,
+        sectors: sectors2,
+    };
+    record::put_segment(&mut s, 1, b);
+    s
+}
+
+// Prints the number that a record gives on a device.
+fn check_on(what: &[u8], d: Device, s: &[u8]) {
+    name(what);
+    number(record::check(d, s) as u64);
+    end();
+}
+
+// Prints the number that a record gives on the example device.
+fn check(what: &[u8], s: &[u8]) {
+    check_on(what, device(), s);
+}
+
+// Prints the head's block size.
+fn head(s: &[u8]) {
+    name(b"block size");
+    match record::read_head(device(), s) {
+        Heading::BlockSize(b) => {
+            number(b as u64);
+            end();
+        }
+        Heading::Refused(n) => refused(n),
+    }
+}
+
+// Prints the number of segments.
+fn count(s: &[u8]) {
+    name(b"segments");
+    match record::read_count(device(), s) {
+        Counted::Segments(n) => {
+            number(n as u64);
+            end();
+        }
+        Counted::Refused(n) => refused(n),
+    }
+}
+
+// Prints the segment at a position: kind, start, sectors.
+fn segment(s: &[u8], position: usize) {
+    name(b"segment");
+    number(position as u64);
+    match record::read_segment(device(), s, position) {
+        Found::At(g) => {
+            let kind = g.kind;
+            number(kind as u64);
+            number(g.start);
+            number(g.sectors);
+            end();
+        }
+        Found::Refused(n) => refused(n),
+    }
+}
+
+// Prints a run's start and sectors.
+fn run(r: RunFound) {
+    match r {
+        RunFound::At(x) => {
+            number(x.start);
+            number(x.sectors);
+            end();
+        }
+        RunFound::Refused(n) => refused(n),
+    }
+}
+
+// Prints run number k.
+fn run_at(s: &[u8], k: u64) {
+    name(b"run");
+    number(k);
+    run(room::run_at(device(), s, k));
+}
+
+// Prints the number of free runs, and the free total.
+fn free(s: &[u8]) {
+    name(b"free runs");
+    match room::count_runs(device(), s) {
+        RunNumber::Runs(n) => {
+            number(n);
+            end();
+        }
+        RunNumber::Refused(n) => refused(n),
+    }
+    name(b"free total");
+    match room::free_total(device(), s) {
+        FreeTotal::Sectors(n) => {
+            number(n);
+            end();
+        }
+        FreeTotal::Refused(n) => refused(n),
+    }
+}
+
+// Prints the first run for m sectors.
+fn fit(s: &[u8], m: u64) {
+    name(b"first fit for");
+    number(m);
+    run(room::first_fit(device(), s, m));
+}
+
+// Prints what an allocation answers.
+fn allocated(a: Allocation) {
+    name(b"allocated");
+    match a {
+        Allocation::Placed(start, len) => {
+            number(start);
+            number(len as u64);
+            end();
+        }
+        Allocation::Refused(n) => refused(n),
+    }
+}
+
+// Prints what a release answers.
+fn released(a: Released) {
+    name(b"released");
+    match a {
+        Released::Length(len) => {
+            number(len as u64);
+            end();
+        }
+        Released::Refused(n) => refused(n),
+    }
+}
+
+// The printed record, and the same bytes made.
+fn printed() {
+    let s =
+        b"\x08\x00\x10\x00\x80\x00\x00\x00\x14\x00\x02\x00\x00\x08\x00\x00\x00\x00\x00\x00\x64\x00\x00\x00\x00\x00\x00\x00";
+    check(b"printed record", s);
+    head(s);
+    count(s);
+    segment(s, 0);
+    segment(s, 1);
+    let made = one(2, 2048, 100);
+    name(b"made");
+    hex(endian::read_u64(&made, 0));
+    hex(endian::read_u64(&made, 8));
+    hex(endian::read_u64(&made, 16));
+    hex(endian::read_u32(&made, 24) as u64);
+    end();
+}
+
+// Examples 9 and 10.
+fn example() {
+    let s = two(2048, 100, 3000, 50);
+    check(b"example 9", &s);
+    free(&s);
+    run_at(&s, 0);
+    run_at(&s, 1);
+    run_at(&s, 2);
+    run_at(&s, 0xFFFF_FFFF_FFFF_FFFF);
+    fit(&s, 852);
+    fit(&s, 853);
+    fit(&s, 2092054);
+    fit(&s, 2092055);
+    fit(&s, 0);
+}
+
+// Prints a new record of n bytes at the start of s: its number, two segments, its free room.
+fn shown(s: &[u8], n: usize, first: usize, second: usize) {
+    let r = endian::window(s, 0, n);
+    check(b"new record", r);
+    segment(r, first);
+    segment(r, second);
+    free(r);
+    run_at(r, 0);
+    run_at(r, 1);
+}
+
+// An allocation of m sectors, into 70 bytes.
+fn allocate(s: &[u8], kind: u16, m: u64) {
+    let mut out = [0u8; 70];
+    allocated(room::allocate(device(), s, kind, m, &mut out));
+    shown(&out, 68, 1, 2);
+}
+
+// A release, into 48 bytes.
+fn release(s: &[u8], position: usize) {
+    let mut out = [0u8; 48];
+    released(room::release(device(), s, position, &mut out));
+    shown(&out, 28, 0, 1);
+}
+
+// An allocation and a release on example 9's record.
+fn changes() {
+    let s = two(2048, 100, 3000, 50);
+    allocate(&s, 4, 853);
+    allocate(&s, 1, 852);
+    release(&s, 0);
+    release(&s, 1);
+}
+
+// An allocation that is refused, into 70 bytes.
+fn refuse(s: &[u8], kind: u16, m: u64) {
+    let mut out = [7u8; 70];
+    allocated(room::allocate(device(), s, kind, m, &mut out));
+    name(b"two bytes left");
+    number(endian::read_u16(&out, 0) as u64);
+    end();
+}
+
+// The same into 67 bytes, and a release into 27.
+fn refuse_small(s: &[u8]) {
+    let mut out = [7u8; 67];
+    allocated(room::allocate(device(), s, 1, 1, &mut out));
+    let mut less = [7u8; 27];
+    released(room::release(device(), s, 0, &mut less));
+}
+
+// A release of a segment that is not there.
+fn refuse_release(s: &[u8]) {
+    let mut out = [0u8; 70];
+    released(room::release(device(), s, 2, &mut out));
+}
+
+// Heads that are refused.
+fn heads() {
+    let mut out = [0u8; 8];
+    name(b"begin with 64");
+    number(record::begin(&mut out, 64) as u64);
+    end();
+    let mut more = [0u8; 8];
+    name(b"begin with 2097280");
+    number(record::begin(&mut more, 2097280) as u64);
+    end();
+    let mut small = [0u8; 7];
+    name(b"begin in 7 bytes");
+    number(record::begin(&mut small, 128) as u64);
+    end();
+}
+
+// Requests that are refused.
+fn requests() {
+    let s = two(2048, 100, 3000, 50);
+    refuse(&s, 0, 1);
+    refuse(&s, 5, 0);
+    refuse(&s, 16, 1);
+    refuse(&s, 1, 0);
+    refuse(&s, 1, 2092055);
+    refuse(&s, 1, 0xFFFF_FFFF_FFFF_FFFF);
+    refuse_small(&s);
+    refuse_release(&s);
+    heads();
+}
+
+// Writes n segments of one sector each after the head in out.
+fn fill(out: &mut [u8], n: usize)
+    requires { ⌜ n ≤ 1000 ⌝ }
+{
+    let mut i: usize = 0;
+    let mut start: u64 = 2048;
+    while i < n {
+        let g = Segment {
+            kind: 3,
+            start,
+            sectors: 1,
+        };
+        record::put_segment(out, i, g);
+        start += 1;
+        i += 1;
+    }
+}
+
+// A record of 409 segments takes none more; one of 410 is too long.
+fn full() {
+    let mut s = io::large_buffer();
+    record::begin(&mut s, 128);
+    fill(&mut s, 410);
+    let most = endian::window(&s, 0, 8188);
+    check(b"409 segments", most);
+    count(most);
+    let mut out = [0u8; 70];
+    allocated(room::allocate(device(), most, 1, 1, &mut out));
+    check(b"410 segments", endian::window(&s, 0, 8208));
+}
+
+// Prints the number of a record with two data segments.
+fn pair(what: &[u8], start: u64, sectors: u64, start2: u64, sectors2: u64) {
+    check(what, &two(start, sectors, start2, sectors2));
+}
+
+// Prints the number of a record with one segment.
+fn single(what: &[u8], kind: u16, start: u64, sectors: u64) {
+    check(what, &one(kind, start, sectors));
+}
+
+// Example 11, and records that are refused.
+fn records() {
+    pair(b"example 11", 2048, 100, 2147, 1);
+    pair(b"with 2148", 2048, 100, 2148, 1);
+    pair(b"the later one first", 2148, 1, 2048, 101);
+    single(b"kind 0", 0, 2048, 100);
+    single(b"kind 1", 1, 2048, 100);
+    single(b"kind 4", 4, 2048, 100);
+    single(b"kind 5", 5, 2048, 100);
+    single(b"kind 16", 16, 2048, 100);
+}
+
+// Segments at the edges of the data range.
+fn ranges() {
+    single(b"below the data range", 2, 2047, 100);
+    single(b"no sectors", 2, 2048, 0);
+    single(b"the last data sector", 2, 2095103, 1);
+    single(b"one past it", 2, 2095103, 2);
+    single(b"past the data range", 2, 2095104, 1);
+    single(b"the whole data range", 3, 2048, 2093056);
+    let most: u64 = 0xFFFF_FFFF_FFFF_FFFF;
+    single(b"a sum that wraps", 2, most, most);
+    single(b"a sum that wraps into the range", 2, 4096, most);
+}
+
+// Records that are cut short.
+fn parts() {
+    let s = one(2, 2048, 100);
+    check(b"no bytes", endian::window(&s, 0, 0));
+    check(b"seven bytes", endian::window(&s, 0, 7));
+    check(b"a head", endian::window(&s, 0, 8));
+    check(b"a segment cut", endian::window(&s, 0, 27));
+    check(b"a segment", &s);
+}
+
+// Prints the number of a record on a device with these numbers.
+fn on(what: &[u8], sectors: u64, metadata: u32, reserved: u32, s: &[u8]) {
+    let d = Device {
+        sectors,
+        metadata,
+        reserved,
+    };
+    check_on(what, d, s);
+}
+
+// Device numbers that are refused.
+fn devices() {
+    let s = one(2, 200000, 100);
+    on(b"S 2097151", 2097151, 2041, 65537, &s);
+    on(b"L 2041", 2097152, 2041, 65537, &s);
+    on(b"R 65537", 2097152, 2040, 65537, b"");
+    on(b"L 16384 and R 65536", 2097152, 16384, 65536, &s);
+}
+
+fn main() {
+    printed();
+    example();
+    changes();
+    requests();
+    full();
+    records();
+    ranges();
+    parts();
+    devices();
+}

@@ -1,0 +1,7 @@
+-- The laws that callers cite.
+pub mod Runs
+pub mod Answers
+pub mod Change
+pub mod Meaning
+pub mod Grants
+pub mod Examples

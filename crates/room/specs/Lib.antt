@@ -1,0 +1,4 @@
+-- What the contracts of `room` cite.
+pub mod Runs
+pub mod Answers
+pub mod Change

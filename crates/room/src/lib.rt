@@ -1,0 +1,393 @@
+// The free room of a device with a segment record: free runs, allocation, release. Every call checks the device numbers and
+// the record first. Assumes nothing.
+use layout::Device;
+use record::Segment;
+ghost use mathlib.Core.Path.{_≡_};
+ghost use Prim.Native.Nat.{_+_, _^_, _≤_, _<_, max};
+ghost use lib.ListN.{length, take, drop};
+ghost use Rattle.refusal.specs.Tests.{first};
+ghost use Rattle.endian.specs.Bytes.{splice};
+ghost use Rattle.layout.specs.Places.{dataEnd};
+ghost use Rattle.record.specs.Items.{itemBytes, count};
+ghost use Rattle.record.specs.Accept.{recordTests};
+ghost use Rattle.record.specs.Sectors.{holds, allocated};
+ghost use Rattle.room.specs.Runs.{nextFree, runFrom, runAt, runCount, fitRun, holderOf, lower, lowestStart};
+ghost use Rattle.room.specs.Answers.{runsAnswer, orNone, runAnswer, totalAnswer, fitAnswer};
+ghost use Rattle.room.specs.Change.{allocateAnswer, allocateLeft, releaseAnswer, releaseLeft};
+
+// A free run: its first sector, and its length in sectors.
+pub struct Run {
+    pub start: u64,
+    pub sectors: u64,
+}
+
+// What `count_runs` answers.
+pub enum RunNumber {
+    Runs(u64),
+    Refused(u8),
+}
+
+// What `run_at` and `first_fit` answer.
+pub enum RunFound {
+    At(Run),
+    Refused(u8),
+}
+
+// What `free_total` answers.
+pub enum FreeTotal {
+    Sectors(u64),
+    Refused(u8),
+}
+
+// What `allocate` answers: the new segment's first sector, and the new record's length in bytes.
+pub enum Allocation {
+    Placed(u64, usize),
+    Refused(u8),
+}
+
+// What `release` answers: the new record's length in bytes.
+pub enum Released {
+    Length(usize),
+    Refused(u8),
+}
+
+// Whether x is one of a segment's sectors.
+fn holds_sector(g: Segment, x: u64) -> bool
+    ensures { λ r. ⌜ r ≡ holds g x ⌝ }
+{
+    if x < g.start {
+        return false;
+    }
+    x - g.start < g.sectors
+}
+
+// The position of the first segment that holds x; the number of segments where none does.
+fn holder_of(s: &[u8], x: u64) -> usize
+    ensures { λ r. ⌜ r ≡ holderOf (now (s .entry)) x ⌝ }
+{
+    let n = record::count_of(s);
+    let mut i = 0;
+    while i < n {
+        if holds_sector(record::segment_at(s, i), x) {
+            return i;
+        }
+        i += 1;
+    }
+    n
+}
+
+// The larger of two numbers.
+fn larger(a: u64, b: u64) -> u64
+    ensures { λ r. ⌜ r ≡ max a b ⌝ }
+{
+    if a < b { b } else { a }
+}
+
+// The lowest free sector from x on; the data range's end where there is none.
+fn next_free(d: Device, s: &[u8], x: u64) -> u64
+    requires { ⌜ first (recordTests d (now s)) ≡ 0 ⌝ }
+    ensures { λ r. ⌜ r ≡ nextFree d (now (s .entry)) x ⌝ }
+{
+    let end = layout::data_end(d);
+    let n = record::count_of(s);
+    let mut y = larger(x, layout::data_start(d));
+    while y < end {
+        let i = holder_of(s, y);
+        if n <= i {
+            return y;
+        }
+        y = record::start_at(s, i) + record::sectors_at(s, i);
+    }
+    end
+}
+
+// a, if it is from y up to, not including, b; else b.
+fn lower_of(y: u64, a: u64, b: u64) -> u64
+    ensures { λ r. ⌜ r ≡ lower y a b ⌝ }
+{
+    if a < y {
+        return b;
+    }
+    if b <= a {
+        return b;
+    }
+    a
+}
+
+// The lowest start of a segment from y on; the data range's end where that is lower.
+fn lowest_start(d: Device, s: &[u8], y: u64) -> u64
+    ensures { λ r. ⌜ r ≡ lowestStart (now (s .entry)) y (dataEnd d) (count (now (s .entry))) ⌝ }
+{
+    let n = record::count_of(s);
+    let mut b = layout::data_end(d);
+    let mut i = 0;
+    while i < n {
+        b = lower_of(y, record::start_at(s, i), b);
+        i += 1;
+    }
+    b
+}
+
+// The first free run from x on; 0 sectors where there is none.
+fn next_run(d: Device, s: &[u8], x: u64) -> Run
+    requires { ⌜ first (recordTests d (now s)) ≡ 0 ⌝ }
+    ensures { λ r. ⌜ r ≡ runFrom d (now (s .entry)) x ⌝ }
+{
+    let a = next_free(d, s, x);
+    if a == layout::data_end(d) {
+        return Run {
+            start: a,
+            sectors: 0,
+        };
+    }
+    let b = lowest_start(d, s, a);
+    Run {
+        start: a,
+        sectors: b - a,
+    }
+}
+
+// Run number k, counted from 0; 0 sectors where there is none.
+fn run_of(d: Device, s: &[u8], k: u64) -> Run
+    requires { ⌜ first (recordTests d (now s)) ≡ 0 ⌝ }
+    ensures { λ r. ⌜ r ≡ runAt d (now (s .entry)) k ⌝ }
+{
+    let mut x: u64 = 0;
+    let mut j: u64 = 0;
+    while j < k {
+        let r = next_run(d, s, x);
+        if r.sectors == 0 {
+            return r;
+        }
+        x = r.start + r.sectors;
+        j += 1;
+    }
+    next_run(d, s, x)
+}
+
+// The number of free runs.
+fn runs_of(d: Device, s: &[u8]) -> u64
+    requires { ⌜ first (recordTests d (now s)) ≡ 0 ⌝ }
+    ensures { λ r. ⌜ r ≡ runCount d (now (s .entry)) ⌝ }
+{
+    let mut x: u64 = 0;
+    let mut j: u64 = 0;
+    loop {
+        let r = next_run(d, s, x);
+        if r.sectors == 0 {
+            return j;
+        }
+        x = r.start + r.sectors;
+        j += 1;
+    }
+}
+
+// The first run of m sectors or more; 0 sectors where there is none.
+fn fit_of(d: Device, s: &[u8], m: u64) -> Run
+    requires { ⌜ first (recordTests d (now s)) ≡ 0 ⌝ }
+    requires { ⌜ 1 ≤ m ⌝ }
+    ensures { λ r. ⌜ r ≡ fitRun d (now (s .entry)) m ⌝ }
+{
+    let mut x: u64 = 0;
+    loop {
+        let r = next_run(d, s, x);
+        if r.sectors == 0 {
+            return r;
+        }
+        if m <= r.sectors {
+            return r;
+        }
+        x = r.start + r.sectors;
+    }
+}
+
+// The sum of the segments' lengths.
+fn allocated_of(s: &[u8]) -> u64
+    requires { ⌜ allocated (now s) < 2 ^ 64 ⌝ }
+    ensures { λ r. ⌜ r ≡ allocated (now (s .entry)) ⌝ }
+{
+    let n = record::count_of(s);
+    let mut sum: u64 = 0;
+    let mut i = 0;
+    while i < n {
+        sum += record::sectors_at(s, i);
+        i += 1;
+    }
+    sum
+}
+
+// The number of free runs.
+pub fn count_runs(d: Device, s: &[u8]) -> RunNumber
+    ensures { λ r. ⌜ r ≡ runsAnswer d (now (s .entry)) ⌝ }
+{
+    let n = record::check(d, s);
+    if n != 0 {
+        return RunNumber::Refused(n);
+    }
+    RunNumber::Runs(runs_of(d, s))
+}
+
+// A run, or zero in both fields for one of no sectors.
+fn or_none(r: Run) -> Run
+    ensures { λ a. ⌜ a ≡ orNone r ⌝ }
+{
+    if r.sectors == 0 {
+        return Run {
+            start: 0,
+            sectors: 0,
+        };
+    }
+    r
+}
+
+// Free run number k, counted from 0 and ascending; a run of no sectors at 0 where there is none.
+pub fn run_at(d: Device, s: &[u8], k: u64) -> RunFound
+    ensures { λ r. ⌜ r ≡ runAnswer d (now (s .entry)) k ⌝ }
+{
+    let n = record::check(d, s);
+    if n != 0 {
+        return RunFound::Refused(n);
+    }
+    RunFound::At(or_none(run_of(d, s, k)))
+}
+
+// The number of free sectors.
+pub fn free_total(d: Device, s: &[u8]) -> FreeTotal
+    ensures { λ r. ⌜ r ≡ totalAnswer d (now (s .entry)) ⌝ }
+{
+    let n = record::check(d, s);
+    if n != 0 {
+        return FreeTotal::Refused(n);
+    }
+    let data = layout::data_end(d) - layout::data_start(d);
+    FreeTotal::Sectors(data - allocated_of(s))
+}
+
+// The free run of lowest start that has m sectors or more.
+pub fn first_fit(d: Device, s: &[u8], m: u64) -> RunFound
+    ensures { λ r. ⌜ r ≡ fitAnswer d (now (s .entry)) m ⌝ }
+{
+    let n = record::check(d, s);
+    if n != 0 {
+        return RunFound::Refused(n);
+    }
+    if m < 1 {
+        return RunFound::Refused(refusal::SEGMENT_PLACE);
+    }
+    let r = fit_of(d, s, m);
+    if r.sectors == 0 {
+        return RunFound::Refused(refusal::NO_ROOM);
+    }
+    RunFound::At(r)
+}
+
+// Fills out with s, which is as long.
+fn copy(out: &mut [u8], s: &[u8])
+    requires { ⌜ length (now out) ≡ length (now s) ⌝ }
+    ensures { λ _. ⌜ now (out .exit) ≡ now (s .entry) ⌝ }
+{
+    let mut i = 0;
+    while i < s.len() {
+        out[i] = s[i];
+        i += 1;
+    }
+}
+
+// Lays s over out from `at` on; where it does not fit there, out stays.
+fn lay(out: &mut [u8], at: usize, s: &[u8])
+    ensures { λ _. ⌜ now (out .exit) ≡ splice (now (out .entry)) at (now (s .entry)) ⌝ }
+{
+    if out.len() < at {
+        return;
+    }
+    if out.len() - at < s.len() {
+        return;
+    }
+    copy(&mut out[at..at + s.len()], s);
+}
+
+// Lays s over the start of out, without the item at `at`.
+fn lay_without(out: &mut [u8], s: &[u8], at: usize)
+    requires { ⌜ at + itemBytes ≤ length (now s) ⌝ }
+    ensures { λ _. ⌜ now (out .exit) ≡ splice (splice (now (out .entry)) 0 (take at (now (s .entry)))) at (drop (at + itemBytes) (now (s .entry))) ⌝ }
+{
+    lay(out, 0, &s[..at]);
+    lay(out, at, &s[at + record::ITEM_BYTES..]);
+}
+
+// What `allocate` answers where w bytes are lent.
+fn allocation_of(d: Device, s: &[u8], kind: u16, m: u64, w: usize) -> Allocation
+    ensures { λ r. ⌜ r ≡ allocateAnswer d (now (s .entry)) kind m w ⌝ }
+{
+    let n = record::check(d, s);
+    if n != 0 {
+        return Allocation::Refused(n);
+    }
+    if !record::kind_known(kind) {
+        return Allocation::Refused(refusal::RECORD_FORM);
+    }
+    if m < 1 {
+        return Allocation::Refused(refusal::SEGMENT_PLACE);
+    }
+    if record::most_segments(s) <= record::count_of(s) {
+        return Allocation::Refused(refusal::RECORD_FULL);
+    }
+    let r = fit_of(d, s, m);
+    if r.sectors == 0 {
+        return Allocation::Refused(refusal::NO_ROOM);
+    }
+    if w < s.len() + record::ITEM_BYTES {
+        return Allocation::Refused(refusal::SLICE_SIZE);
+    }
+    Allocation::Placed(r.start, s.len() + record::ITEM_BYTES)
+}
+
+// Allocates m sectors for a segment of this kind: the new record is written to the start of out.
+pub fn allocate(d: Device, s: &[u8], kind: u16, m: u64, out: &mut [u8]) -> Allocation
+    ensures { λ r. ⌜ r ≡ allocateAnswer d (now (s .entry)) kind m (length (now (out .entry))) ⌝ }
+    ensures { λ _. ⌜ now (out .exit) ≡ allocateLeft d (now (s .entry)) kind m (now (out .entry)) ⌝ }
+{
+    let a = allocation_of(d, s, kind, m, out.len());
+    let Allocation::Placed(start, len) = a else {
+        return a;
+    };
+    lay(out, 0, s);
+    let position = record::count_of(s);
+    let g = Segment {
+        kind,
+        start,
+        sectors: m,
+    };
+    record::put_segment(out, position, g);
+    Allocation::Placed(start, len)
+}
+
+// What `release` answers where w bytes are lent.
+fn released_of(d: Device, s: &[u8], position: usize, w: usize) -> Released
+    ensures { λ r. ⌜ r ≡ releaseAnswer d (now (s .entry)) position w ⌝ }
+{
+    let n = record::check(d, s);
+    if n != 0 {
+        return Released::Refused(n);
+    }
+    if record::count_of(s) <= position {
+        return Released::Refused(refusal::NO_SEGMENT);
+    }
+    if w < s.len() - record::ITEM_BYTES {
+        return Released::Refused(refusal::SLICE_SIZE);
+    }
+    Released::Length(s.len() - record::ITEM_BYTES)
+}
+
+// Releases the segment at a position: the new record is written to the start of out.
+pub fn release(d: Device, s: &[u8], position: usize, out: &mut [u8]) -> Released
+    ensures { λ r. ⌜ r ≡ releaseAnswer d (now (s .entry)) position (length (now (out .entry))) ⌝ }
+    ensures { λ _. ⌜ now (out .exit) ≡ releaseLeft d (now (s .entry)) position (now (out .entry)) ⌝ }
+{
+    let a = released_of(d, s, position, out.len());
+    let Released::Length(len) = a else {
+        return a;
+    };
+    lay_without(out, s, record::place_in(s, position));
+    Released::Length(len)
+}
