@@ -4,7 +4,7 @@ use mathlib.Core.Path.{_≡_, refl, sym, ap, ap₂, _∙_}
 use mathlib.Core.Bool.{Bool, true, false, cond, not, _&&_}
 use mathlib.Core.List.{List}
 use native.Mathlib.Omega.{arith}
-use borrow.Author.Tests.{le-leb, leb-true}
+use borrow.Author.Tests.{le-leb, leb-true, eq-eqb}
 use lib.Dec.{leb, eqb}
 use lib.ListN.{length}
 use Rattle.endian.specs.Bytes.{le, window, all}
@@ -27,16 +27,17 @@ use Rattle.block.specs.declared.Reading.{Reading}
 use Rattle.block.specs.declared.Verdict.the-variants as Verdict
 use Rattle.block.specs.Entry.{laterThan, sameTime, timeOf, entryOf, entryAllowed, differentTimes, entriesAllowed}
 use Rattle.block.specs.Block.{number, poolOf, uuidOf, entryAt, fieldsOf, limitTests, readTests, reading}
-use Rattle.block.specs.Writing.{holdingOf, blockOf}
+use Rattle.block.specs.Writing.{holdingOf, blockOf, writeTests, written}
 use Rattle.block.specs.Demand.{EntryFits}
 use Rattle.block.proofs.Readings.{ascending, accepted-length}
+use Rattle.block.proofs.Written.{written-accepted}
 use Rattle.block.proofs.RoundTrip.{read-back, read-fields}
 use Rattle.block.proofs.Times.{later-differs, later-differs-back}
 use Rattle.discovery.specs.Copy.{blockIn, entryIn, otherArea, newest}
 use Rattle.update.specs.Update.{holdingFor, withEntry, spare, newBlock}
 
 -- the numbers of any bytes fit their widths
-number-fits : (b : List ℕ) (at n : ℕ) → number b at n < 256 ^ n
+pub number-fits : (b : List ℕ) (at n : ℕ) → number b at n < 256 ^ n
 number-fits b at n = le-bound (window b at n) n (length-window b at n)
 
 entry-fits : (s n u c : ℕ) → s < 2 ^ 64 → c < 2 ^ 32 → EntryFits (entryOf s n u c)
@@ -118,3 +119,41 @@ module _ (c : List ℕ) (ok : first (readTests (blockIn c)) ≡ 0) (h : Holding)
       (length-window-fits b 32 32 (omega arith)) (length-window-fits b 64 32 (omega arith))
       (number-fits b 20 8) (a .1 .1 .1 .0) (a .1 .1 .1 .1 .1) (entry-at-fits b 96) (entry-at-fits b 128)
       (newest (fieldsOf b)) used
+
+  changed-tests : (f : BlockFields) (p u : List ℕ) → (x : Area) → entryIn f x ≡ Used h → sizeAllowed (f .device .sectors) ≡ true → AllHold (limitTests p u f)
+      → (sizeAllowed (withEntry f (otherArea x) (Used (holdingFor t r)) .device .sectors) ≡ true)
+      × AllHold (limitTests p u (withEntry f (otherArea x) (Used (holdingFor t r))))
+  changed-tests f p u x e size tests =
+      let w : entriesAllowed (f .a) (f .b) ≡ true = tests .1 .1 .1 .0 in
+      let pa : entryAllowed (f .a) ≡ true = and-left (entryAllowed (f .a)) (entryAllowed (f .b) && differentTimes (f .a) (f .b)) w in
+      let pb : entryAllowed (f .b) ≡ true =
+          and-left (entryAllowed (f .b)) (differentTimes (f .a) (f .b)) (and-right (entryAllowed (f .a)) (entryAllowed (f .b) && differentTimes (f .a) (f .b)) w) in
+      go x (changed-allowed t r fits ns len f h later x e pa pb)
+    where
+      go : (x : Area)
+          → entriesAllowed (withEntry f (otherArea x) (Used (holdingFor t r)) .a) (withEntry f (otherArea x) (Used (holdingFor t r)) .b) ≡ true
+          → (sizeAllowed (withEntry f (otherArea x) (Used (holdingFor t r)) .device .sectors) ≡ true)
+          × AllHold (limitTests p u (withEntry f (otherArea x) (Used (holdingFor t r))))
+      go A w = (size, (tests .0, (tests .1 .0, (tests .1 .1 .0, (w, tt)))))
+      go B w = (size, (tests .0, (tests .1 .0, (tests .1 .1 .0, (w, tt)))))
+
+  -- the writer takes it, and leaves it in 512 lent bytes
+  module _ (out : List ℕ) (room : length out ≡ 512) where
+    pub new-writes : first (writeTests out (poolOf (blockIn c)) (uuidOf (blockIn c)) (withEntry (fieldsOf (blockIn c)) (spare c) (Used (holdingFor t r)))) ≡ 0
+    new-writes =
+        let b : List ℕ = blockIn c in
+        let a : AllHold (readTests b) = first-zero 0 (readTests b) (ascending b) ok in
+        let n : length b ≡ 512 = accepted-length b ok in
+        let p : length (poolOf b) ≡ 32 = length-window-fits b 32 32 (omega arith) in
+        let u : length (uuidOf b) ≡ 32 = length-window-fits b 64 32 (omega arith) in
+        let z : (sizeAllowed (withEntry (fieldsOf b) (spare c) (Used (holdingFor t r)) .device .sectors) ≡ true)
+            × AllHold (limitTests (poolOf b) (uuidOf b) (withEntry (fieldsOf b) (spare c) (Used (holdingFor t r)))) =
+            changed-tests (fieldsOf b) (poolOf b) (uuidOf b) (newest (fieldsOf b)) used (a .1 .1 .1 .0) (a .1 .1 .1 .1 .1) in
+        first-all (writeTests out (poolOf b) (uuidOf b) (withEntry (fieldsOf b) (spare c) (Used (holdingFor t r))))
+        (and-both (eqb (length out) 512) _ (eq-eqb (length out) 512 room)
+        (and-both (eqb (length (poolOf b)) 32) (eqb (length (uuidOf b)) 32) (eq-eqb (length (poolOf b)) 32 p) (eq-eqb (length (uuidOf b)) 32 u)), (z .0, z .1))
+
+    pub new-written : written out (poolOf (blockIn c)) (uuidOf (blockIn c)) (withEntry (fieldsOf (blockIn c)) (spare c) (Used (holdingFor t r))) ≡ newBlock c t r
+    unfolding newBlock
+    new-written =
+        sym (written-accepted out (poolOf (blockIn c)) (uuidOf (blockIn c)) (withEntry (fieldsOf (blockIn c)) (spare c) (Used (holdingFor t r))) new-writes)

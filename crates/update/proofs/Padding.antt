@@ -6,12 +6,13 @@ use native.Mathlib.Decide.{decLe}
 use native.Mathlib.Nat.{add-zero, add-suc, suc-add, le-refl}
 use native.Mathlib.Omega.{arith}
 use lib.ListN.{length, take, drop, length-append, drop-of-length-le, take-append-drop}
-use lib.Seq.{take-at, take-all, take-append-add, drop-drop}
+use lib.Seq.{take-at, take-all, take-append-add, drop-drop, drop-at}
 use Rattle.endian.specs.Bytes.{window, zeros}
-use Rattle.endian.proofs.Parts.{window-rest, length-window-fits, length-window}
+use Rattle.endian.proofs.Parts.{window-rest, length-window-fits, length-window, splice-fits}
 use Rattle.endian.proofs.Tests.{length-zeros}
 use Rattle.device.specs.Device.{Sectors, gather}
 use Rattle.update.specs.Update.{sectorsOf, sectorOf}
+use Rattle.update.specs.Plan.{sectorIn}
 
 pub length-sector : (r : List ℕ) (j : ℕ) → length (sectorOf r j) ≡ 512
 unfolding sectorOf
@@ -94,3 +95,21 @@ gather-record d r s m l h =
     let b : length r ≤ 512 * k = sectors-enough (length r) in
     ap₂ take (let z : length r ≡ length r - 512 * 0 = omega arith in z) (ap (gather d s) e ∙ gather-split d s k (m - k))
     ∙ from d r k s 0 (λ i w. h i w ∙ ap (sectorOf r) (sym (native.Mathlib.Nat.zero-add i))) (let z : 0 + sectorsOf (length r) ≡ sectorsOf (length r) = omega arith in omega arith) (gather d (s + k) (m - k))
+
+zeros-add : (a b : ℕ) → zeros (a + b) ≡ zeros a ++ zeros b
+unfolding zeros
+zeros-add a b = sym (lib.ListN.replicate-append-replicate a b 0)
+
+-- 512 lent bytes, zeroed and then begun with a record's part, are that sector of the record
+pub sector-laid : (r : List ℕ) (j : ℕ) (out : List ℕ) → length out ≡ 512 → sectorIn r j out ≡ sectorOf r j
+unfolding sectorOf
+sector-laid r j out e =
+    let w : List ℕ = window r (512 * j) 512 in
+    let l : length (window r (512 * j) 512) ≤ 512 = length-window r (512 * j) 512 in
+    let k : ℕ = 512 - length (window r (512 * j) 512) in
+    let n : length out ≡ length (window r (512 * j) 512) + (512 - length (window r (512 * j) 512)) = omega arith in
+    let q : length (zeros (length out)) ≡ length out = length-zeros (length out) in
+    splice-fits (zeros (length out)) 0 (window r (512 * j) 512) (omega arith)
+    ∙ ap (λ (y : List ℕ). window r (512 * j) 512 ++ y)
+    (ap₂ drop (native.Mathlib.Nat.zero-add (length (window r (512 * j) 512))) (ap zeros n ∙ zeros-add (length (window r (512 * j) 512)) k)
+    ∙ drop-at (zeros (length (window r (512 * j) 512))) (zeros k) (length (window r (512 * j) 512)) (length-zeros (length (window r (512 * j) 512))))

@@ -78,6 +78,24 @@ module _ (v : Device) (z : Sizes v) where
       let f : v .metadata % 2 ≡ 0 = z .even in
       omega arith
 
+  -- an area's sectors are below the device's end
+  pub area-below : (s : Side) (x : Area) (i : ℕ) → i < 1020 → areaSector s x v + i < v .sectors
+  area-below Front A i l = let c : 2097152 ≤ v .sectors = z .sectors in omega arith
+  area-below Front B i l =
+      let b : v .metadata ≤ 16384 = z .most in
+      let c : 2097152 ≤ v .sectors = z .sectors in
+      omega arith
+  area-below Back A i l =
+      let a : 2040 ≤ v .metadata = z .least in
+      let b : v .metadata ≤ 16384 = z .most in
+      let c : 2097152 ≤ v .sectors = z .sectors in
+      omega arith
+  area-below Back B i l =
+      let a : 2040 ≤ v .metadata = z .least in
+      let b : v .metadata ≤ 16384 = z .most in
+      let c : 2097152 ≤ v .sectors = z .sectors in
+      omega arith
+
   -- a sector is not on both sides
   pub one-side : (n : ℕ) → near Front v n → near Back v n → ⊥
   one-side n p q =

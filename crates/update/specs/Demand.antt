@@ -1,4 +1,4 @@
--- Demand 3: what a cut in an update leaves. `proofs/Demand.antt` proves `Cutting` and `Landing`. Assumes nothing.
+-- Demand 3: what a cut in an update leaves. `proofs/Demand.antt` proves `Cutting`, `Landing` and `Giving`. Assumes nothing.
 use Prim.Native.Nat.{ℕ, _^_, _≤_, _<_}
 use mathlib.Core.Path.{_≡_}
 use mathlib.Core.Bool.{true}
@@ -19,6 +19,9 @@ use Rattle.discovery.specs.declared.Answer.the-variants.{Found}
 use Rattle.discovery.specs.Copy.{blockIn, areaBytes, entryIn, newest}
 use Rattle.discovery.specs.Discovery.{discovery, inStep, recordBytes, readAnswer, readBytes}
 use Rattle.device.specs.Device.{Sectors, Sound, landed, Cut, copyFrom}
+use Rattle.update.specs.declared.Planned.the-variants.{Ready}
+use Rattle.update.specs.declared.Given.the-variants.{At}
+use Rattle.update.specs.Plan.{planOf, planned, storesIn, storeAnswer, storeBytes}
 use Rattle.update.specs.Update.{deviceIn, updateNumber, newBlock, storeOf, groupStart}
 
 -- Discovery gives a record: it answers that length and time, the area it names starts with those bytes, and reading what it
@@ -79,3 +82,16 @@ Landing =
     → Gives (copyFrom Front v (after v d t r)) (copyFrom Back v (after v d t r)) t r
     × ((inStep (copyFrom Front v (after v d t r)) (copyFrom Back v (after v d t r)) ≡ true)
     × ((s : Side) → (recordIn (copyFrom s v (after v d t r)) ≡ r) × (timeOf (heldIn (copyFrom s v (after v d t r))) ≡ t)))
+
+-- The stores of the plan that `work_out` gives are those that a cut and a landing speak of: the plan is not refused, it has
+-- 2k + 2 stores, and each is given with its sector and its 512 bytes.
+abbrev pub Giving : Type 0
+Giving =
+    (v : Device) (d : Sectors) (t : Time) (r : List ℕ) → Start v d t r
+    → (planned (copyFrom Front v d) (copyFrom Back v d) t r ≡ Ready (planOf (copyFrom Front v d) (copyFrom Back v d) t r))
+    × ((storesIn (planOf (copyFrom Front v d) (copyFrom Back v d) t r) ≡ groupStart r 4)
+    × ((i : ℕ) (out : List ℕ) → i < groupStart r 4 → length out ≡ 512
+        → (storeAnswer (planOf (copyFrom Front v d) (copyFrom Back v d) t r) (copyFrom Front v d) (copyFrom Back v d) i out
+            ≡ At (storeOf (copyFrom Front v d) (copyFrom Back v d) t r i .sector))
+        × (storeBytes (planOf (copyFrom Front v d) (copyFrom Back v d) t r) (copyFrom Front v d) (copyFrom Back v d) r i out
+            ≡ storeOf (copyFrom Front v d) (copyFrom Back v d) t r i .content)))
