@@ -11,3 +11,4 @@ pub mod Demand
 pub mod Number
 pub mod Choosing
 pub mod Planning
+pub mod Laying

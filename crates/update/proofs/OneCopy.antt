@@ -41,7 +41,7 @@ use Rattle.update.proofs.Holding.{Holds, newest-changed, entry-changed,
 use Rattle.update.proofs.Padding.{gather-record, sectors-most}
 
 -- an area lies within a copy
-area-fits : (x : Area) → areaOffset x + recordLimit ≤ copyBytes
+pub area-fits : (x : Area) → areaOffset x + recordLimit ≤ copyBytes
 unfolding areaOffset copyBytes
 area-fits A = omega arith
 area-fits B = omega arith

@@ -7,7 +7,7 @@ use native.Mathlib.Nat.{add-zero, add-suc, suc-add, le-refl}
 use native.Mathlib.Omega.{arith}
 use lib.ListN.{length, take, drop, length-append, drop-of-length-le, take-append-drop}
 use lib.Seq.{take-at, take-all, take-append-add, drop-drop, drop-at}
-use Rattle.endian.specs.Bytes.{window, zeros}
+use Rattle.endian.specs.Bytes.{window, zeros, splice}
 use Rattle.endian.proofs.Parts.{window-rest, length-window-fits, length-window, splice-fits}
 use Rattle.endian.proofs.Tests.{length-zeros}
 use Rattle.device.specs.Device.{Sectors, gather}
@@ -100,16 +100,19 @@ zeros-add : (a b : ℕ) → zeros (a + b) ≡ zeros a ++ zeros b
 unfolding zeros
 zeros-add a b = sym (lib.ListN.replicate-append-replicate a b 0)
 
+-- zeros that begin with a list
+pub zeros-begun : (n : ℕ) (v : List ℕ) → length v ≤ n → splice (zeros n) 0 v ≡ v ++ zeros (n - length v)
+zeros-begun n v l =
+    let k : ℕ = n - length v in
+    let e : n ≡ length v + (n - length v) = omega arith in
+    let q : length (zeros n) ≡ n = length-zeros n in
+    splice-fits (zeros n) 0 v (omega arith)
+    ∙ ap (λ (y : List ℕ). v ++ y)
+    (ap₂ drop (native.Mathlib.Nat.zero-add (length v)) (ap zeros e ∙ zeros-add (length v) (n - length v))
+    ∙ drop-at (zeros (length v)) (zeros (n - length v)) (length v) (length-zeros (length v)))
+
 -- 512 lent bytes, zeroed and then begun with a record's part, are that sector of the record
 pub sector-laid : (r : List ℕ) (j : ℕ) (out : List ℕ) → length out ≡ 512 → sectorIn r j out ≡ sectorOf r j
 unfolding sectorOf
 sector-laid r j out e =
-    let w : List ℕ = window r (512 * j) 512 in
-    let l : length (window r (512 * j) 512) ≤ 512 = length-window r (512 * j) 512 in
-    let k : ℕ = 512 - length (window r (512 * j) 512) in
-    let n : length out ≡ length (window r (512 * j) 512) + (512 - length (window r (512 * j) 512)) = omega arith in
-    let q : length (zeros (length out)) ≡ length out = length-zeros (length out) in
-    splice-fits (zeros (length out)) 0 (window r (512 * j) 512) (omega arith)
-    ∙ ap (λ (y : List ℕ). window r (512 * j) 512 ++ y)
-    (ap₂ drop (native.Mathlib.Nat.zero-add (length (window r (512 * j) 512))) (ap zeros n ∙ zeros-add (length (window r (512 * j) 512)) k)
-    ∙ drop-at (zeros (length (window r (512 * j) 512))) (zeros k) (length (window r (512 * j) 512)) (length-zeros (length (window r (512 * j) 512))))
+    ap (λ (n : ℕ). splice (zeros n) 0 (window r (512 * j) 512)) e ∙ zeros-begun 512 (window r (512 * j) 512) (length-window r (512 * j) 512)

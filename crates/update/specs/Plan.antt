@@ -3,16 +3,18 @@
 -- Assumes nothing.
 use Prim.Native.Nat.{ℕ, _+_, _-_, _*_}
 use mathlib.Core.Bool.{Bool, cond}
-use mathlib.Core.List.{List}
+use mathlib.Core.List.{List, [], _∷_, _++_}
 use lib.Dec.{leb, ltb, eqb}
 use lib.ListN.{length}
 use Rattle.endian.specs.Bytes.{window, zeros, splice}
-use Rattle.refusal.specs.Numbers.{sliceSize, noStore}
-use Rattle.refusal.specs.Tests.{first}
+use Rattle.refusal.specs.Numbers.{sliceSize, recordLength, noStore}
+use Rattle.refusal.specs.Tests.{Test, _or_, first}
 use Rattle.layout.specs.declared.Device.{Device}
 use Rattle.layout.specs.declared.Side.{Side}
 use Rattle.layout.specs.declared.Side.the-variants.{Front, Back}
-use Rattle.layout.specs.Places.{blockSector, areaSector}
+use Rattle.layout.specs.declared.Area.{Area}
+use Rattle.layout.specs.Limits.{lengthAllowed}
+use Rattle.layout.specs.Places.{blockSector, areaSector, areaOffset, copyBytes}
 use Rattle.block.specs.declared.Time.{Time}
 use Rattle.block.specs.declared.Holding.{Holding}
 use Rattle.block.specs.declared.Entry.the-variants.{Used}
@@ -93,3 +95,11 @@ storeBytes p f b r i out =
     (cond (leb i (p .sectors)) (partBytes (p .front) (p .sectors) f r i out) (partBytes (p .back) (p .sectors) b r (i - (p .sectors + 1)) out))
     out)
     out
+
+-- a record laid into a copy's area: its bytes at the area's offset, its last sector filled with zeros
+abbrev pub layTests : List ℕ → List ℕ → List Test
+layTests c r = (eqb (length c) copyBytes or sliceSize) ∷ (lengthAllowed (length r) or recordLength) ∷ []
+
+unfoldable pub laid : List ℕ → Area → List ℕ → List ℕ
+laid c x r =
+    cond (eqb (first (layTests c r)) 0) (splice c (areaOffset x) (r ++ zeros (sectorsOf (length r) * 512 - length r))) c

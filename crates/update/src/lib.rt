@@ -1,9 +1,10 @@
 // An update: its refusal number, and what it stores. The copies are lent as discovery takes them. Assumes nothing.
 ghost use mathlib.Core.Path.{_≡_};
 ghost use lib.ListN.{length};
+ghost use Rattle.endian.specs.Bytes.{zeros, splice};
 ghost use Rattle.refusal.specs.Tests.{first};
 ghost use Rattle.update.specs.Update.{updateTests, updateNumber, sectorsOf, withEntry};
-ghost use Rattle.update.specs.Plan.{partOf, planned, storesIn, groupOf, sectorIn, partAnswer, partBytes, storeAnswer, storeBytes};
+ghost use Rattle.update.specs.Plan.{partOf, planned, storesIn, groupOf, sectorIn, partAnswer, partBytes, storeAnswer, storeBytes, layTests, laid};
 use block::BlockFields;
 use block::Entry;
 use block::Holding;
@@ -226,4 +227,31 @@ pub fn store(p: Plan, f: &[u8], b: &[u8], r: &[u8], i: u64, out: &mut [u8]) -> G
         return put_part(p.front, k, f, r, i, out);
     }
     put_part(p.back, k, b, r, i - (k as u64 + 1), out)
+}
+
+// A record from the start of out on, and zeros after it; zeros where it has no room.
+fn fill(out: &mut [u8], r: &[u8])
+    ensures { λ _. ⌜ now (out .exit) ≡ splice (zeros (length (now (out .entry)))) 0 (now (r .entry)) ⌝ }
+{
+    endian::clear(out);
+    endian::put(out, 0, r);
+}
+
+// Lays a record into an area of a lent copy, its last sector filled with zeros; nothing before or after those sectors
+// changes. 1 unless the slice is a copy by its size, 15 for a length that no record has; then the copy stays.
+pub fn lay(c: &mut [u8], x: Area, r: &[u8]) -> u8
+    ensures { λ n. ⌜ n ≡ first (layTests (now (c .entry)) (now (r .entry))) ⌝ }
+    ensures { λ _. ⌜ now (c .exit) ≡ laid (now (c .entry)) x (now (r .entry)) ⌝ }
+{
+    let sized = c.len() == layout::copy_bytes();
+    if !sized {
+        return refusal::SLICE_SIZE;
+    }
+    if !layout::length_allowed(r.len() as u64) {
+        return refusal::RECORD_LENGTH;
+    }
+    let at = layout::area_offset(x);
+    let n = (r.len() + 511) / 512 * 512;
+    fill(&mut c[at..at + n], r);
+    refusal::NONE
 }
