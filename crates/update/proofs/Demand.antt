@@ -487,76 +487,82 @@ module _ (v : Device) (d : Sectors) (t : Time) (r : List ℕ) (s : Start v d t r
         let b : v .sectors < 256 ^ 8 = sectors-fit in
         let h : areaSector w (spare (copyFrom w v d)) v ≤ 18446744073709551615 - j = omega arith in
         let g : (Given.At (areaSector w (spare (copyFrom w v d)) v + j) ≡ partAnswer (partOf w v (copyFrom w v d) (holdingFor t r)) (sectorsOf (length r)) (copyFrom w v d) j out)
-            × (sectorIn r j out ≡ partBytes (partOf w v (copyFrom w v d) (holdingFor t r)) (sectorsOf (length r)) (copyFrom w v d) r j out) =
-            area-sector (partOf w v (copyFrom w v d) (holdingFor t r)) (sectorsOf (length r)) (copyFrom w v d) r j out l h (sectorIn r j out) refl in
+        × (sectorIn r j out ≡ partBytes (partOf w v (copyFrom w v d) (holdingFor t r)) (sectorsOf (length r)) (copyFrom w v d) r j out) =
+        area-sector (partOf w v (copyFrom w v d) (holdingFor t r)) (sectorsOf (length r)) (copyFrom w v d) r j out l h (sectorIn r j out) refl in
         (sym (g .0), sym (g .1) ∙ sector-laid r j out room)
 
     given-block : (partAnswer (partOf w v (copyFrom w v d) (holdingFor t r)) (sectorsOf (length r)) (copyFrom w v d) (sectorsOf (length r)) out ≡ Given.At (blockSector w v))
         × (partBytes (partOf w v (copyFrom w v d) (holdingFor t r)) (sectorsOf (length r)) (copyFrom w v d) r (sectorsOf (length r)) out ≡ newBlock (copyFrom w v d) t r)
     given-block =
         let z : first (writeTests out (poolOf (blockIn (copyFrom w v d))) (uuidOf (blockIn (copyFrom w v d))) (withEntry (fieldsOf (blockIn (copyFrom w v d))) (spare (copyFrom w v d)) (Used (holdingFor t r)))) ≡ 0 =
-            new-writes (copyFrom w v d) (accepted w) (heldIn (copyFrom w v d)) (its-used w) t r (s .fits) (ready .ns) (ready .len) (its-later w) out room in
+        new-writes (copyFrom w v d) (accepted w) (heldIn (copyFrom w v d)) (its-used w) t r (s .fits) (ready .ns) (ready .len) (its-later w) out room in
         let g : (Given.At (blockSector w v) ≡ partAnswer (partOf w v (copyFrom w v d) (holdingFor t r)) (sectorsOf (length r)) (copyFrom w v d) (sectorsOf (length r)) out)
-            × (written out (poolOf (blockIn (copyFrom w v d))) (uuidOf (blockIn (copyFrom w v d))) (withEntry (fieldsOf (blockIn (copyFrom w v d))) (spare (copyFrom w v d)) (Used (holdingFor t r)))
-                ≡ partBytes (partOf w v (copyFrom w v d) (holdingFor t r)) (sectorsOf (length r)) (copyFrom w v d) r (sectorsOf (length r)) out) =
-            block-stored (partOf w v (copyFrom w v d) (holdingFor t r)) (sectorsOf (length r)) (copyFrom w v d) r (sectorsOf (length r)) out (le-refl (sectorsOf (length r)))
-            (poolOf (blockIn (copyFrom w v d))) (uuidOf (blockIn (copyFrom w v d))) refl refl 0 (sym z) _ refl refl in
-        (sym (g .0),
-        sym (g .1)
-        ∙ new-written (copyFrom w v d) (accepted w) (heldIn (copyFrom w v d)) (its-used w) t r (s .fits) (ready .ns) (ready .len) (its-later w) out room)
+        × (written out (poolOf (blockIn (copyFrom w v d))) (uuidOf (blockIn (copyFrom w v d))) (withEntry (fieldsOf (blockIn (copyFrom w v d))) (spare (copyFrom w v d)) (Used (holdingFor t r)))
+        ≡ partBytes (partOf w v (copyFrom w v d) (holdingFor t r)) (sectorsOf (length r)) (copyFrom w v d) r (sectorsOf (length r)) out) =
+        block-stored (partOf w v (copyFrom w v d) (holdingFor t r)) (sectorsOf (length r)) (copyFrom w v d) r (sectorsOf (length r)) out (le-refl (sectorsOf (length r)))
+        (poolOf (blockIn (copyFrom w v d))) (uuidOf (blockIn (copyFrom w v d))) refl refl 0 (sym z) _ refl refl in (
+          sym (g .0),
+          sym (g .1)
+              ∙ new-written (copyFrom w v d) (accepted w) (heldIn (copyFrom w v d)) (its-used w) t r (s .fits) (ready .ns) (ready .len) (its-later w) out room,
+        )
 
     -- store j of a side is the store that the update has at its number
     given-store : (j : ℕ) → j ≤ sectorsOf (length r)
         → (partAnswer (partOf w v (copyFrom w v d) (holdingFor t r)) (sectorsOf (length r)) (copyFrom w v d) j out
-            ≡ Given.At (storeOf (copyFrom Front v d) (copyFrom Back v d) t r (begin w + j) .sector))
+        ≡ Given.At (storeOf (copyFrom Front v d) (copyFrom Back v d) t r (begin w + j) .sector))
         × (partBytes (partOf w v (copyFrom w v d) (holdingFor t r)) (sectorsOf (length r)) (copyFrom w v d) r j out
-            ≡ storeOf (copyFrom Front v d) (copyFrom Back v d) t r (begin w + j) .content)
+        ≡ storeOf (copyFrom Front v d) (copyFrom Back v d) t r (begin w + j) .content)
     given-store j l =
-        elim (ℕ-discrete j (sectorsOf (length r)))
-        [ yes e ↦
-            rw e
-            (given-block .0 ∙ ap (λ (q : Store). Given.At (q .sector)) (sym (laid w .block)), given-block .1 ∙ ap (λ (q : Store). q .content) (sym (laid w .block)))
-        | no e ↦
-            (given-area j (omega arith) .0 ∙ ap (λ (q : Store). Given.At (q .sector)) (sym (laid w .area j (omega arith))),
-            given-area j (omega arith) .1 ∙ ap (λ (q : Store). q .content) (sym (laid w .area j (omega arith)))) ]
+        elim (ℕ-discrete j (sectorsOf (length r))) [
+          | yes e ↦
+              rw e
+              (given-block .0 ∙ ap (λ (q : Store). Given.At (q .sector)) (sym (laid w .block)), given-block .1 ∙ ap (λ (q : Store). q .content) (sym (laid w .block)))
+          | no e ↦ (
+            given-area j (omega arith) .0 ∙ ap (λ (q : Store). Given.At (q .sector)) (sym (laid w .area j (omega arith))),
+            given-area j (omega arith) .1 ∙ ap (λ (q : Store). q .content) (sym (laid w .area j (omega arith))),
+          )
+        ]
 
     -- with the places as the front copy says them
     given-at : (j : ℕ) → j ≤ sectorsOf (length r)
         → (partAnswer (partOf w (deviceIn (copyFrom Front v d)) (copyFrom w v d) (holdingFor t r)) (sectorsOf (length r)) (copyFrom w v d) j out
-            ≡ Given.At (storeOf (copyFrom Front v d) (copyFrom Back v d) t r (begin w + j) .sector))
+        ≡ Given.At (storeOf (copyFrom Front v d) (copyFrom Back v d) t r (begin w + j) .sector))
         × (partBytes (partOf w (deviceIn (copyFrom Front v d)) (copyFrom w v d) (holdingFor t r)) (sectorsOf (length r)) (copyFrom w v d) r j out
-            ≡ storeOf (copyFrom Front v d) (copyFrom Back v d) t r (begin w + j) .content)
-    given-at j l =
-        (ap (λ (u : Device). partAnswer (partOf w u (copyFrom w v d) (holdingFor t r)) (sectorsOf (length r)) (copyFrom w v d) j out) (s .placed) ∙ given-store j l .0,
-        ap (λ (u : Device). partBytes (partOf w u (copyFrom w v d) (holdingFor t r)) (sectorsOf (length r)) (copyFrom w v d) r j out) (s .placed) ∙ given-store j l .1)
+        ≡ storeOf (copyFrom Front v d) (copyFrom Back v d) t r (begin w + j) .content)
+    given-at j l = (
+      ap (λ (u : Device). partAnswer (partOf w u (copyFrom w v d) (holdingFor t r)) (sectorsOf (length r)) (copyFrom w v d) j out) (s .placed) ∙ given-store j l .0,
+      ap (λ (u : Device). partBytes (partOf w u (copyFrom w v d) (holdingFor t r)) (sectorsOf (length r)) (copyFrom w v d) r j out) (s .placed) ∙ given-store j l .1,
+    )
 
   all-given : (i : ℕ) (out : List ℕ) → i < sectorsOf (length r) + 1 + sectorsOf (length r) + 1 → length out ≡ 512
       → (storeAnswer (planOf (copyFrom Front v d) (copyFrom Back v d) t r) (copyFrom Front v d) (copyFrom Back v d) i out
-          ≡ Given.At (storeOf (copyFrom Front v d) (copyFrom Back v d) t r i .sector))
+      ≡ Given.At (storeOf (copyFrom Front v d) (copyFrom Back v d) t r i .sector))
       × (storeBytes (planOf (copyFrom Front v d) (copyFrom Back v d) t r) (copyFrom Front v d) (copyFrom Back v d) r i out
-          ≡ storeOf (copyFrom Front v d) (copyFrom Back v d) t r i .content)
+      ≡ storeOf (copyFrom Front v d) (copyFrom Back v d) t r i .content)
   all-given i out l room =
-      elim (decLe i (sectorsOf (length r)))
-      [ yes h ↦
-          let n : 0 + i ≡ i = omega arith in
-          let z : i < storesIn (planOf (copyFrom Front v d) (copyFrom Back v d) t r) = omega arith in
-          joined (0 + i) n
-          (front-store (planOf (copyFrom Front v d) (copyFrom Back v d) t r) (copyFrom Front v d) (copyFrom Back v d) r i out room _ refl z _ _ h refl refl)
-          (given-at Front out room i h)
-      | no h ↦
-          let n : sectorsOf (length r) + 1 + (i - (sectorsOf (length r) + 1)) ≡ i = omega arith in
-          let z : i < storesIn (planOf (copyFrom Front v d) (copyFrom Back v d) t r) = omega arith in
-          let a : sectorsOf (length r) < i = omega arith in
-          joined (sectorsOf (length r) + 1 + (i - (sectorsOf (length r) + 1))) n
-          (back-store (planOf (copyFrom Front v d) (copyFrom Back v d) t r) (copyFrom Front v d) (copyFrom Back v d) r i out room _ refl z _ _ a refl refl)
-          (given-at Back out room (i - (sectorsOf (length r) + 1)) (omega arith)) ]
+      elim (decLe i (sectorsOf (length r))) [
+        | yes h ↦
+            let n : 0 + i ≡ i = omega arith in
+            let z : i < storesIn (planOf (copyFrom Front v d) (copyFrom Back v d) t r) = omega arith in
+            joined (0 + i) n
+            (front-store (planOf (copyFrom Front v d) (copyFrom Back v d) t r) (copyFrom Front v d) (copyFrom Back v d) r i out room _ refl z _ _ h refl refl)
+            (given-at Front out room i h)
+        | no h ↦
+            let n : sectorsOf (length r) + 1 + (i - (sectorsOf (length r) + 1)) ≡ i = omega arith in
+            let z : i < storesIn (planOf (copyFrom Front v d) (copyFrom Back v d) t r) = omega arith in
+            let a : sectorsOf (length r) < i = omega arith in
+            joined (sectorsOf (length r) + 1 + (i - (sectorsOf (length r) + 1))) n
+            (back-store (planOf (copyFrom Front v d) (copyFrom Back v d) t r) (copyFrom Front v d) (copyFrom Back v d) r i out room _ refl z _ _ a refl refl)
+            (given-at Back out room (i - (sectorsOf (length r) + 1)) (omega arith))
+      ]
     where
       joined : {g k : Given} {x y : List ℕ} (m : ℕ) → m ≡ i → (g ≡ k) × (x ≡ y)
           → (g ≡ Given.At (storeOf (copyFrom Front v d) (copyFrom Back v d) t r m .sector)) × (x ≡ storeOf (copyFrom Front v d) (copyFrom Back v d) t r m .content)
           → (k ≡ Given.At (storeOf (copyFrom Front v d) (copyFrom Back v d) t r i .sector)) × (y ≡ storeOf (copyFrom Front v d) (copyFrom Back v d) t r i .content)
-      joined m e p q =
-          (sym (p .0) ∙ (q .0 ∙ ap (λ (a : ℕ). Given.At (storeOf (copyFrom Front v d) (copyFrom Back v d) t r a .sector)) e),
-          sym (p .1) ∙ (q .1 ∙ ap (λ (a : ℕ). storeOf (copyFrom Front v d) (copyFrom Back v d) t r a .content) e))
+      joined m e p q = (
+        sym (p .0) ∙ (q .0 ∙ ap (λ (a : ℕ). Given.At (storeOf (copyFrom Front v d) (copyFrom Back v d) t r a .sector)) e),
+        sym (p .1) ∙ (q .1 ∙ ap (λ (a : ℕ). storeOf (copyFrom Front v d) (copyFrom Back v d) t r a .content) e),
+      )
 
 pub cutting : Cutting
 cutting v d e t r zero s h c x = in-front-area v d t r s e x 0 (sectorsOf (length r)) (omega arith) (omega arith) c (omega arith)
@@ -573,8 +579,9 @@ pub landing : Landing
 landing v d t r s = all-landed v d t r s
 
 pub giving : Giving
-giving v d t r s =
-    (sym
-    (ap (λ (b : Bool). cond b (Planned.Ready (planOf (copyFrom Front v d) (copyFrom Back v d) t r)) (Planned.Refused (updateNumber (copyFrom Front v d) (copyFrom Back v d) t r)))
-    (sym (eq-eqb (updateNumber (copyFrom Front v d) (copyFrom Back v d) t r) 0 (s .not-refused)))),
-    ((let e : 2 * sectorsOf (length r) + 2 ≡ sectorsOf (length r) + 1 + sectorsOf (length r) + 1 = omega arith in e), all-given v d t r s))
+giving v d t r s = (
+  sym
+      (ap (λ (b : Bool). cond b (Planned.Ready (planOf (copyFrom Front v d) (copyFrom Back v d) t r)) (Planned.Refused (updateNumber (copyFrom Front v d) (copyFrom Back v d) t r)))
+      (sym (eq-eqb (updateNumber (copyFrom Front v d) (copyFrom Back v d) t r) 0 (s .not-refused)))),
+  ((let e : 2 * sectorsOf (length r) + 2 ≡ sectorsOf (length r) + 1 + sectorsOf (length r) + 1 = omega arith in e), all-given v d t r s),
+)

@@ -60,13 +60,13 @@ module _ (c : List ℕ) (x : Area) (r : List ℕ) (m : ℕ) (em : m ≡ copyByte
       let n : ℕ = (length r + 511) / 512 * 512 in
       let f : at + (length r + 511) / 512 * 512 ≤ length c = lay-fits in
       let t : length (take (at + (length r + 511) / 512 * 512 - at) (drop at c)) ≡ (length r + 511) / 512 * 512 =
-          simp (length-take, length-drop) (omega arith) in
+      simp (length-take, length-drop) (omega arith) in
       let b : length r ≤ (length r + 511) / 512 * 512 = omega arith in
       let e : w ≡ r ++ zeros ((length r + 511) / 512 * 512 - length r) =
-          ew ∙ (ap (λ (q : ℕ). splice (zeros q) 0 r) t ∙ zeros-begun ((length r + 511) / 512 * 512) r b) in
+      ew ∙ (ap (λ (q : ℕ). splice (zeros q) 0 r) t ∙ zeros-begun ((length r + 511) / 512 * 512) r b) in
       let z : length (zeros ((length r + 511) / 512 * 512 - length r)) ≡ (length r + 511) / 512 * 512 - length r = length-zeros ((length r + 511) / 512 * 512 - length r) in
       let y : length w ≡ (length r + 511) / 512 * 512 =
-          ap length e ∙ (length-append r (zeros ((length r + 511) / 512 * 512 - length r)) ∙ omega arith) in
+      ap length e ∙ (length-append r (zeros ((length r + 511) / 512 * 512 - length r)) ∙ omega arith) in
       splice-part c at ((length r + 511) / 512 * 512) w f y
       ∙ (ap₂ (splice c) ea e
       ∙ sym (ap (λ (q : Bool). cond q (splice c (areaOffset x) (r ++ zeros ((length r + 511) / 512 * 512 - length r))) c) (eq-eqb (first (layTests c r)) 0 (sym lay-number))))

@@ -127,7 +127,7 @@ module _ (c : List ℕ) (ok : first (readTests (blockIn c)) ≡ 0) (h : Holding)
       let w : entriesAllowed (f .a) (f .b) ≡ true = tests .1 .1 .1 .0 in
       let pa : entryAllowed (f .a) ≡ true = and-left (entryAllowed (f .a)) (entryAllowed (f .b) && differentTimes (f .a) (f .b)) w in
       let pb : entryAllowed (f .b) ≡ true =
-          and-left (entryAllowed (f .b)) (differentTimes (f .a) (f .b)) (and-right (entryAllowed (f .a)) (entryAllowed (f .b) && differentTimes (f .a) (f .b)) w) in
+      and-left (entryAllowed (f .b)) (differentTimes (f .a) (f .b)) (and-right (entryAllowed (f .a)) (entryAllowed (f .b) && differentTimes (f .a) (f .b)) w) in
       go x (changed-allowed t r fits ns len f h later x e pa pb)
     where
       go : (x : Area)
@@ -147,11 +147,13 @@ module _ (c : List ℕ) (ok : first (readTests (blockIn c)) ≡ 0) (h : Holding)
         let p : length (poolOf b) ≡ 32 = length-window-fits b 32 32 (omega arith) in
         let u : length (uuidOf b) ≡ 32 = length-window-fits b 64 32 (omega arith) in
         let z : (sizeAllowed (withEntry (fieldsOf b) (spare c) (Used (holdingFor t r)) .device .sectors) ≡ true)
-            × AllHold (limitTests (poolOf b) (uuidOf b) (withEntry (fieldsOf b) (spare c) (Used (holdingFor t r)))) =
-            changed-tests (fieldsOf b) (poolOf b) (uuidOf b) (newest (fieldsOf b)) used (a .1 .1 .1 .0) (a .1 .1 .1 .1 .1) in
-        first-all (writeTests out (poolOf b) (uuidOf b) (withEntry (fieldsOf b) (spare c) (Used (holdingFor t r))))
-        (and-both (eqb (length out) 512) _ (eq-eqb (length out) 512 room)
-        (and-both (eqb (length (poolOf b)) 32) (eqb (length (uuidOf b)) 32) (eq-eqb (length (poolOf b)) 32 p) (eq-eqb (length (uuidOf b)) 32 u)), (z .0, z .1))
+        × AllHold (limitTests (poolOf b) (uuidOf b) (withEntry (fieldsOf b) (spare c) (Used (holdingFor t r)))) =
+        changed-tests (fieldsOf b) (poolOf b) (uuidOf b) (newest (fieldsOf b)) used (a .1 .1 .1 .0) (a .1 .1 .1 .1 .1) in
+        first-all (writeTests out (poolOf b) (uuidOf b) (withEntry (fieldsOf b) (spare c) (Used (holdingFor t r)))) (
+          and-both (eqb (length out) 512) _ (eq-eqb (length out) 512 room)
+              (and-both (eqb (length (poolOf b)) 32) (eqb (length (uuidOf b)) 32) (eq-eqb (length (poolOf b)) 32 p) (eq-eqb (length (uuidOf b)) 32 u)),
+          (z .0, z .1),
+        )
 
     pub new-written : written out (poolOf (blockIn c)) (uuidOf (blockIn c)) (withEntry (fieldsOf (blockIn c)) (spare c) (Used (holdingFor t r))) ≡ newBlock c t r
     unfolding newBlock

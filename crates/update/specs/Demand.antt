@@ -91,7 +91,7 @@ Giving =
     → (planned (copyFrom Front v d) (copyFrom Back v d) t r ≡ Ready (planOf (copyFrom Front v d) (copyFrom Back v d) t r))
     × ((storesIn (planOf (copyFrom Front v d) (copyFrom Back v d) t r) ≡ groupStart r 4)
     × ((i : ℕ) (out : List ℕ) → i < groupStart r 4 → length out ≡ 512
-        → (storeAnswer (planOf (copyFrom Front v d) (copyFrom Back v d) t r) (copyFrom Front v d) (copyFrom Back v d) i out
-            ≡ At (storeOf (copyFrom Front v d) (copyFrom Back v d) t r i .sector))
-        × (storeBytes (planOf (copyFrom Front v d) (copyFrom Back v d) t r) (copyFrom Front v d) (copyFrom Back v d) r i out
-            ≡ storeOf (copyFrom Front v d) (copyFrom Back v d) t r i .content)))
+    → (storeAnswer (planOf (copyFrom Front v d) (copyFrom Back v d) t r) (copyFrom Front v d) (copyFrom Back v d) i out
+    ≡ At (storeOf (copyFrom Front v d) (copyFrom Back v d) t r i .sector))
+    × (storeBytes (planOf (copyFrom Front v d) (copyFrom Back v d) t r) (copyFrom Front v d) (copyFrom Back v d) r i out
+    ≡ storeOf (copyFrom Front v d) (copyFrom Back v d) t r i .content)))
