@@ -44,17 +44,18 @@ use Rattle.device.proofs.Landing.{landed-size}
 use Rattle.device.proofs.Copies.{limit-sectors, limit-small, length-copy, copy-block}
 use Rattle.update.specs.Update.{deviceIn, numberAfter, updateTests, updateNumber, sectorsOf, sectorOf, holdingFor, withEntry, spare, newBlock, storeOf, groupStart}
 use Rattle.update.specs.declared.Part.{Part}
+use Rattle.update.specs.declared.Plan.{Plan}
 use Rattle.update.specs.declared.Given.{Given}
 use Rattle.update.specs.declared.Given.the-variants as Given
 use Rattle.update.specs.declared.Planned.the-variants as Planned
-use Rattle.update.specs.Plan.{partOf, planOf, planned, storesIn, sectorIn, partAnswer, partBytes, storeAnswer, storeBytes}
+use Rattle.update.specs.Plan.{partOf, planOf, planned, storesIn, groupOf, sectorIn, partAnswer, partBytes, storeAnswer, storeBytes}
 use Rattle.update.specs.Demand.{Gives, heldIn, recordIn, Start, Excused, Cutting, after, Landing, Giving}
 use Rattle.update.proofs.NewBlock.{number-fits, new-reads, new-writes, new-written}
 use Rattle.update.proofs.Holding.{Holds, newest-changed}
 use Rattle.update.proofs.Discovering.{gives, back-found, front-found, both-found, later-found}
 use Rattle.update.proofs.Padding.{sectors-most, length-sector, sector-laid}
 use Rattle.update.proofs.OneSide as OneSide
-use Rattle.update.proofs.Choosing.{area-sector, block-stored, front-store, back-store}
+use Rattle.update.proofs.Choosing.{grouped, area-sector, block-stored, front-store, back-store}
 use Rattle.update.proofs.InStep.{Stepped, verdict-facts, in-step-facts, same-device-test, held-in-step}
 use Rattle.update.proofs.OneCopy.{used, old-held, new-held, held-long, block-of}
 use Rattle.update.proofs.Stores.{Sizes, near, area-near, area-below, block-apart, areas-apart, front-side, back-side}
@@ -583,5 +584,5 @@ giving v d t r s = (
   sym
       (ap (λ (b : Bool). cond b (Planned.Ready (planOf (copyFrom Front v d) (copyFrom Back v d) t r)) (Planned.Refused (updateNumber (copyFrom Front v d) (copyFrom Back v d) t r)))
       (sym (eq-eqb (updateNumber (copyFrom Front v d) (copyFrom Back v d) t r) 0 (s .not-refused)))),
-  ((let e : 2 * sectorsOf (length r) + 2 ≡ sectorsOf (length r) + 1 + sectorsOf (length r) + 1 = omega arith in e), all-given v d t r s),
+  ((let e : 2 * sectorsOf (length r) + 2 ≡ sectorsOf (length r) + 1 + sectorsOf (length r) + 1 = omega arith in e), (λ g i h a b. sym (grouped r (planOf (copyFrom Front v d) (copyFrom Back v d) t r) refl g i h a b), all-given v d t r s)),
 )

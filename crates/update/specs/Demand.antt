@@ -21,7 +21,7 @@ use Rattle.discovery.specs.Discovery.{discovery, inStep, recordBytes, readAnswe
 use Rattle.device.specs.Device.{Sectors, Sound, landed, Cut, copyFrom}
 use Rattle.update.specs.declared.Planned.the-variants.{Ready}
 use Rattle.update.specs.declared.Given.the-variants.{At}
-use Rattle.update.specs.Plan.{planOf, planned, storesIn, storeAnswer, storeBytes}
+use Rattle.update.specs.Plan.{planOf, planned, storesIn, groupOf, storeAnswer, storeBytes}
 use Rattle.update.specs.Update.{deviceIn, updateNumber, newBlock, storeOf, groupStart}
 
 -- Discovery gives a record: it answers that length and time, the area it names starts with those bytes, and reading what it
@@ -84,14 +84,15 @@ Landing =
     × ((s : Side) → (recordIn (copyFrom s v (after v d t r)) ≡ r) × (timeOf (heldIn (copyFrom s v (after v d t r))) ≡ t)))
 
 -- The stores of the plan that `work_out` gives are those that a cut and a landing speak of: the plan is not refused, it has
--- 2k + 2 stores, and each is given with its sector and its 512 bytes.
+-- 2k + 2 stores, each is in its group, and each is given with its sector and its 512 bytes.
 abbrev pub Giving : Type 0
 Giving =
     (v : Device) (d : Sectors) (t : Time) (r : List ℕ) → Start v d t r
     → (planned (copyFrom Front v d) (copyFrom Back v d) t r ≡ Ready (planOf (copyFrom Front v d) (copyFrom Back v d) t r))
     × ((storesIn (planOf (copyFrom Front v d) (copyFrom Back v d) t r) ≡ groupStart r 4)
+    × (((g i : ℕ) → g < 4 → groupStart r g ≤ i → i < groupStart r (Prim.Native.Nat.suc g) → groupOf (planOf (copyFrom Front v d) (copyFrom Back v d) t r) i ≡ g)
     × ((i : ℕ) (out : List ℕ) → i < groupStart r 4 → length out ≡ 512
     → (storeAnswer (planOf (copyFrom Front v d) (copyFrom Back v d) t r) (copyFrom Front v d) (copyFrom Back v d) i out
     ≡ At (storeOf (copyFrom Front v d) (copyFrom Back v d) t r i .sector))
     × (storeBytes (planOf (copyFrom Front v d) (copyFrom Back v d) t r) (copyFrom Front v d) (copyFrom Back v d) r i out
-    ≡ storeOf (copyFrom Front v d) (copyFrom Back v d) t r i .content)))
+    ≡ storeOf (copyFrom Front v d) (copyFrom Back v d) t r i .content))))
