@@ -281,38 +281,13 @@ pub fn first_fit(d: Device, s: &[u8], m: u64) -> RunFound
     RunFound::At(r)
 }
 
-// Fills out with s, which is as long.
-fn copy(out: &mut [u8], s: &[u8])
-    requires { ⌜ length (now out) ≡ length (now s) ⌝ }
-    ensures { λ _. ⌜ now (out .exit) ≡ now (s .entry) ⌝ }
-{
-    let mut i = 0;
-    while i < s.len() {
-        out[i] = s[i];
-        i += 1;
-    }
-}
-
-// Lays s over out from `at` on; where it does not fit there, out stays.
-fn lay(out: &mut [u8], at: usize, s: &[u8])
-    ensures { λ _. ⌜ now (out .exit) ≡ splice (now (out .entry)) at (now (s .entry)) ⌝ }
-{
-    if out.len() < at {
-        return;
-    }
-    if out.len() - at < s.len() {
-        return;
-    }
-    copy(&mut out[at..at + s.len()], s);
-}
-
 // Lays s over the start of out, without the item at `at`.
 fn lay_without(out: &mut [u8], s: &[u8], at: usize)
     requires { ⌜ at + itemBytes ≤ length (now s) ⌝ }
     ensures { λ _. ⌜ now (out .exit) ≡ splice (splice (now (out .entry)) 0 (take at (now (s .entry)))) at (drop (at + itemBytes) (now (s .entry))) ⌝ }
 {
-    lay(out, 0, &s[..at]);
-    lay(out, at, &s[at + record::ITEM_BYTES..]);
+    endian::put(out, 0, &s[..at]);
+    endian::put(out, at, &s[at + record::ITEM_BYTES..]);
 }
 
 // What `allocate` answers where w bytes are lent.
@@ -351,7 +326,7 @@ pub fn allocate(d: Device, s: &[u8], kind: u16, m: u64, out: &mut [u8]) -> Alloc
     let Allocation::Placed(start, len) = a else {
         return a;
     };
-    lay(out, 0, s);
+    endian::put(out, 0, s);
     let position = record::count_of(s);
     let g = Segment {
         kind,

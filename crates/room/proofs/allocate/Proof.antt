@@ -20,8 +20,8 @@ returns c = (
       (c .before .before .allocation-of .result) _ (c .before .before .allocation-of .ensures) (c .enum-told .given .1),
 )
 
-lay-requires : tie.Need-lay-requires
-lay-requires c κs = search needs
+put-requires : tie.Need-put-requires
+put-requires c κs = search needs
 
 count-of-requires : tie.Need-count-of-requires
 count-of-requires c κs = search needs
@@ -36,8 +36,8 @@ returns-2 : tie.Need-returns-2
 returns-2 c =
     allocate-written (c .before .before .before .before .before .before .before .before .before .before .before .before .before .before .before .args .d) (c .before .before .before .before .before .before .before .before .before .before .before .before .before .before .before .args .s .now) (c .before .before .before .before .before .before .before .before .before .before .before .before .before .before .before .args .kind) (c .before .before .before .before .before .before .before .before .before .before .before .before .before .before .before .args .m) (c .before .before .before .before .before .before .before .before .before .before .before .before .before .before .before .args .out .now)
     (c .before .before .before .before .before .before .before .before .before .before .before .before .allocation-of .result) (c .before .before .before .before .before .before .before .before .before .before .a .given .0 .0) (c .before .before .before .before .before .before .before .before .before .before .a .given .0 .1 .0) (c .before .before .before .before .count-of .result)
-    (c .before .before .before .before .before .before .before .lay .last .0) (c .before .before .put-segment .last .0)
-    (c .before .before .before .before .before .before .before .before .before .before .before .before .allocation-of .ensures) (c .before .before .before .before .before .before .before .before .before .before .a .given .1) (c .before .before .before .before .before .before .before .lay .ensures) (c .before .before .before .before .count-of .ensures) (c .before .before .put-segment .ensures .1)
+    (c .before .before .before .before .before .before .before .put .last .0) (c .before .before .put-segment .last .0)
+    (c .before .before .before .before .before .before .before .before .before .before .before .before .allocation-of .ensures) (c .before .before .before .before .before .before .before .before .before .before .a .given .1) (c .before .before .before .before .before .before .before .put .ensures .1) (c .before .before .before .before .count-of .ensures) (c .before .before .put-segment .ensures .1)
 
 pub allocate-spec : {M : Type 1} → statement M
 allocate-spec =
@@ -47,7 +47,7 @@ allocate-spec =
     enum-known-a
     enum-told
     returns
-    lay-requires
+    put-requires
     count-of-requires
     put-segment-requires
     same-length

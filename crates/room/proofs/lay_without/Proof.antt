@@ -11,27 +11,27 @@ use borrow.Author.Needs.{needs}
 use Rattle.room.proofs.lay_without.Statement.{statement}
 use Rattle.room.proofs.lay_without.Tie as tie
 
-slice-aggregate-lay : tie.Need-slice-aggregate-lay
-slice-aggregate-lay c =
+slice-aggregate-put : tie.Need-slice-aggregate-put
+slice-aggregate-put c =
     sym (length-take-le (c .before .before .before .before .args .at) (c .before .before .before .before .args .s .now) (let h : c .before .before .before .before .args .at ≤ length (c .before .before .before .before .args .s .now) = omega arith in h))
 
-lay-requires : tie.Need-lay-requires
-lay-requires c κs = search needs
+put-requires : tie.Need-put-requires
+put-requires c κs = search needs
 
-add-lay : tie.Need-add-lay
-add-lay c = search needs
+add-put : tie.Need-add-put
+add-put c = search needs
 
-sub-lay : tie.Need-sub-lay
-sub-lay c = search needs
+sub-put : tie.Need-sub-put
+sub-put c = search needs
 
-part-lay-start : tie.Need-part-lay-start
-part-lay-start c = search needs
+part-put-start : tie.Need-part-put-start
+part-put-start c = search needs
 
-part-lay-end : tie.Need-part-lay-end
-part-lay-end c = search needs
+part-put-end : tie.Need-part-put-end
+part-put-end c = search needs
 
-lay-requires-2 : tie.Need-lay-requires-2
-lay-requires-2 c κs = search needs
+put-requires-2 : tie.Need-put-requires-2
+put-requires-2 c κs = search needs
 
 same-length : tie.Need-same-length
 same-length c = search needs
@@ -40,20 +40,20 @@ returns : tie.Need-returns
 returns c =
     let s : List ℕ = c .before .before .before .before .before .before .before .before .before .before .before .before .args .s .now in
     let at : ℕ = c .before .before .before .before .before .before .before .before .before .before .before .before .args .at in
-    c .before .before .lay2 .ensures
-    ∙ (ap (splice (c .before .before .before .before .before .before .before .lay .last .0) at) (take-all (length s - (at + 20)) (drop (at + 20) s) (rw length-drop (le-refl (length s - (at + 20)))))
-    ∙ ap (λ (o : List ℕ). splice o at (drop (at + 20) s)) (c .before .before .before .before .before .before .before .lay .ensures))
+    c .before .before .put2 .ensures .1
+    ∙ (ap (splice (c .before .before .before .before .before .before .before .put .last .0) at) (take-all (length s - (at + 20)) (drop (at + 20) s) (rw length-drop (le-refl (length s - (at + 20)))))
+    ∙ ap (λ (o : List ℕ). splice o at (drop (at + 20) s)) (c .before .before .before .before .before .before .before .put .ensures .1))
 
 pub lay-without-spec : {M : Type 1} → statement M
 lay-without-spec =
     tie.close
     (tie.spec
-    slice-aggregate-lay
-    lay-requires
-    add-lay
-    sub-lay
-    part-lay-start
-    part-lay-end
-    lay-requires-2
+    slice-aggregate-put
+    put-requires
+    add-put
+    sub-put
+    part-put-start
+    part-put-end
+    put-requires-2
     same-length
     returns)
