@@ -360,6 +360,48 @@ fn full() {
     check(b"410 segments", endian::window(&s, 0, 8208));
 }
 
+// 409 segments that fill the data range to its last sector: no free room, and no place for one more.
+fn filled() {
+    let mut s = io::large_buffer();
+    record::begin(&mut s, 128);
+    fill(&mut s, 408);
+    let last = Segment {
+        kind: 3,
+        start: 2456,
+        sectors: 2092648,
+    };
+    record::put_segment(&mut s, 408, last);
+    let r = endian::window(&s, 0, 8188);
+    check(b"409 segments to the last sector", r);
+    free(r);
+    fit(r, 1);
+    run_at(r, 0);
+}
+
+// Prints the number of the record with one segment after two of its bytes are changed.
+fn changed(what: &[u8], at: usize, v: u16) {
+    let mut s = one(2, 2048, 100);
+    endian::write_u16(&mut s, at, v);
+    check(what, &s);
+}
+
+// Records that are not well formed.
+fn forms() {
+    changed(b"a head of 7 bytes", 0, 7);
+    changed(b"a head of 9 bytes", 0, 9);
+    changed(b"a head of kind 17", 2, 17);
+    changed(b"block size 0", 4, 0);
+    changed(b"block size 64", 4, 64);
+    changed(b"block size 129", 4, 129);
+    changed(b"block size 2097280", 6, 32);
+    changed(b"a segment of 19 bytes", 8, 19);
+    changed(b"a segment of 21 bytes", 8, 21);
+    changed(b"kind 65535", 10, 65535);
+    let s = two(2048, 100, 3000, 50);
+    check(b"a byte after it", endian::window(&s, 0, 29));
+    check(b"19 bytes after it", endian::window(&s, 0, 47));
+}
+
 // Prints the number of a record with two data segments.
 fn pair(what: &[u8], start: u64, sectors: u64, start2: u64, sectors2: u64) {
     check(what, &two(start, sectors, start2, sectors2));
@@ -430,6 +472,8 @@ fn main() {
     changes();
     requests();
     full();
+    filled();
+    forms();
     records();
     ranges();
     parts();

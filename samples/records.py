@@ -1,0 +1,261 @@
+#!/usr/bin/env python3
+"""Works out what record_samples must print.
+
+    python3 samples/records.py        run at the repository's root
+
+Written from document 01 alone; nothing is taken from the library. It runs the
+same records and requests as crates/record_samples/src/main.rt, by its own
+reading of the rules, and writes crates/record_samples/stdout.
+"""
+import struct
+from pathlib import Path
+
+DEVICE = (2097152, 2040, 0)
+KINDS = (1, 2, 3, 4)
+MOST = 2 ** 64 - 1
+lines = []
+
+
+def data_range(device):
+    size, metadata, reserved = device
+    return 8 + metadata + reserved, size - 8 - metadata - reserved
+
+
+def device_number(device):
+    size, metadata, reserved = device
+    if size < 2097152:
+        return 4
+    if metadata % 2 or not 2040 <= metadata <= 16384:
+        return 7
+    return 8 if reserved > 65536 else 0
+
+
+def parse(data):
+    """The block size and the segments, or None for 17."""
+    if len(data) < 8:
+        return None
+    length, kind, size = struct.unpack_from("<HHI", data, 0)
+    if length != 8 or kind != 16 or size % 128 or not 128 <= size <= 2097152:
+        return None
+    segments = []
+    for at in range(8, len(data), 20):
+        if len(data) - at < 20:
+            return None
+        length, kind, start, sectors = struct.unpack_from("<HHQQ", data, at)
+        if length != 20 or kind not in KINDS:
+            return None
+        segments.append((kind, start, sectors))
+    return size, segments
+
+
+def segments_of(data):
+    return parse(data)[1]
+
+
+def refusal(data, device=DEVICE):
+    """The number of device numbers and a record; 0 for none."""
+    if device_number(device):
+        return device_number(device)
+    if not 1 <= len(data) <= 8192:
+        return 15
+    if parse(data) is None:
+        return 17
+    low, high = data_range(device)
+    if any(n == 0 or s < low or s + n > high for _, s, n in segments_of(data)):
+        return 18
+    taken = sorted((s, s + n) for _, s, n in segments_of(data))
+    return 19 if any(a[1] > b[0] for a, b in zip(taken, taken[1:])) else 0
+
+
+def runs(data):
+    """The free runs, ascending."""
+    at, high = data_range(DEVICE)
+    found = []
+    for start, end in sorted((s, s + n) for _, s, n in segments_of(data)):
+        if start > at:
+            found.append((at, start - at))
+        at = end
+    return found + ([(at, high - at)] if at < high else [])
+
+
+def first_run(data, sectors):
+    return next((run for run in runs(data) if run[1] >= sectors), None)
+
+
+def item(kind, start, sectors):
+    return struct.pack("<HHQQ", 20, kind, start, sectors)
+
+
+def record(*segments):
+    return struct.pack("<HHI", 8, 16, 128) + b"".join(item(*segment) for segment in segments)
+
+
+def one(kind, start, sectors):
+    return record((kind, start, sectors))
+
+
+def two(start, sectors, start2, sectors2):
+    return record((2, start, sectors), (2, start2, sectors2))
+
+
+# A line each.
+
+def say(name, *values):
+    lines.append(name + ":" + "".join(f" {value}" for value in values))
+
+
+def answer(name, number, *values):
+    """The values, or the refusal number."""
+    say(name, *(("refused", number) if number else values))
+
+
+def check(name, data, device=DEVICE):
+    say(name, refusal(data, device))
+
+
+def head(data):
+    n = refusal(data)
+    answer("block size", n, *([] if n else [parse(data)[0]]))
+
+
+def count(data):
+    n = refusal(data)
+    answer("segments", n, *([] if n else [len(segments_of(data))]))
+
+
+def segment(data, position):
+    n = refusal(data)
+    if not n and position >= len(segments_of(data)):
+        n = 22
+    say("segment", position, *(("refused", n) if n else segments_of(data)[position]))
+
+
+def run_at(data, k):
+    n = refusal(data)
+    found = [] if n else runs(data)
+    say("run", k, *(("refused", n) if n else found[k] if k < len(found) else (0, 0)))
+
+
+def free(data):
+    n = refusal(data)
+    answer("free runs", n, *([] if n else [len(runs(data))]))
+    low, high = data_range(DEVICE)
+    answer("free total", n, *([] if n else [high - low - sum(s for _, _, s in segments_of(data))]))
+
+
+def fit(data, sectors):
+    n = refusal(data) or (18 if sectors == 0 else 0) or (0 if first_run(data, sectors) else 20)
+    say("first fit for", sectors, *(("refused", n) if n else first_run(data, sectors)))
+
+
+def allocate(data, kind, sectors, lent):
+    """The new record, or None."""
+    n = refusal(data)
+    if not n and kind not in KINDS:
+        n = 17
+    if not n and sectors == 0:
+        n = 18
+    if not n and len(segments_of(data)) >= 409:
+        n = 21
+    if not n and first_run(data, sectors) is None:
+        n = 20
+    if not n and lent < len(data) + 20:
+        n = 1
+    start = None if n else first_run(data, sectors)[0]
+    answer("allocated", n, start, len(data) + 20)
+    return None if n else data + item(kind, start, sectors)
+
+
+def release(data, position, lent):
+    """The new record, or None."""
+    n = refusal(data)
+    if not n and position >= len(segments_of(data)):
+        n = 22
+    if not n and lent < len(data) - 20:
+        n = 1
+    answer("released", n, len(data) - 20)
+    return None if n else data[:8 + 20 * position] + data[28 + 20 * position:]
+
+
+def shown(data, first, second):
+    check("new record", data)
+    segment(data, first)
+    segment(data, second)
+    free(data)
+    run_at(data, 0)
+    run_at(data, 1)
+
+
+def main():
+    printed = bytes.fromhex("08 00 10 00 80 00 00 00 14 00 02 00 00 08 00 00 00 00 00 00 64 00 00 00 00 00 00 00")
+    check("printed record", printed)
+    head(printed)
+    count(printed)
+    segment(printed, 0)
+    segment(printed, 1)
+    made = one(2, 2048, 100)
+    assert made == printed
+    say("made", *(f"{struct.unpack_from('<Q', made, at)[0]:016x}" for at in (0, 8, 16)),
+        f"{struct.unpack_from('<I', made, 24)[0]:016x}")
+    example = two(2048, 100, 3000, 50)
+    check("example 9", example)
+    free(example)
+    for k in (0, 1, 2, MOST):
+        run_at(example, k)
+    for sectors in (852, 853, 2092054, 2092055, 0):
+        fit(example, sectors)
+    shown(allocate(example, 4, 853, 70), 1, 2)
+    shown(allocate(example, 1, 852, 70), 1, 2)
+    shown(release(example, 0, 48), 0, 1)
+    shown(release(example, 1, 48), 0, 1)
+    for kind, sectors in ((0, 1), (5, 0), (16, 1), (1, 0), (1, 2092055), (1, MOST)):
+        assert allocate(example, kind, sectors, 70) is None
+        say("two bytes left", 0x0707)
+    allocate(example, 1, 1, 67)
+    release(example, 0, 27)
+    release(example, 2, 70)
+    say("begin with 64", 17)
+    say("begin with 2097280", 17)
+    say("begin in 7 bytes", 1)
+    many = record(*((3, 2048 + i, 1) for i in range(410)))
+    check("409 segments", many[:8188])
+    count(many[:8188])
+    allocate(many[:8188], 1, 1, 70)
+    check("410 segments", many)
+    filled = many[:8168] + item(3, 2456, 2092648)
+    check("409 segments to the last sector", filled)
+    free(filled)
+    fit(filled, 1)
+    run_at(filled, 0)
+    for name, at, value in (("a head of 7 bytes", 0, 7), ("a head of 9 bytes", 0, 9), ("a head of kind 17", 2, 17),
+                            ("block size 0", 4, 0), ("block size 64", 4, 64), ("block size 129", 4, 129),
+                            ("block size 2097280", 6, 32), ("a segment of 19 bytes", 8, 19),
+                            ("a segment of 21 bytes", 8, 21), ("kind 65535", 10, 65535)):
+        check(name, printed[:at] + struct.pack("<H", value) + printed[at + 2:])
+    check("a byte after it", example[:29])
+    check("19 bytes after it", example[:47])
+    check("example 11", two(2048, 100, 2147, 1))
+    check("with 2148", two(2048, 100, 2148, 1))
+    check("the later one first", two(2148, 1, 2048, 101))
+    for kind in (0, 1, 4, 5, 16):
+        check(f"kind {kind}", one(kind, 2048, 100))
+    check("below the data range", one(2, 2047, 100))
+    check("no sectors", one(2, 2048, 0))
+    check("the last data sector", one(2, 2095103, 1))
+    check("one past it", one(2, 2095103, 2))
+    check("past the data range", one(2, 2095104, 1))
+    check("the whole data range", one(3, 2048, 2093056))
+    check("a sum that wraps", one(2, MOST, MOST))
+    check("a sum that wraps into the range", one(2, 4096, MOST))
+    for name, n in (("no bytes", 0), ("seven bytes", 7), ("a head", 8), ("a segment cut", 27), ("a segment", 28)):
+        check(name, printed[:n])
+    far = one(2, 200000, 100)
+    check("S 2097151", far, (2097151, 2041, 65537))
+    check("L 2041", far, (2097152, 2041, 65537))
+    check("R 65537", b"", (2097152, 2040, 65537))
+    check("L 16384 and R 65536", far, (2097152, 16384, 65536))
+    Path("crates/record_samples/stdout").write_text("".join(line + "\n" for line in lines))
+
+
+if __name__ == "__main__":
+    main()
