@@ -28,20 +28,24 @@ module _ (st : ℕ → Store) (d : Sectors) where
   landed-old zero n h = landed-none n
   landed-old (suc j) n h = step-miss j n (h j (omega arith)) ∙ landed-old j n (λ i k. h i (omega arith))
 
-  -- a sector that one store alone goes to is as stored
-  pub landed-new : (j i n : ℕ) → i < j → n ≡ st i .sector → ((k : ℕ) → k < j → n ≡ st k .sector → k ≡ i) → landed st j d n ≡ st i .content
-  landed-new zero i n l e h = absurd (not-suc-le-zero l)
-  landed-new (suc j) i n l e h =
+  -- a sector is as the last store to it left it
+  pub landed-last : (j i n : ℕ) → i < j → n ≡ st i .sector → ((k : ℕ) → i < k → k < j → n ≡ st k .sector → ⊥) → landed st j d n ≡ st i .content
+  landed-last zero i n l e h = absurd (not-suc-le-zero l)
+  landed-last (suc j) i n l e h =
       elim (ℕ-discrete i j) [
         | yes p ↦ ap (λ (k : ℕ). landed st (suc k) d n) (sym p) ∙ step-hit i n e
-        | no p ↦
-            step-miss j n (λ q. p (sym (h j (omega arith) q)))
-            ∙ landed-new j i n (omega arith) e (λ k m. h k (omega arith))
+        | no p ↦ step-miss j n (h j (omega arith) (omega arith)) ∙ landed-last j i n (omega arith) e (λ k a b. h k a (omega arith))
       ]
 
+  -- a sector that one store alone goes to is as stored
+  pub landed-new : (j i n : ℕ) → i < j → n ≡ st i .sector → ((k : ℕ) → k < j → n ≡ st k .sector → k ≡ i) → landed st j d n ≡ st i .content
+  landed-new j i n l e h = landed-last j i n l e (λ k a b q. let z : k ≡ i = h k b q in omega arith)
+
   -- sectors keep their size where every store has it
-  pub landed-size : ((n : ℕ) → length (d n) ≡ 512) → ((i : ℕ) → length (st i .content) ≡ 512) → (j n : ℕ) → length (landed st j d n) ≡ 512
-  landed-size h c zero n = ap length (landed-none n) ∙ h n
-  landed-size h c (suc j) n =
-      elim (ℕ-discrete n (st j .sector))
-      [ yes e ↦ ap length (step-hit j n e) ∙ c j | no e ↦ ap length (step-miss j n e) ∙ landed-size h c j n ]
+  pub landed-size : ((n : ℕ) → length (d n) ≡ 512) → (j : ℕ) → ((i : ℕ) → i < j → length (st i .content) ≡ 512) → (n : ℕ) → length (landed st j d n) ≡ 512
+  landed-size h zero c n = ap length (landed-none n) ∙ h n
+  landed-size h (suc j) c n =
+      elim (ℕ-discrete n (st j .sector)) [
+        | yes e ↦ ap length (step-hit j n e) ∙ c j (omega arith)
+        | no e ↦ ap length (step-miss j n e) ∙ landed-size h j (λ i l. c i (omega arith)) n
+      ]

@@ -1,3 +1,4 @@
 -- The laws that callers cite.
 pub mod Landing
 pub mod Copies
+pub mod Groups

@@ -3,9 +3,9 @@ use Prim.Native.Nat.{ℕ, zero, suc, _+_, _/_, _≤_, _<_}
 use mathlib.Core.Path.{_≡_}
 use mathlib.Core.Logic.{_⊎_}
 use mathlib.Core.Bool.{Bool, true, false, cond}
-use mathlib.Core.List.{List, [], _++_}
+use mathlib.Core.List.{List, [], _∷_, _++_}
 use lib.Dec.{eqb}
-use lib.ListN.{length}
+use lib.ListN.{length, take, getD}
 use Rattle.layout.specs.declared.Device.{Device}
 use Rattle.layout.specs.declared.Side.{Side}
 use Rattle.layout.specs.declared.Area.the-variants.{A, B}
@@ -45,6 +45,36 @@ pub record Cut (st : ℕ → Store) (i j : ℕ) (d e : Sectors) : Type 0 where
   pub wild : ℕ
   pub sound : Sound e
   pub each : (n : ℕ) → (e n ≡ landed st i d n) ⊎ ((e n ≡ landed st j d n) ⊎ ((n ≡ wild) × Stored st i j n))
+
+-- stores in groups, with a flush after each group
+abbrev pub Groups : Type 0
+Groups = List (List Store)
+
+-- all stores, in their order
+unfoldable pub stores : Groups → List Store
+stores [] = []
+stores (g ∷ gs) = g ++ stores gs
+
+-- the store with number i, counted from 0; past the last there is none, and an empty one stands for it
+unfoldable pub storeIn : Groups → ℕ → Store
+storeIn gs i = getD (stores gs) i (record { sector = 0; content = [] })
+
+-- the number of the first store of group g, which is where the group before it ends
+unfoldable pub groupStart : Groups → ℕ → ℕ
+groupStart gs g = length (stores (take g gs))
+
+-- a cut in group g
+abbrev pub CutIn : Groups → ℕ → Sectors → Sectors → Type 0
+CutIn gs g d e = Cut (storeIn gs) (groupStart gs g) (groupStart gs (suc g)) d e
+
+-- the device after all stores
+abbrev pub allLanded : Groups → Sectors → Sectors
+allLanded gs d = landed (storeIn gs) (length (stores gs)) d
+
+-- k stores, to the sectors from a on
+unfoldable pub storesFrom : ℕ → (ℕ → List ℕ) → ℕ → List Store
+storesFrom a c zero = []
+storesFrom a c (suc k) = storesFrom a c k ++ (record { sector = a + k; content = c k } ∷ [])
 
 -- n sectors from sector s on, one after the other
 unfoldable pub gather : Sectors → ℕ → ℕ → List ℕ

@@ -448,7 +448,7 @@ module _ (v : Device) (d : Sectors) (t : Time) (r : List ℕ) (s : Start v d t r
       (length-sector r i) (new-size Front) (length-sector r (i - (k + 1))) (new-size Back)
 
   after-sound : Sound (after v d t r)
-  after-sound = record { size = landed-size (storeOf (copyFrom Front v d) (copyFrom Back v d) t r) d (s .sound .size) store-size (groupStart r 4) }
+  after-sound = record { size = landed-size (storeOf (copyFrom Front v d) (copyFrom Back v d) t r) d (s .sound .size) (groupStart r 4) (λ i l. store-size i) }
 
   all-landed : Gives (copyFrom Front v (after v d t r)) (copyFrom Back v (after v d t r)) t r
       × ((inStep (copyFrom Front v (after v d t r)) (copyFrom Back v (after v d t r)) ≡ true)
