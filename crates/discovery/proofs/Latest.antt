@@ -27,7 +27,7 @@ use Rattle.discovery.specs.declared.Other.{Other}
 use Rattle.discovery.specs.declared.Other.the-variants.{Both, One}
 use Rattle.discovery.specs.declared.Answer.{Answer}
 use Rattle.discovery.specs.declared.Answer.the-variants.{Found, Refused}
-use Rattle.discovery.specs.Copy.{areaBytes, entryIn, otherArea, wholeEntry, whole, newer, newest, presentFrom, present, readingIn}
+use Rattle.discovery.specs.Copy.{areaBytes, entryIn, otherArea, otherSide, wholeEntry, whole, newer, newest, presentFrom, present, readingIn}
 use Rattle.discovery.specs.Discovery.{recordAt, aloneOf, newestOf, togetherOf, sameDevice, sameUuids, decide, sized, discovery, copyOn}
 use Rattle.discovery.specs.Newest.{timeAt, Newest}
 
@@ -126,14 +126,10 @@ module _ (c : List ℕ) (f : BlockFields) where
   unfolding present
   present-nothing = none-from (newest f)
 
-abbrev opposite : Side → Side
-opposite Front = Back
-opposite Back = Front
-
 module _ (f b : List ℕ) (r : Record) (o : Other) where
   -- a copy's present record, no whole area of the other copy later, is the newest
   build : (s : Side) (g : BlockFields) (x : Area) (h : Holding) → readingIn (copyOn s f b) .verdict ≡ Verdict.Accepted g → Latest (copyOn s f b) g x h
-      → ((e : BlockFields) (y : Area) → readingIn (copyOn (opposite s) f b) .verdict ≡ Verdict.Accepted e → whole (copyOn (opposite s) f b) e y ≡ true
+      → ((e : BlockFields) (y : Area) → readingIn (copyOn (otherSide s) f b) .verdict ≡ Verdict.Accepted e → whole (copyOn (otherSide s) f b) e y ≡ true
       → laterThan (timeOf (holdingOf (entryIn e y))) (timeOf h) ≡ false)
       → recordAt s x h ≡ r → Newest f b r
   build s g x h a l n d = subst (λ (z : Record). Newest f b z) d
@@ -153,7 +149,7 @@ module _ (f b : List ℕ) (r : Record) (o : Other) where
           ap (λ (i : BlockFields). laterThan (timeOf (holdingOf (entryIn i y))) (timeOf h)) k ∙ l .latest y (ap (λ (i : BlockFields). whole c i y) (sym k) ∙ w)
 
       go : (s : Side) (g : BlockFields) → readingIn (copyOn s f b) .verdict ≡ Verdict.Accepted g → Latest (copyOn s f b) g x h
-          → ((e : BlockFields) (y : Area) → readingIn (copyOn (opposite s) f b) .verdict ≡ Verdict.Accepted e → whole (copyOn (opposite s) f b) e y ≡ true
+          → ((e : BlockFields) (y : Area) → readingIn (copyOn (otherSide s) f b) .verdict ≡ Verdict.Accepted e → whole (copyOn (otherSide s) f b) e y ≡ true
           → laterThan (timeOf (holdingOf (entryIn e y))) (timeOf h) ≡ false)
           → (t : Side) (e : BlockFields) (y : Area) → readingIn (copyOn t f b) .verdict ≡ Verdict.Accepted e → whole (copyOn t f b) e y ≡ true
           → laterThan (timeOf (holdingOf (entryIn e y))) (timeOf h) ≡ false
@@ -179,10 +175,10 @@ module _ (f b : List ℕ) (r : Record) (o : Other) where
 
   -- one copy alone
   alone-found : (s : Side) (g : BlockFields) (n m : ℕ) → readingIn (copyOn s f b) .verdict ≡ Verdict.Accepted g
-      → readingIn (copyOn (opposite s) f b) .verdict ≡ Verdict.Refused n → (p : Present) → present (copyOn s f b) g ≡ p → aloneOf s p m ≡ Found r o → Newest f b r
+      → readingIn (copyOn (otherSide s) f b) .verdict ≡ Verdict.Refused n → (p : Present) → present (copyOn s f b) g ≡ p → aloneOf s p m ≡ Found r o → Newest f b r
   alone-found s g n m a d Nothing p e = absurd (refused-found noRecord e)
   alone-found s g n m a d (At x h) p e =
-      build s g x h a (present-latest (copyOn s f b) g x h p) (λ i y q w. absurd (refused-accepted (copyOn (opposite s) f b) n i d q))
+      build s g x h a (present-latest (copyOn s f b) g x h p) (λ i y q w. absurd (refused-accepted (copyOn (otherSide s) f b) n i d q))
       (found-same (recordAt s x h) (One m) e)
 
   module _ (x y : BlockFields) (ax : readingIn f .verdict ≡ Verdict.Accepted x) (ay : readingIn b .verdict ≡ Verdict.Accepted y) where

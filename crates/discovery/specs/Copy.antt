@@ -6,6 +6,8 @@ use lib.Dec.{eqb}
 use Rattle.endian.specs.Bytes.{window, same}
 use Rattle.checksum.specs.Crc.{checksum}
 use Rattle.layout.specs.Places.{areaOffset}
+use Rattle.layout.specs.declared.Side.{Side}
+use Rattle.layout.specs.declared.Side.the-variants.{Front, Back}
 use Rattle.layout.specs.declared.Area.{Area}
 use Rattle.layout.specs.declared.Area.the-variants.{A, B}
 use Rattle.block.specs.declared.Holding.{Holding}
@@ -34,6 +36,10 @@ entryIn f B = f .b
 abbrev pub otherArea : Area → Area
 otherArea A = B
 otherArea B = A
+
+abbrev pub otherSide : Side → Side
+otherSide Front = Back
+otherSide Back = Front
 
 -- an area is whole when its entry is used and its first used bytes match the entry's CRC
 abbrev pub wholeEntry : List ℕ → Area → Entry → Bool

@@ -4,7 +4,7 @@ ghost use mathlib.Core.Path.{_≡_};
 ghost use mathlib.Core.Bool.{true};
 ghost use mathlib.Core.List.{[]};
 ghost use lib.ListN.{length};
-ghost use Rattle.discovery.specs.Copy.{entryIn, otherArea, wholeEntry, whole, newer, newest, presentFrom, present, readingIn};
+ghost use Rattle.discovery.specs.Copy.{entryIn, otherArea, otherSide, wholeEntry, whole, newer, newest, presentFrom, present, readingIn};
 ghost use Rattle.discovery.specs.Discovery.{recordAt, aloneOf, newestOf, togetherOf, sameDevice, sameUuids, numberOf, decide, discovery, agree, stepped, inStepOf, inStep, recordBytes, readAnswer, readBytes};
 ghost use Rattle.endian.specs.Bytes.{splice};
 ghost use Rattle.block.specs.declared.Verdict.the-variants as Verdict;
@@ -60,7 +60,7 @@ fn whole_entry(c: &[u8], x: Area, e: Entry) -> bool
 }
 
 // The entry of an area.
-fn entry_in(f: BlockFields, x: Area) -> Entry
+pub fn entry_in(f: BlockFields, x: Area) -> Entry
     ensures { λ r. ⌜ r ≡ entryIn f x ⌝ }
 {
     match x {
@@ -76,6 +76,16 @@ pub fn other_area(x: Area) -> Area
     match x {
         Area::A => Area::B,
         Area::B => Area::A,
+    }
+}
+
+// The other side.
+pub fn other_side(s: Side) -> Side
+    ensures { λ r. ⌜ r ≡ otherSide s ⌝ }
+{
+    match s {
+        Side::Front => Side::Back,
+        Side::Back => Side::Front,
     }
 }
 

@@ -7,7 +7,9 @@ use native.Mathlib.Omega.{arith}
 use borrow.Author.Tests.{lt-ltb, le-ltb, le-leb, lt-leb, eq-eqb, ne-eqb}
 use lib.Dec.{leb, ltb, eqb}
 use lib.ListN.{length}
+use Rattle.refusal.specs.Numbers.{noStore}
 use Rattle.refusal.specs.Tests.{first}
+use Rattle.block.specs.declared.BlockFields.{BlockFields}
 use Rattle.block.specs.Block.{poolOf, uuidOf}
 use Rattle.block.specs.Writing.{writeTests, written}
 use Rattle.discovery.specs.Copy.{blockIn}
@@ -16,7 +18,7 @@ use Rattle.update.specs.declared.Plan.{Plan}
 use Rattle.update.specs.declared.Given.{Given}
 use Rattle.update.specs.declared.Given.the-variants as Given
 use Rattle.update.specs.Update.{sectorsOf, groupStart}
-use Rattle.update.specs.Plan.{storesIn, groupOf, sectorIn, partAnswer, partBytes, storeAnswer, storeBytes}
+use Rattle.update.specs.Plan.{storesIn, groupOf, sectorIn, within, unlessRefused, blockAnswer, blockBytes, partAnswer, partBytes, storeAnswer, storeBytes}
 
 -- the first two of three tests hold
 chosen : {A : Type 0} (a b c v : Bool) (x y z w : A) → a ≡ true → b ≡ true → c ≡ v → cond a (cond b (cond c x y) z) w ≡ cond v x y
@@ -43,6 +45,21 @@ module _ (p : Plan) (i : ℕ) where
         in-none h =
             rw (le-ltb i (p .sectors) a, lt-leb i (p .sectors) b, lt-leb i (2 * (p .sectors)) c, sym (ap (ltb i) e), le-ltb i n h)
 
+-- a block that was written, or refused
+module _ (s : ℕ) (g : BlockFields) (c out q u : List ℕ) (eq : q ≡ poolOf (blockIn c)) (eu : u ≡ uuidOf (blockIn c)) (n : ℕ)
+    (en : n ≡ first (writeTests out q u g)) (w : List ℕ) (ew : w ≡ written out q u g) where
+  number : n ≡ first (writeTests out (poolOf (blockIn c)) (uuidOf (blockIn c)) g)
+  number = en ∙ ap₂ (λ (y z : List ℕ). first (writeTests out y z g)) eq eu
+
+  bytes : w ≡ blockBytes g c out
+  bytes = ew ∙ ap₂ (λ (y z : List ℕ). written out y z g) eq eu
+
+  pub block-refused : (n ≡ 0 → ⊥) → (Given.Refused n ≡ blockAnswer s g c out) × (w ≡ blockBytes g c out)
+  block-refused z = (sym (ap (λ (b : Bool). cond b (Given.At s) (Given.Refused n)) (ne-eqb n 0 z)) ∙ ap (λ (m : ℕ). unlessRefused m s) number, bytes)
+
+  pub block-stored : n ≡ 0 → (Given.At s ≡ blockAnswer s g c out) × (w ≡ blockBytes g c out)
+  block-stored z = (sym (ap (λ (b : Bool). cond b (Given.At s) (Given.Refused n)) (eq-eqb n 0 z)) ∙ ap (λ (m : ℕ). unlessRefused m s) number, bytes)
+
 module _ (p : Part) (k : ℕ) (c r : List ℕ) (j : ℕ) (out : List ℕ) where
   module _ (h : j < k) where
     pub no-number : 18446744073709551615 - j < p .area → (Given.Refused 23 ≡ partAnswer p k c j out) × (out ≡ partBytes p k c r j out)
@@ -53,19 +70,12 @@ module _ (p : Part) (k : ℕ) (c r : List ℕ) (j : ℕ) (out : List ℕ) where
     area-sector l w e =
         (rw (lt-ltb j k h, le-leb (p .area) (18446744073709551615 - j) l), rw (lt-ltb j k h, le-leb (p .area) (18446744073709551615 - j) l) e)
 
-  module _ (h : k ≤ j) (q u : List ℕ) (eq : q ≡ poolOf (blockIn c)) (eu : u ≡ uuidOf (blockIn c)) (n : ℕ) (en : n ≡ first (writeTests out q u (p .fields)))
-      (w : List ℕ) (ew : w ≡ written out q u (p .fields)) where
-    number : n ≡ first (writeTests out (poolOf (blockIn c)) (uuidOf (blockIn c)) (p .fields))
-    number = en ∙ ap₂ (λ (y z : List ℕ). first (writeTests out y z (p .fields))) eq eu
-
-    bytes : w ≡ partBytes p k c r j out
-    bytes = rw (le-ltb j k h) (ew ∙ ap₂ (λ (y z : List ℕ). written out y z (p .fields)) eq eu)
-
-    pub block-refused : (n ≡ 0 → ⊥) → (Given.Refused n ≡ partAnswer p k c j out) × (w ≡ partBytes p k c r j out)
-    block-refused z = (rw (le-ltb j k h, sym number, ne-eqb n 0 z), bytes)
-
-    pub block-stored : n ≡ 0 → (Given.At (p .block) ≡ partAnswer p k c j out) × (w ≡ partBytes p k c r j out)
-    block-stored z = (rw (le-ltb j k h, sym number, eq-eqb n 0 z), bytes)
+  pub part-block : k ≤ j → (g : Given) (w : List ℕ) → g ≡ blockAnswer (p .block) (p .fields) c out → w ≡ blockBytes (p .fields) c out
+      → (g ≡ partAnswer p k c j out) × (w ≡ partBytes p k c r j out)
+  part-block h g w eg ew = (
+    eg ∙ ap (λ (b : Bool). cond b (cond (within (p .area) j) (Given.At (p .area + j)) (Given.Refused noStore)) (blockAnswer (p .block) (p .fields) c out)) (sym (le-ltb j k h)),
+    ew ∙ ap (λ (b : Bool). cond b (cond (within (p .area) j) (sectorIn r j out) out) (blockBytes (p .fields) c out)) (sym (le-ltb j k h)),
+  )
 
 module _ (p : Plan) (f b r : List ℕ) (i : ℕ) (out : List ℕ) where
   pub wrong-size : (length out ≡ 512 → ⊥) → (Given.Refused 1 ≡ storeAnswer p f b i out) × (out ≡ storeBytes p f b r i out)

@@ -55,7 +55,7 @@ use Rattle.update.proofs.Holding.{Holds, newest-changed}
 use Rattle.update.proofs.Discovering.{gives, back-found, front-found, both-found, later-found}
 use Rattle.update.proofs.Padding.{sectors-most, length-sector, sector-laid}
 use Rattle.update.proofs.OneSide as OneSide
-use Rattle.update.proofs.Choosing.{grouped, area-sector, block-stored, front-store, back-store}
+use Rattle.update.proofs.Choosing.{grouped, area-sector, block-stored, part-block, front-store, back-store}
 use Rattle.update.proofs.InStep.{Stepped, verdict-facts, in-step-facts, same-device-test, held-in-step}
 use Rattle.update.proofs.OneCopy.{used, old-held, new-held, held-long, block-of}
 use Rattle.update.proofs.Stores.{Sizes, near, area-near, area-below, block-apart, areas-apart, front-side, back-side}
@@ -500,8 +500,9 @@ module _ (v : Device) (d : Sectors) (t : Time) (r : List ℕ) (s : Start v d t r
         let g : (Given.At (blockSector w v) ≡ partAnswer (partOf w v (copyFrom w v d) (holdingFor t r)) (sectorsOf (length r)) (copyFrom w v d) (sectorsOf (length r)) out)
         × (written out (poolOf (blockIn (copyFrom w v d))) (uuidOf (blockIn (copyFrom w v d))) (withEntry (fieldsOf (blockIn (copyFrom w v d))) (spare (copyFrom w v d)) (Used (holdingFor t r)))
         ≡ partBytes (partOf w v (copyFrom w v d) (holdingFor t r)) (sectorsOf (length r)) (copyFrom w v d) r (sectorsOf (length r)) out) =
-        block-stored (partOf w v (copyFrom w v d) (holdingFor t r)) (sectorsOf (length r)) (copyFrom w v d) r (sectorsOf (length r)) out (le-refl (sectorsOf (length r)))
-        (poolOf (blockIn (copyFrom w v d))) (uuidOf (blockIn (copyFrom w v d))) refl refl 0 (sym z) _ refl refl in (
+        part-block (partOf w v (copyFrom w v d) (holdingFor t r)) (sectorsOf (length r)) (copyFrom w v d) r (sectorsOf (length r)) out (le-refl (sectorsOf (length r))) _ _
+        (block-stored (blockSector w v) (withEntry (fieldsOf (blockIn (copyFrom w v d))) (spare (copyFrom w v d)) (Used (holdingFor t r))) (copyFrom w v d) out
+        (poolOf (blockIn (copyFrom w v d))) (uuidOf (blockIn (copyFrom w v d))) refl refl 0 (sym z) _ refl refl .0) refl in (
           sym (g .0),
           sym (g .1)
               ∙ new-written (copyFrom w v d) (accepted w) (heldIn (copyFrom w v d)) (its-used w) t r (s .fits) (ready .ns) (ready .len) (its-later w) out room,

@@ -17,6 +17,7 @@ use Rattle.layout.specs.Places.{blockSector, areaSector, areaOffset, copyBytes}
 use Rattle.block.specs.declared.Time.{Time}
 use Rattle.block.specs.declared.Holding.{Holding}
 use Rattle.block.specs.declared.Entry.the-variants.{Used}
+use Rattle.block.specs.declared.BlockFields.{BlockFields}
 use Rattle.block.specs.Block.{poolOf, uuidOf, fieldsOf}
 use Rattle.block.specs.Writing.{writeTests, written}
 use Rattle.discovery.specs.Copy.{blockIn}
@@ -67,16 +68,23 @@ within a j = leb a (18446744073709551615 - j)
 abbrev pub unlessRefused : ℕ → ℕ → Given
 unlessRefused n s = cond (eqb n 0) (Given.At s) (Given.Refused n)
 
+-- a block with these numbers and the UUIDs of a copy's block, to sector s: the sector and the bytes
+abbrev pub blockAnswer : ℕ → BlockFields → List ℕ → List ℕ → Given
+blockAnswer s g c out = unlessRefused (first (writeTests out (poolOf (blockIn c)) (uuidOf (blockIn c)) g)) s
+
+abbrev pub blockBytes : BlockFields → List ℕ → List ℕ → List ℕ
+blockBytes g c out = written out (poolOf (blockIn c)) (uuidOf (blockIn c)) g
+
 -- store j of one side's k + 1: the sector and the bytes
 abbrev pub partAnswer : Part → ℕ → List ℕ → ℕ → List ℕ → Given
 partAnswer p k c j out =
     cond (ltb j k) (cond (within (p .area) j) (Given.At (p .area + j)) (Given.Refused noStore))
-    (unlessRefused (first (writeTests out (poolOf (blockIn c)) (uuidOf (blockIn c)) (p .fields))) (p .block))
+    (blockAnswer (p .block) (p .fields) c out)
 
 abbrev pub partBytes : Part → ℕ → List ℕ → List ℕ → ℕ → List ℕ → List ℕ
 partBytes p k c r j out =
     cond (ltb j k) (cond (within (p .area) j) (sectorIn r j out) out)
-    (written out (poolOf (blockIn c)) (uuidOf (blockIn c)) (p .fields))
+    (blockBytes (p .fields) c out)
 
 -- what `store` answers and leaves: 1 unless 512 bytes are lent, 23 past the last store, else the front's and then the back's
 abbrev pub storeAnswer : Plan → List ℕ → List ℕ → ℕ → List ℕ → Given

@@ -28,7 +28,7 @@ use Rattle.discovery.specs.declared.Answer.the-variants as Answer
 use Rattle.discovery.specs.Copy.{blockIn, otherArea, newest}
 use Rattle.discovery.specs.Discovery.{discovery, inStep}
 use Rattle.discovery.specs.Newest.{timeAt}
-use Rattle.device.specs.Device.{Store}
+use Rattle.device.specs.Device.{Store, storesFrom}
 
 -- the device that the copies are of
 abbrev pub deviceIn : List ℕ → Device
@@ -55,6 +55,14 @@ sectorsOf n = (n + 511) / 512
 -- sector j of a record, the last one filled with zeros
 unfoldable pub sectorOf : List ℕ → ℕ → List ℕ
 sectorOf r j = window r (512 * j) 512 ++ zeros (512 - length (window r (512 * j) 512))
+
+-- a record's stores, from sector a on
+abbrev pub recordStores : ℕ → List ℕ → List Store
+recordStores a r = storesFrom a (sectorOf r) (sectorsOf (length r))
+
+-- the one store of a side's signature block
+abbrev pub blockStore : Side → Device → List ℕ → List Store
+blockStore w v b = record { sector = blockSector w v; content = b } ∷ []
 
 -- what the new entry says
 abbrev pub holdingFor : Time → List ℕ → Holding

@@ -4,7 +4,7 @@ ghost use lib.ListN.{length};
 ghost use Rattle.endian.specs.Bytes.{zeros, splice};
 ghost use Rattle.refusal.specs.Tests.{first};
 ghost use Rattle.update.specs.Update.{updateTests, updateNumber, sectorsOf, withEntry};
-ghost use Rattle.update.specs.Plan.{partOf, planned, storesIn, groupOf, sectorIn, partAnswer, partBytes, storeAnswer, storeBytes, layTests, laid};
+ghost use Rattle.update.specs.Plan.{partOf, planned, storesIn, groupOf, sectorIn, blockAnswer, blockBytes, partAnswer, partBytes, storeAnswer, storeBytes, layTests, laid};
 use block::BlockFields;
 use block::Entry;
 use block::Holding;
@@ -86,7 +86,7 @@ pub fn sectors(n: u32) -> u32
 }
 
 // A block's numbers with one entry changed.
-fn with_entry(f: BlockFields, x: Area, e: Entry) -> BlockFields
+pub fn with_entry(f: BlockFields, x: Area, e: Entry) -> BlockFields
     ensures { λ r. ⌜ r ≡ withEntry f x e ⌝ }
 {
     let d = f.device;
@@ -184,8 +184,23 @@ fn put_sector(r: &[u8], j: u32, out: &mut [u8])
     endian::put(out, 0, endian::window(r, 512 * (j as usize), 512));
 }
 
-// Store j of one side's k + 1.
-fn put_part(p: Part, k: u32, c: &[u8], r: &[u8], j: u64, out: &mut [u8]) -> Given
+// A block with these numbers and the UUIDs of a copy's block, into out, which goes to sector `at`. A block that the writer
+// refuses gives its number; then out stays.
+pub fn put_block(at: u64, g: BlockFields, c: &[u8], out: &mut [u8]) -> Given
+    ensures { λ a. ⌜ a ≡ blockAnswer at g (now (c .entry)) (now (out .entry)) ⌝ }
+    ensures { λ _. ⌜ now (out .exit) ≡ blockBytes g (now (c .entry)) (now (out .entry)) ⌝ }
+{
+    let s = endian::window(c, 512, 512);
+    let n = block::write(out, endian::window(s, 32, 32), endian::window(s, 64, 32), g);
+    if n != 0 {
+        return Given::Refused(n);
+    }
+    Given::At(at)
+}
+
+// Store j of one side's k + 1: the record's sector j, and after its k sectors the block, with the UUIDs of the copy's block.
+// 23 for a sector past 2^64 - 1; a block that the writer refuses gives its number. Then out stays.
+pub fn put_part(p: Part, k: u32, c: &[u8], r: &[u8], j: u64, out: &mut [u8]) -> Given
     ensures { λ g. ⌜ g ≡ partAnswer p k (now (c .entry)) j (now (out .entry)) ⌝ }
     ensures { λ _. ⌜ now (out .exit) ≡ partBytes p k (now (c .entry)) (now (r .entry)) j (now (out .entry)) ⌝ }
 {
@@ -196,17 +211,7 @@ fn put_part(p: Part, k: u32, c: &[u8], r: &[u8], j: u64, out: &mut [u8]) -> Give
         put_sector(r, j as u32, out);
         return Given::At(p.area + j);
     }
-    let s = endian::window(c, 512, 512);
-    let n = block::write(
-        out,
-        endian::window(s, 32, 32),
-        endian::window(s, 64, 32),
-        p.fields,
-    );
-    if n != 0 {
-        return Given::Refused(n);
-    }
-    Given::At(p.block)
+    put_block(p.block, p.fields, c, out)
 }
 
 // The store of a plan with number i, counted from 0: its 512 bytes into out, its sector as the answer. The copies and the

@@ -1,9 +1,5 @@
 -- `update::put_part` meets its contract. Assumes nothing.
-use Prim.Native.Nat.{ℕ}
-use mathlib.Core.Path.{ap, _∙_}
-use mathlib.Core.List.{List}
-use Rattle.endian.specs.Bytes.{window}
-use Rattle.update.proofs.Choosing.{no-number, area-sector, block-refused, block-stored}
+use Rattle.update.proofs.Choosing.{no-number, area-sector, part-block}
 use borrow.Author.Needs.{needs}
 use Rattle.update.proofs.put_part.Statement.{statement}
 use Rattle.update.proofs.put_part.Tie as tie
@@ -20,8 +16,8 @@ cast-put-sector c = search needs
 put-sector-requires : tie.Need-put-sector-requires
 put-sector-requires c κs = search needs
 
-add-t11 : tie.Need-add-t11
-add-t11 c = search needs
+add-t9 : tie.Need-add-t9
+add-t9 c = search needs
 
 same-length : tie.Need-same-length
 same-length c = search needs
@@ -29,33 +25,14 @@ same-length c = search needs
 returns-2 : tie.Need-returns-2
 returns-2 c = area-sector (c .before .before .before .before .before .before .before .before .before .before .before .args .p) (c .before .before .before .before .before .before .before .before .before .before .before .args .k) (c .before .before .before .before .before .before .before .before .before .before .before .args .c .now) (c .before .before .before .before .before .before .before .before .before .before .before .args .r .now) (c .before .before .before .before .before .before .before .before .before .before .before .args .j) (c .before .before .before .before .before .before .before .before .before .before .before .args .out .now) (c .before .before .before .before .before .before .before .if1 .taken) (c .before .before .before .before .before .if2 .left) _ (c .before .before .before .put-sector .ensures)
 
-window-requires : tie.Need-window-requires
-window-requires c κs = search needs
-
-window-requires-2 : tie.Need-window-requires-2
-window-requires-2 c κs = search needs
-
-window-requires-3 : tie.Need-window-requires-3
-window-requires-3 c κs = search needs
-
-write-requires : tie.Need-write-requires
-write-requires c κs = search needs
+put-block-requires : tie.Need-put-block-requires
+put-block-requires c κs = search needs
 
 same-length-2 : tie.Need-same-length-2
 same-length-2 c = search needs
 
 returns-3 : tie.Need-returns-3
-returns-3 c =
-    block-refused (c .before .before .before .before .before .before .before .before .before .before .before .before .args .p) (c .before .before .before .before .before .before .before .before .before .before .before .before .args .k) (c .before .before .before .before .before .before .before .before .before .before .before .before .args .c .now) (c .before .before .before .before .before .before .before .before .before .before .before .before .args .r .now) (c .before .before .before .before .before .before .before .before .before .before .before .before .args .j) (c .before .before .before .before .before .before .before .before .before .before .before .before .args .out .now) (c .before .before .before .before .before .before .before .before .if1 .left) _ _ (c .before .before .before .before .before .window2 .ensures ∙ ap (λ (s : List ℕ). window s 32 32) (c .before .before .before .before .before .before .before .window .ensures))
-    (c .before .before .before .before .window3 .ensures ∙ ap (λ (s : List ℕ). window s 64 32) (c .before .before .before .before .before .before .before .window .ensures)) (c .before .before .before .write .result) (c .before .before .before .write .ensures .0) _ (c .before .before .before .write .ensures .1) (c .if3 .taken)
-
-same-length-3 : tie.Need-same-length-3
-same-length-3 c = search needs
-
-returns-4 : tie.Need-returns-4
-returns-4 c =
-    block-stored (c .before .before .before .before .before .before .before .before .before .before .before .before .args .p) (c .before .before .before .before .before .before .before .before .before .before .before .before .args .k) (c .before .before .before .before .before .before .before .before .before .before .before .before .args .c .now) (c .before .before .before .before .before .before .before .before .before .before .before .before .args .r .now) (c .before .before .before .before .before .before .before .before .before .before .before .before .args .j) (c .before .before .before .before .before .before .before .before .before .before .before .before .args .out .now) (c .before .before .before .before .before .before .before .before .if1 .left) _ _ (c .before .before .before .before .before .window2 .ensures ∙ ap (λ (s : List ℕ). window s 32 32) (c .before .before .before .before .before .before .before .window .ensures))
-    (c .before .before .before .before .window3 .ensures ∙ ap (λ (s : List ℕ). window s 64 32) (c .before .before .before .before .before .before .before .window .ensures)) (c .before .before .before .write .result) (c .before .before .before .write .ensures .0) _ (c .before .before .before .write .ensures .1) (c .if3 .left)
+returns-3 c = part-block (c .before .before .before .before .before .before .before .before .args .p) (c .before .before .before .before .before .before .before .before .args .k) (c .before .before .before .before .before .before .before .before .args .c .now) (c .before .before .before .before .before .before .before .before .args .r .now) (c .before .before .before .before .before .before .before .before .args .j) (c .before .before .before .before .before .before .before .before .args .out .now) (c .before .before .before .before .if1 .left) _ _ (c .before .before .put-block .ensures .0) (c .before .before .put-block .ensures .1)
 
 pub put-part-spec : {M : Type 1} → statement M
 put-part-spec =
@@ -65,14 +42,9 @@ put-part-spec =
     returns
     cast-put-sector
     put-sector-requires
-    add-t11
+    add-t9
     same-length
     returns-2
-    window-requires
-    window-requires-2
-    window-requires-3
-    write-requires
+    put-block-requires
     same-length-2
-    returns-3
-    same-length-3
-    returns-4)
+    returns-3)
