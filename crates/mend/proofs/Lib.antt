@@ -1,0 +1,3 @@
+-- The laws of `mend`.
+pub mod Choosing
+pub mod Planning

@@ -1,0 +1,3 @@
+-- What the contracts of `mend` cite, and what mending promises.
+pub mod Mend
+pub mod Plan
