@@ -33,6 +33,7 @@ use Rattle.discovery.specs.Newest.{timeAt, Newest}
 
 -- the latest whole area of a copy
 pub record Latest (c : List ℕ) (f : BlockFields) (x : Area) (h : Holding) : Type 0 where
+  pub its-present : present c f ≡ At x h
   pub its-whole : whole c f x ≡ true
   pub holds : h ≡ holdingOf (entryIn f x)
   pub latest : (y : Area) → whole c f y ≡ true → laterThan (timeOf (holdingOf (entryIn f y))) (timeOf h) ≡ false
@@ -71,8 +72,8 @@ module _ (c : List ℕ) (f : BlockFields) where
   at-same x y h k e = (cc, cc)
 
   latest-from : (z : Area) → ((y : Area) → whole c f z ≡ true → whole c f y ≡ true → laterThan (timeOf (holdingOf (entryIn f y))) (timeOf (holdingOf (entryIn f z))) ≡ false)
-      → (x : Area) (h : Holding) → presentFrom c f z ≡ At x h → Latest c f x h
-  latest-from z l x h e = go (whole c f z) refl (whole c f (otherArea z)) refl
+      → (x : Area) (h : Holding) → present c f ≡ At x h → presentFrom c f z ≡ At x h → Latest c f x h
+  latest-from z l x h pe e = go (whole c f z) refl (whole c f (otherArea z)) refl
     where
       pick : Bool → Bool → Present
       pick s t = cond s (At z (holdingOf (entryIn f z))) (cond t (At (otherArea z) (holdingOf (entryIn f (otherArea z)))) Nothing)
@@ -83,6 +84,7 @@ module _ (c : List ℕ) (f : BlockFields) where
           let p : y ≡ x = at-same y x (holdingOf (entryIn f y)) h d .0 in
           let q : holdingOf (entryIn f y) ≡ h = at-same y x (holdingOf (entryIn f y)) h d .1 in
           record {
+            its-present = pe;
             its-whole = ap (whole c f) (sym p) ∙ w;
             holds = sym q ∙ ap (λ (v : Area). holdingOf (entryIn f v)) p;
             latest = λ v k. ap (λ (i : Holding). laterThan (timeOf (holdingOf (entryIn f v))) (timeOf i)) (sym q) ∙ m v k;
@@ -99,7 +101,7 @@ module _ (c : List ℕ) (f : BlockFields) where
   -- a copy's present record is whole, and none of its whole areas is later
   pub present-latest : (x : Area) (h : Holding) → present c f ≡ At x h → Latest c f x h
   unfolding present newest
-  present-latest = latest-from (newest f) (λ y w v. of-newest (newer (f .b) (f .a)) refl w y v)
+  present-latest x h e = latest-from (newest f) (λ y w v. of-newest (newer (f .b) (f .a)) refl w y v) x h e e
 
   none-from : (z : Area) → presentFrom c f z ≡ Nothing → (y : Area) → whole c f y ≡ true → ⊥
   none-from z e = go (whole c f z) refl (whole c f (otherArea z)) refl
@@ -136,6 +138,7 @@ module _ (f b : List ℕ) (r : Record) (o : Other) where
       (record {
         fields = g;
         accepted = a;
+        its-present = l .its-present ∙ ap (At x) (l .holds);
         its-area-is-whole = l .its-whole;
         is = ap (recordAt s x) (l .holds);
         none-later = go s g a l n;

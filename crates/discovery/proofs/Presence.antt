@@ -1,9 +1,10 @@
 -- A copy's present record, by which areas are whole. Assumes nothing.
 use Prim.Native.Nat.{ℕ}
 use mathlib.Core.Path.{_≡_, refl, sym, ap, ap₂, _∙_}
-use mathlib.Core.Bool.{Bool, true, false, cond}
+use mathlib.Core.Bool.{Bool, true, false, cond, true≢false}
 use mathlib.Core.List.{List}
 use Rattle.layout.specs.declared.Area.{Area}
+use Rattle.layout.specs.declared.Area.the-variants.{A, B}
 use Rattle.block.specs.declared.Holding.{Holding}
 use Rattle.block.specs.declared.BlockFields.{BlockFields}
 use Rattle.block.specs.Writing.{holdingOf}
@@ -34,6 +35,20 @@ module _ (c : List ℕ) (f : BlockFields) where
       ap (At y) k
       ∙ (sym (ap (λ (b : Bool). cond b (At y (holdingOf (entryIn f y))) Nothing) v)
       ∙ (ap (λ (z : Area). cond (whole c f z) (At z (holdingOf (entryIn f z))) Nothing) d ∙ (sym (from-other x w) ∙ ap (presentFrom c f) e)))
+
+  -- which area the present record is in
+  pub present-at-newest : (x : Area) (h : Holding) → whole c f (newest f) ≡ true → present c f ≡ At x h → newest f ≡ x
+  unfolding present
+  present-at-newest x h w e = let p : At (newest f) (holdingOf (entryIn f (newest f))) ≡ At x h = sym (from-newest (newest f) w) ∙ e in cc
+
+  pub present-at-other : (x : Area) → whole c f (newest f) ≡ false → whole c f x ≡ true → otherArea (newest f) ≡ x
+  present-at-other x w v = go (newest f) x w v
+    where
+      go : (y x : Area) → whole c f y ≡ false → whole c f x ≡ true → otherArea y ≡ x
+      go A A w v = absurd (true≢false (sym v ∙ w))
+      go A B w v = refl
+      go B A w v = refl
+      go B B w v = absurd (true≢false (sym v ∙ w))
 
   pub present-none : (x y : Area) → x ≡ newest f → whole c f x ≡ false → y ≡ otherArea x → whole c f y ≡ false → Nothing ≡ present c f
   unfolding present

@@ -1,4 +1,4 @@
--- What a found record is: whole, in an accepted copy, and no whole area of an accepted copy is later. The theorem is
+-- What a found record is: the present record of an accepted copy, whole, and no whole area of an accepted copy is later. The theorem is
 -- `proofs/Latest.antt`, `newest-found`. Assumes nothing.
 use Prim.Native.Nat.{ℕ}
 use mathlib.Core.Path.{_≡_}
@@ -12,7 +12,8 @@ use Rattle.block.specs.declared.Verdict.the-variants as Verdict
 use Rattle.block.specs.Entry.{laterThan, timeOf}
 use Rattle.block.specs.Writing.{holdingOf}
 use Rattle.discovery.specs.declared.Record.{Record}
-use Rattle.discovery.specs.Copy.{entryIn, whole, readingIn}
+use Rattle.discovery.specs.declared.Present.the-variants.{At}
+use Rattle.discovery.specs.Copy.{entryIn, whole, present, readingIn}
 use Rattle.discovery.specs.Discovery.{recordAt, copyOn}
 
 -- the time of a found record
@@ -22,6 +23,7 @@ timeAt r = record { seconds = r .seconds; nanoseconds = r .nanoseconds }
 pub record Newest (f b : List ℕ) (r : Record) : Type 0 where
   pub fields : BlockFields
   pub accepted : readingIn (copyOn (r .side) f b) .verdict ≡ Verdict.Accepted fields
+  pub its-present : present (copyOn (r .side) f b) fields ≡ At (r .area) (holdingOf (entryIn fields (r .area)))
   pub its-area-is-whole : whole (copyOn (r .side) f b) fields (r .area) ≡ true
   pub is : r ≡ recordAt (r .side) (r .area) (holdingOf (entryIn fields (r .area)))
   pub none-later : (s : Side) (g : BlockFields) (y : Area) → readingIn (copyOn s f b) .verdict ≡ Verdict.Accepted g

@@ -1,6 +1,6 @@
--- The new block of a copy: it is accepted, with the old numbers but for the changed entry. Assumes nothing.
+-- A block that is written again with other entries is accepted; and so is the new block of a copy. Assumes nothing.
 use Prim.Native.Nat.{ℕ, _+_, _^_, _≤_, _<_}
-use mathlib.Core.Path.{_≡_, refl, sym, ap, ap₂, _∙_}
+use mathlib.Core.Path.{_≡_, refl, sym, ap, ap₂, subst, _∙_}
 use mathlib.Core.Bool.{Bool, true, false, cond, not, _&&_}
 use mathlib.Core.List.{List}
 use native.Mathlib.Omega.{arith}
@@ -15,9 +15,10 @@ use Rattle.checksum.specs.Crc as Crc
 use Rattle.checksum.proofs.Laws.{checksum-below}
 use Rattle.refusal.specs.Tests.{first, AllHold}
 use Rattle.refusal.proofs.Order.{first-zero, first-all}
+use Rattle.layout.specs.declared.Device.{Device}
 use Rattle.layout.specs.declared.Area.{Area}
 use Rattle.layout.specs.declared.Area.the-variants.{A, B}
-use Rattle.layout.specs.Limits.{sizeAllowed, lengthAllowed}
+use Rattle.layout.specs.Limits.{sizeAllowed, metadataAllowed, reservedAllowed, lengthAllowed}
 use Rattle.block.specs.declared.Time.{Time}
 use Rattle.block.specs.declared.Holding.{Holding}
 use Rattle.block.specs.declared.Entry.{Entry}
@@ -26,7 +27,7 @@ use Rattle.block.specs.declared.BlockFields.{BlockFields}
 use Rattle.block.specs.declared.Reading.{Reading}
 use Rattle.block.specs.declared.Verdict.the-variants as Verdict
 use Rattle.block.specs.Entry.{laterThan, sameTime, timeOf, entryOf, entryAllowed, differentTimes, entriesAllowed}
-use Rattle.block.specs.Block.{number, poolOf, uuidOf, entryAt, fieldsOf, limitTests, readTests, reading}
+use Rattle.block.specs.Block.{number, deviceOf, poolOf, uuidOf, entryAt, fieldsOf, limitTests, readTests, reading}
 use Rattle.block.specs.Writing.{holdingOf, blockOf, writeTests, written}
 use Rattle.block.specs.Demand.{EntryFits}
 use Rattle.block.proofs.Readings.{ascending, accepted-length}
@@ -51,59 +52,96 @@ entry-fits s n u c hs hc = go (eqb s 0 && (eqb n 0 && (eqb u 0 && eqb c 0)))
 entry-at-fits : (b : List ℕ) (at : ℕ) → EntryFits (entryAt b at)
 entry-at-fits b at = entry-fits (number b at 8) (number b (at + 8) 4) (number b (at + 12) 4) (number b (at + 16) 4) (number-fits b at 8) (number-fits b (at + 16) 4)
 
--- an entry that may stand beside a used one, later than it
-module _ (t : Time) (r : List ℕ) (fits : t .seconds < 2 ^ 64) (ns : leb (t .nanoseconds) 999999999 ≡ true) (len : lengthAllowed (length r) ≡ true) where
-  new-allowed : entryAllowed (Used (holdingFor t r)) ≡ true
-  new-allowed = and-both (lengthAllowed (length r)) (leb (t .nanoseconds) 999999999) len ns
+-- both entries of accepted numbers
+entries-allowed : (b : List ℕ) → first (readTests b) ≡ 0 → (entryAllowed (fieldsOf b .a) ≡ true) × (entryAllowed (fieldsOf b .b) ≡ true)
+entries-allowed b ok =
+    let w : entriesAllowed (fieldsOf b .a) (fieldsOf b .b) ≡ true = first-zero 0 (readTests b) (ascending b) ok .1 .1 .1 .1 .1 .1 .1 .1 .0 in (
+      and-left (entryAllowed (fieldsOf b .a)) _ w,
+      and-left (entryAllowed (fieldsOf b .b)) _ (and-right (entryAllowed (fieldsOf b .a)) _ w),
+    )
 
-  new-fits : EntryFits (Used (holdingFor t r))
-  new-fits = (fits, checksum-below r)
+-- both entries of an accepted block are within their limits
+pub entry-allowed : (b : List ℕ) → first (readTests b) ≡ 0 → (x : Area) → entryAllowed (entryIn (fieldsOf b) x) ≡ true
+entry-allowed b ok A = entries-allowed b ok .0
+entry-allowed b ok B = entries-allowed b ok .1
 
-  module _ (f : BlockFields) (h : Holding) (later : laterThan t (timeOf h) ≡ true) where
-    changed-allowed : (x : Area) → entryIn f x ≡ Used h → entryAllowed (f .a) ≡ true → entryAllowed (f .b) ≡ true
-        → entriesAllowed (withEntry f (otherArea x) (Used (holdingFor t r)) .a) (withEntry f (otherArea x) (Used (holdingFor t r)) .b) ≡ true
-    changed-allowed A e pa pb =
-        and-both (entryAllowed (f .a)) _ pa
-        (and-both (entryAllowed (Used (holdingFor t r))) _ new-allowed
-        (ap (λ (z : Entry). differentTimes z (Used (holdingFor t r))) e ∙ ap not (later-differs-back t (timeOf h) later)))
-    changed-allowed B e pa pb =
-        and-both (entryAllowed (Used (holdingFor t r))) _ new-allowed
-        (and-both (entryAllowed (f .b)) _ pb (ap (differentTimes (Used (holdingFor t r))) e ∙ ap not (later-differs t (timeOf h) later)))
+pub entry-in-fits : (b : List ℕ) (x : Area) → EntryFits (entryIn (fieldsOf b) x)
+entry-in-fits b A = entry-at-fits b 96
+entry-in-fits b B = entry-at-fits b 128
 
-    changed-fits : (x : Area) → EntryFits (f .a) → EntryFits (f .b)
-        → EntryFits (withEntry f (otherArea x) (Used (holdingFor t r)) .a) × EntryFits (withEntry f (otherArea x) (Used (holdingFor t r)) .b)
-    changed-fits A a b = (a, new-fits)
-    changed-fits B a b = (new-fits, b)
+-- an accepted block, written again with its identity and its device numbers, and entries that may stand there
+module _ (b : List ℕ) (ok : first (readTests b) ≡ 0) (g : BlockFields) (same : g .device ≡ deviceOf b) (w : entriesAllowed (g .a) (g .b) ≡ true)
+    (fa : EntryFits (g .a)) (fb : EntryFits (g .b)) where
+  tests : AllHold (readTests b)
+  tests = first-zero 0 (readTests b) (ascending b) ok
 
-    device-kept : (y : Area) (e : Entry) → withEntry f y e .device ≡ f .device
-    device-kept A e = refl
-    device-kept B e = refl
+  size : sizeAllowed (g .device .sectors) ≡ true
+  size = ap (λ (v : Device). sizeAllowed (v .sectors)) same ∙ tests .1 .1 .1 .0
 
-    -- the block with the changed entry is read back
-    module _ (p u : List ℕ) (hp : length p ≡ 32) (hu : length u ≡ 32) (s : f .device .sectors < 2 ^ 64) (size : sizeAllowed (f .device .sectors) ≡ true)
-        (tests : AllHold (limitTests p u f)) (fa : EntryFits (f .a)) (fb : EntryFits (f .b)) where
-      pub changed-reads : (x : Area) → entryIn f x ≡ Used h
-          → reading (blockOf p u (withEntry f (otherArea x) (Used (holdingFor t r))))
-          ≡ record { verdict = Verdict.Accepted (withEntry f (otherArea x) (Used (holdingFor t r))); pool = p; device = u }
-      changed-reads x e =
-          let w : entriesAllowed (f .a) (f .b) ≡ true = tests .1 .1 .1 .0 in
-          let pa : entryAllowed (f .a) ≡ true = and-left (entryAllowed (f .a)) (entryAllowed (f .b) && differentTimes (f .a) (f .b)) w in
-          let pb : entryAllowed (f .b) ≡ true =
-          and-left (entryAllowed (f .b)) (differentTimes (f .a) (f .b)) (and-right (entryAllowed (f .a)) (entryAllowed (f .b) && differentTimes (f .a) (f .b)) w) in
-          go x e (changed-allowed x e pa pb) (changed-fits x fa fb)
-        where
-          go : (x : Area) → entryIn f x ≡ Used h
-              → entriesAllowed (withEntry f (otherArea x) (Used (holdingFor t r)) .a) (withEntry f (otherArea x) (Used (holdingFor t r)) .b) ≡ true
-              → EntryFits (withEntry f (otherArea x) (Used (holdingFor t r)) .a) × EntryFits (withEntry f (otherArea x) (Used (holdingFor t r)) .b)
-              → reading (blockOf p u (withEntry f (otherArea x) (Used (holdingFor t r))))
-              ≡ record { verdict = Verdict.Accepted (withEntry f (otherArea x) (Used (holdingFor t r))); pool = p; device = u }
-          go A e w z = read-back p u (withEntry f B (Used (holdingFor t r))) hp hu s (z .0) (z .1) (tests .0, (tests .1 .0, (tests .1 .1 .0, (w, tt)))) size
-          go B e w z = read-back p u (withEntry f A (Used (holdingFor t r))) hp hu s (z .0) (z .1) (tests .0, (tests .1 .0, (tests .1 .1 .0, (w, tt)))) size
+  limits : AllHold (limitTests (poolOf b) (uuidOf b) g)
+  limits = (
+    tests .1 .1 .1 .1 .1 .0,
+    (ap (λ (v : Device). metadataAllowed (v .metadata)) same ∙ tests .1 .1 .1 .1 .1 .1 .0, (ap (λ (v : Device). reservedAllowed (v .reserved)) same ∙ tests .1 .1 .1 .1 .1 .1 .1 .0, (w, tt))),
+  )
+
+  -- it is read back
+  pub again-reads : reading (blockOf (poolOf b) (uuidOf b) g) ≡ record { verdict = Verdict.Accepted g; pool = poolOf b; device = uuidOf b }
+  again-reads =
+      let n : length b ≡ 512 = accepted-length b ok in
+      read-back (poolOf b) (uuidOf b) g (length-window-fits b 32 32 (omega arith)) (length-window-fits b 64 32 (omega arith))
+      (subst (λ (v : Device). v .sectors < 2 ^ 64) (sym same) (number-fits b 20 8)) fa fb limits size
+
+  -- the writer takes it, and leaves it in 512 lent bytes
+  module _ (out : List ℕ) (room : length out ≡ 512) where
+    pub again-writes : first (writeTests out (poolOf b) (uuidOf b) g) ≡ 0
+    again-writes =
+        let n : length b ≡ 512 = accepted-length b ok in
+        let p : length (poolOf b) ≡ 32 = length-window-fits b 32 32 (omega arith) in
+        let u : length (uuidOf b) ≡ 32 = length-window-fits b 64 32 (omega arith) in
+        first-all (writeTests out (poolOf b) (uuidOf b) g) (
+          and-both (eqb (length out) 512) _ (eq-eqb (length out) 512 room)
+              (and-both (eqb (length (poolOf b)) 32) (eqb (length (uuidOf b)) 32) (eq-eqb (length (poolOf b)) 32 p) (eq-eqb (length (uuidOf b)) 32 u)),
+          (size, limits),
+        )
+
+    pub again-written : written out (poolOf b) (uuidOf b) g ≡ blockOf (poolOf b) (uuidOf b) g
+    again-written = sym (written-accepted out (poolOf b) (uuidOf b) g again-writes)
+
+-- a changed entry leaves the device numbers
+pub device-kept : (f : BlockFields) (y : Area) (e : Entry) → withEntry f y e .device ≡ f .device
+device-kept f A e = refl
+device-kept f B e = refl
 
 -- a copy whose block is accepted, and whose newest entry is used: its new block is accepted with the changed numbers
 module _ (c : List ℕ) (ok : first (readTests (blockIn c)) ≡ 0) (h : Holding) (used : entryIn (fieldsOf (blockIn c)) (newest (fieldsOf (blockIn c))) ≡ Used h)
     (t : Time) (r : List ℕ) (fits : t .seconds < 2 ^ 64) (ns : leb (t .nanoseconds) 999999999 ≡ true) (len : lengthAllowed (length r) ≡ true)
     (later : laterThan t (timeOf h) ≡ true) where
+  new-allowed : entryAllowed (Used (holdingFor t r)) ≡ true
+  new-allowed = and-both (lengthAllowed (length r)) (leb (t .nanoseconds) 999999999) len ns
+
+  -- an entry that stands beside a used one, later than it
+  changed-allowed : (f : BlockFields) (x : Area) → entryIn f x ≡ Used h → entryAllowed (entryIn f x) ≡ true
+      → entriesAllowed (withEntry f (otherArea x) (Used (holdingFor t r)) .a) (withEntry f (otherArea x) (Used (holdingFor t r)) .b) ≡ true
+  changed-allowed f A e q =
+      and-both (entryAllowed (f .a)) _ q
+      (and-both (entryAllowed (Used (holdingFor t r))) _ new-allowed
+      (ap (λ (z : Entry). differentTimes z (Used (holdingFor t r))) e ∙ ap not (later-differs-back t (timeOf h) later)))
+  changed-allowed f B e q =
+      and-both (entryAllowed (Used (holdingFor t r))) _ new-allowed
+      (and-both (entryAllowed (f .b)) _ q (ap (differentTimes (Used (holdingFor t r))) e ∙ ap not (later-differs t (timeOf h) later)))
+
+  changed-fits : (f : BlockFields) (x : Area) → EntryFits (entryIn f x)
+      → EntryFits (withEntry f (otherArea x) (Used (holdingFor t r)) .a) × EntryFits (withEntry f (otherArea x) (Used (holdingFor t r)) .b)
+  changed-fits f A q = (q, (fits, checksum-below r))
+  changed-fits f B q = ((fits, checksum-below r), q)
+
+  allowed : entriesAllowed (withEntry (fieldsOf (blockIn c)) (spare c) (Used (holdingFor t r)) .a) (withEntry (fieldsOf (blockIn c)) (spare c) (Used (holdingFor t r)) .b) ≡ true
+  allowed = changed-allowed (fieldsOf (blockIn c)) (newest (fieldsOf (blockIn c))) used (entry-allowed (blockIn c) ok (newest (fieldsOf (blockIn c))))
+
+  both-fit : EntryFits (withEntry (fieldsOf (blockIn c)) (spare c) (Used (holdingFor t r)) .a)
+      × EntryFits (withEntry (fieldsOf (blockIn c)) (spare c) (Used (holdingFor t r)) .b)
+  both-fit = changed-fits (fieldsOf (blockIn c)) (newest (fieldsOf (blockIn c))) (entry-in-fits (blockIn c) (newest (fieldsOf (blockIn c))))
+
   pub new-reads : reading (newBlock c t r)
       ≡ record {
         verdict = Verdict.Accepted (withEntry (fieldsOf (blockIn c)) (spare c) (Used (holdingFor t r)));
@@ -112,50 +150,17 @@ module _ (c : List ℕ) (ok : first (readTests (blockIn c)) ≡ 0) (h : Holding)
       }
   unfolding newBlock
   new-reads =
-      let b : List ℕ = blockIn c in
-      let a : AllHold (readTests b) = first-zero 0 (readTests b) (ascending b) ok in
-      let n : length b ≡ 512 = accepted-length b ok in
-      changed-reads t r fits ns len (fieldsOf b) h later (poolOf b) (uuidOf b)
-      (length-window-fits b 32 32 (omega arith)) (length-window-fits b 64 32 (omega arith))
-      (number-fits b 20 8) (a .1 .1 .1 .0) (a .1 .1 .1 .1 .1) (entry-at-fits b 96) (entry-at-fits b 128)
-      (newest (fieldsOf b)) used
+      again-reads (blockIn c) ok (withEntry (fieldsOf (blockIn c)) (spare c) (Used (holdingFor t r)))
+      (device-kept (fieldsOf (blockIn c)) (spare c) (Used (holdingFor t r))) allowed (both-fit .0) (both-fit .1)
 
-  changed-tests : (f : BlockFields) (p u : List ℕ) → (x : Area) → entryIn f x ≡ Used h → sizeAllowed (f .device .sectors) ≡ true → AllHold (limitTests p u f)
-      → (sizeAllowed (withEntry f (otherArea x) (Used (holdingFor t r)) .device .sectors) ≡ true)
-      × AllHold (limitTests p u (withEntry f (otherArea x) (Used (holdingFor t r))))
-  changed-tests f p u x e size tests =
-      let w : entriesAllowed (f .a) (f .b) ≡ true = tests .1 .1 .1 .0 in
-      let pa : entryAllowed (f .a) ≡ true = and-left (entryAllowed (f .a)) (entryAllowed (f .b) && differentTimes (f .a) (f .b)) w in
-      let pb : entryAllowed (f .b) ≡ true =
-      and-left (entryAllowed (f .b)) (differentTimes (f .a) (f .b)) (and-right (entryAllowed (f .a)) (entryAllowed (f .b) && differentTimes (f .a) (f .b)) w) in
-      go x (changed-allowed t r fits ns len f h later x e pa pb)
-    where
-      go : (x : Area)
-          → entriesAllowed (withEntry f (otherArea x) (Used (holdingFor t r)) .a) (withEntry f (otherArea x) (Used (holdingFor t r)) .b) ≡ true
-          → (sizeAllowed (withEntry f (otherArea x) (Used (holdingFor t r)) .device .sectors) ≡ true)
-          × AllHold (limitTests p u (withEntry f (otherArea x) (Used (holdingFor t r))))
-      go A w = (size, (tests .0, (tests .1 .0, (tests .1 .1 .0, (w, tt)))))
-      go B w = (size, (tests .0, (tests .1 .0, (tests .1 .1 .0, (w, tt)))))
-
-  -- the writer takes it, and leaves it in 512 lent bytes
   module _ (out : List ℕ) (room : length out ≡ 512) where
     pub new-writes : first (writeTests out (poolOf (blockIn c)) (uuidOf (blockIn c)) (withEntry (fieldsOf (blockIn c)) (spare c) (Used (holdingFor t r)))) ≡ 0
     new-writes =
-        let b : List ℕ = blockIn c in
-        let a : AllHold (readTests b) = first-zero 0 (readTests b) (ascending b) ok in
-        let n : length b ≡ 512 = accepted-length b ok in
-        let p : length (poolOf b) ≡ 32 = length-window-fits b 32 32 (omega arith) in
-        let u : length (uuidOf b) ≡ 32 = length-window-fits b 64 32 (omega arith) in
-        let z : (sizeAllowed (withEntry (fieldsOf b) (spare c) (Used (holdingFor t r)) .device .sectors) ≡ true)
-        × AllHold (limitTests (poolOf b) (uuidOf b) (withEntry (fieldsOf b) (spare c) (Used (holdingFor t r)))) =
-        changed-tests (fieldsOf b) (poolOf b) (uuidOf b) (newest (fieldsOf b)) used (a .1 .1 .1 .0) (a .1 .1 .1 .1 .1) in
-        first-all (writeTests out (poolOf b) (uuidOf b) (withEntry (fieldsOf b) (spare c) (Used (holdingFor t r)))) (
-          and-both (eqb (length out) 512) _ (eq-eqb (length out) 512 room)
-              (and-both (eqb (length (poolOf b)) 32) (eqb (length (uuidOf b)) 32) (eq-eqb (length (poolOf b)) 32 p) (eq-eqb (length (uuidOf b)) 32 u)),
-          (z .0, z .1),
-        )
+        again-writes (blockIn c) ok (withEntry (fieldsOf (blockIn c)) (spare c) (Used (holdingFor t r)))
+        (device-kept (fieldsOf (blockIn c)) (spare c) (Used (holdingFor t r))) allowed (both-fit .0) (both-fit .1) out room
 
     pub new-written : written out (poolOf (blockIn c)) (uuidOf (blockIn c)) (withEntry (fieldsOf (blockIn c)) (spare c) (Used (holdingFor t r))) ≡ newBlock c t r
     unfolding newBlock
     new-written =
-        sym (written-accepted out (poolOf (blockIn c)) (uuidOf (blockIn c)) (withEntry (fieldsOf (blockIn c)) (spare c) (Used (holdingFor t r))) new-writes)
+        again-written (blockIn c) ok (withEntry (fieldsOf (blockIn c)) (spare c) (Used (holdingFor t r)))
+        (device-kept (fieldsOf (blockIn c)) (spare c) (Used (holdingFor t r))) allowed (both-fit .0) (both-fit .1) out room

@@ -27,6 +27,7 @@ use Rattle.block.specs.declared.Holding.{Holding}
 use Rattle.block.specs.declared.Entry.{Entry}
 use Rattle.block.specs.declared.Entry.the-variants.{Unused, Used}
 use Rattle.block.specs.declared.BlockFields.{BlockFields}
+use Rattle.block.specs.declared.Verdict.the-variants as Verdict
 use Rattle.block.specs.Entry.{laterThan, timeOf, entryAllowed, differentTimes}
 use Rattle.block.specs.Block.{poolOf, uuidOf, fieldsOf, readTests, reading}
 use Rattle.block.specs.Writing.{holdingOf}
@@ -36,7 +37,7 @@ use Rattle.device.specs.Device.{Sectors, Sound, gather, areaSectors, copyFrom}
 use Rattle.device.proofs.Copies.{limit-sectors, length-copy, copy-block, copy-area, gather-same}
 use Rattle.update.specs.Update.{sectorsOf, sectorOf, holdingFor, withEntry, spare, newBlock}
 use Rattle.update.specs.Demand.{heldIn, recordIn}
-use Rattle.update.proofs.NewBlock.{new-reads}
+use Rattle.update.proofs.NewBlock.{entry-allowed, new-reads}
 use Rattle.update.proofs.Holding.{Holds, newest-changed, entry-changed, whole-used}
 use Rattle.update.proofs.Padding.{gather-record, sectors-most}
 
@@ -47,24 +48,28 @@ area-fits A = omega arith
 area-fits B = omega arith
 
 -- the block's sector follows the header's first
-block-place : (s : Side) (v : Device) → 8 ≤ v .sectors → suc (headerSector s v) ≡ blockSector s v
+pub block-place : (s : Side) (v : Device) → 8 ≤ v .sectors → suc (headerSector s v) ≡ blockSector s v
 block-place Front v h = refl
 block-place Back v h = omega arith
 
--- both entries of an accepted block are within their limits
-entry-allowed : (b : List ℕ) → first (readTests b) ≡ 0 → (x : Area) → entryAllowed (entryIn (fieldsOf b) x) ≡ true
-entry-allowed b ok x = go x (first-zero 0 (readTests b) (ascending b) ok .1 .1 .1 .1 .1 .1 .1 .1 .0)
-  where
-    f : BlockFields
-    f = fieldsOf b
-
-    go : (x : Area) → Rattle.block.specs.Entry.entriesAllowed (fieldsOf b .a) (fieldsOf b .b) ≡ true → entryAllowed (entryIn (fieldsOf b) x) ≡ true
-    go A w = and-left (entryAllowed (fieldsOf b .a)) _ w
-    go B w = and-left (entryAllowed (fieldsOf b .b)) _ (and-right (entryAllowed (fieldsOf b .a)) _ w)
-
-used-bytes : (e : Entry) (h : Holding) → e ≡ Used h → entryAllowed e ≡ true → h .bytes ≤ recordLimit
+pub used-bytes : (e : Entry) (h : Holding) → e ≡ Used h → entryAllowed e ≡ true → h .bytes ≤ recordLimit
 used-bytes e h d w =
     length-facts (h .bytes) (and-left (lengthAllowed (h .bytes)) (leb (h .nanoseconds) 999999999) (sym (ap entryAllowed d) ∙ w)) .1
+
+-- a copy read from sectors where a block names a record, and its area begins with the record
+pub holds-at : (s : Side) (v : Device) (e : Sectors) → Sound e → 8 ≤ v .sectors → {g : BlockFields} {p u : List ℕ} {x : Area} {h : Holding} {r : List ℕ}
+    → reading (e (blockSector s v)) ≡ record { verdict = Verdict.Accepted g; pool = p; device = u } → newest g ≡ x → entryIn g x ≡ Used h
+    → h .checksum ≡ Crc.checksum r → h .bytes ≡ length r → h .bytes ≤ recordLimit → take (h .bytes) (gather e (areaSector s x v) areaSectors) ≡ r
+    → Holds (copyFrom s v e) g p u x h r
+holds-at s v e se big {g} {p} {u} {x} {h} {r} rd ar en su lo sm by =
+    record {
+      reads = ap reading (copy-block s v e se ∙ ap e (block-place s v big)) ∙ rd;
+      area = ar;
+      entry = en;
+      bytes = copy-area s v e se x (h .bytes) sm ∙ by;
+      sum = su;
+      long = lo;
+    }
 
 module _ (s : Side) (v : Device) (d : Sectors) (sd : Sound d) (big : 8 ≤ v .sectors) (ok : first (readTests (blockIn (copyFrom s v d))) ≡ 0)
     (wh : whole (copyFrom s v d) (fieldsOf (blockIn (copyFrom s v d))) (newest (fieldsOf (blockIn (copyFrom s v d)))) ≡ true) where
@@ -107,18 +112,9 @@ module _ (s : Side) (v : Device) (d : Sectors) (sd : Sound d) (big : 8 ≤ v .se
     old-held b a =
         let x : Area = newest (fieldsOf (blockIn (copyFrom s v d))) in
         let n : ℕ = heldIn (copyFrom s v d) .bytes in
-        record {
-          reads =
-              ap reading (block-of ∙ (b ∙ sym (copy-block s v d sd ∙ ap d (block-place s v big))))
-              ∙ sym (accepted-reading (blockIn (copyFrom s v d)) ok);
-          area = refl;
-          entry = used;
-          bytes =
-              copy-area s v e se x n held-small
-              ∙ (ap (take n) (gather-same e d (areaSector s x v) areaSectors a) ∙ sym (copy-area s v d sd x n held-small));
-          sum = held-sum;
-          long = held-long;
-        }
+        holds-at s v e se big
+        (ap reading (b ∙ sym (copy-block s v d sd ∙ ap d (block-place s v big))) ∙ sym (accepted-reading (blockIn (copyFrom s v d)) ok)) refl used held-sum held-long
+        held-small (ap (take n) (gather-same e d (areaSector s x v) areaSectors a) ∙ sym (copy-area s v d sd x n held-small))
 
     -- the block is new, and the record's sectors have landed
     pub new-held : (t : Time) (r : List ℕ) → t .seconds < 2 ^ 64 → leb (t .nanoseconds) 999999999 ≡ true → lengthAllowed (length r) ≡ true
@@ -131,15 +127,8 @@ module _ (s : Side) (v : Device) (d : Sectors) (sd : Sound d) (big : 8 ≤ v .se
         let y : Area = spare (copyFrom s v d) in
         let l : length r ≤ recordLimit = length-facts (length r) len .1 in
         let m : areaSectors * 512 ≡ recordLimit = limit-sectors in
-        record {
-          reads =
-              ap reading (block-of ∙ b) ∙ new-reads (copyFrom s v d) ok (heldIn (copyFrom s v d)) used t r fits ns len later;
-          area =
-              newest-changed (fieldsOf (blockIn (copyFrom s v d))) (newest (fieldsOf (blockIn (copyFrom s v d)))) (heldIn (copyFrom s v d)) (holdingFor t r) used later;
-          entry = entry-changed (fieldsOf (blockIn (copyFrom s v d))) y (Used (holdingFor t r));
-          bytes =
-              copy-area s v e se y (length r) l
-              ∙ gather-record e r (areaSector s y v) areaSectors (sectors-most (length r) areaSectors (omega arith)) a;
-          sum = refl;
-          long = refl;
-        }
+        holds-at s v e se big
+        (ap reading b ∙ new-reads (copyFrom s v d) ok (heldIn (copyFrom s v d)) used t r fits ns len later)
+        (newest-changed (fieldsOf (blockIn (copyFrom s v d))) (newest (fieldsOf (blockIn (copyFrom s v d)))) (heldIn (copyFrom s v d)) (holdingFor t r) used later)
+        (entry-changed (fieldsOf (blockIn (copyFrom s v d))) y (Used (holdingFor t r))) refl refl l
+        (gather-record e r (areaSector s y v) areaSectors (sectors-most (length r) areaSectors (omega arith)) a)
