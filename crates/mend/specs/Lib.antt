@@ -1,3 +1,4 @@
 -- What the contracts of `mend` cite, and what mending promises.
 pub mod Mend
 pub mod Plan
+pub mod Demand
