@@ -58,57 +58,9 @@ use Rattle.update.proofs.OneSide as OneSide
 use Rattle.update.proofs.Choosing.{grouped, area-sector, block-stored, front-store, back-store}
 use Rattle.update.proofs.InStep.{Stepped, verdict-facts, in-step-facts, same-device-test, held-in-step}
 use Rattle.update.proofs.OneCopy.{used, old-held, new-held, held-long, block-of}
-use Rattle.update.proofs.Stores.{Sizes, near, area-near, area-below, block-apart, areas-apart, front-side, back-side}
-
--- the same under equal names
-renamed : {c : List ℕ} {f : BlockFields} {p q u w : List ℕ} {x : Area} {h : Holding} {r : List ℕ} → p ≡ q → u ≡ w → Holds c f p u x h r → Holds c f q w x h r
-renamed {c} {f} {p} {q} {u} {w} {x} {h} {r} a b k =
-    record {
-      reads = k .reads ∙ ap₂ (λ (y z : List ℕ). reading-of f y z) a b;
-      area = k .area;
-      entry = k .entry;
-      bytes = k .bytes;
-      sum = k .sum;
-      long = k .long;
-    }
-  where
-    reading-of : BlockFields → List ℕ → List ℕ → Reading
-    reading-of f y z = record { verdict = Verdict.Accepted f; pool = y; device = z }
-
-same-time-is : (t u : Time) → sameTime t u ≡ true → t ≡ u
-same-time-is t u h =
-    let s : (t .seconds ≡ u .seconds) × (t .nanoseconds ≡ u .nanoseconds) = same-facts t u h in
-    λ i. record { seconds = s .0 i; nanoseconds = s .1 i }
-
-same-time-refl : (t : Time) → sameTime t t ≡ true
-same-time-refl t = same-test t t refl refl
-
-sized-copies : (v : Device) (d e : Sectors) → Sound d → Sound e → sized (copyFrom Front v d) (copyFrom Back v e) ≡ true
-sized-copies v d e sd se =
-    and-both (eqb (length (copyFrom Front v d)) copyBytes) (eqb (length (copyFrom Back v e)) copyBytes)
-    (eq-eqb (length (copyFrom Front v d)) copyBytes (length-copy Front v d sd)) (eq-eqb (length (copyFrom Back v e)) copyBytes (length-copy Back v e se))
-
--- two lists are the same or not
-split : (a b : List ℕ) (x : Bool) → same a b ≡ x → (a ≡ b) ⊎ (a ≡ b → ⊥)
-split a b true e = inl (same-equal a b e)
-split a b false e = inr (λ q. true≢false (sym (equal-same a b q) ∙ e))
-
-refused-differs : (n : ℕ) (f : BlockFields) → Verdict.Refused n ≡ Verdict.Accepted f → ⊥
-refused-differs n f v = let o : _≡_ {A = ℕ} 0 1 = cc in omega arith
-
--- a block that is accepted only in one of two versions stands in one of them, or is refused
-stands-as : (b o n : List ℕ) → ((b ≡ o → ⊥) → (b ≡ n → ⊥) → first (readTests b) ≡ 0 → ⊥)
-    → (b ≡ o) ⊎ ((b ≡ n) ⊎ ((m : ℕ) × (reading b .verdict ≡ Verdict.Refused m)))
-stands-as b o n x = go (split b o (same b o) refl) (split b n (same b n) refl)
-  where
-    go : (b ≡ o) ⊎ (b ≡ o → ⊥) → (b ≡ n) ⊎ (b ≡ n → ⊥) → (b ≡ o) ⊎ ((b ≡ n) ⊎ ((m : ℕ) × (reading b .verdict ≡ Verdict.Refused m)))
-    go (inl p) q = inl p
-    go (inr p) (inl q) = inr (inl q)
-    go (inr p) (inr q) =
-        elim (ℕ-discrete (first (readTests b)) 0) [
-          | yes z ↦ absurd (x p q z)
-          | no h ↦ inr (inr (first (readTests b), sym (ap (λ (a : Reading). a .verdict) (refused-reading b (first (readTests b)) refl h))))
-        ]
+use Rattle.update.proofs.Facts.{renamed, same-time-is, same-time-refl, sized-copies, refused-differs, stands-as, its-record}
+use Rattle.update.proofs.Places.{Sizes, near, area-near, area-below, block-apart, areas-apart}
+use Rattle.update.proofs.Stores.{front-side, back-side}
 
 -- one of four stores
 pick-size : (a b c : Bool) (x y z w : Store) → length (x .content) ≡ 512 → length (y .content) ≡ 512 → length (z .content) ≡ 512 → length (w .content) ≡ 512
@@ -117,14 +69,6 @@ pick-size true b c x y z w p q m n = p
 pick-size false true c x y z w p q m n = q
 pick-size false false true x y z w p q m n = m
 pick-size false false false x y z w p q m n = n
-
--- what a copy that holds a record has in its newest area
-its-record : {c : List ℕ} {f : BlockFields} {p u : List ℕ} {x : Area} {h : Holding} {r : List ℕ} → Holds c f p u x h r → (recordIn c ≡ r) × (heldIn c ≡ h)
-its-record {c} {f} {p} {u} {x} {h} {r} k =
-    let e : f ≡ fieldsOf (blockIn c) = verdict-facts (blockIn c) f (ap (λ (q : Reading). q .verdict) (k .reads)) .1 in
-    let w : heldIn c ≡ h =
-    sym (ap (λ (g : BlockFields). holdingOf (entryIn g (newest g))) e) ∙ (ap (λ (y : Area). holdingOf (entryIn f y)) (k .area) ∙ ap holdingOf (k .entry)) in
-    (ap₂ (λ (y : Area) (q : Holding). areaBytes c y (q .bytes)) (sym (ap newest e) ∙ k .area) w ∙ k .bytes, w)
 
 -- all that the start gives
 record Ready (v : Device) (d : Sectors) (t : Time) (r : List ℕ) : Type 0 where
