@@ -1,5 +1,5 @@
 -- Which case of the answers applies, from what the code has tested. Assumes nothing.
-use Prim.Native.Nat.{ℕ, zero, suc, _+_, _-_, _*_, _≤_, _<_}
+use Prim.Native.Nat.{ℕ, _+_, _-_, _*_, _≤_, _<_}
 use mathlib.Core.Path.{_≡_, refl, sym, ap, ap₂, _∙_}
 use mathlib.Core.Bool.{Bool, true, false, cond}
 use mathlib.Core.List.{List}
@@ -15,7 +15,6 @@ use Rattle.update.specs.declared.Part.{Part}
 use Rattle.update.specs.declared.Plan.{Plan}
 use Rattle.update.specs.declared.Given.{Given}
 use Rattle.update.specs.declared.Given.the-variants as Given
-use Rattle.update.specs.Update.{sectorsOf, groupStart}
 use Rattle.update.specs.Plan.{storesIn, groupOf, sectorIn, partAnswer, partBytes, storeAnswer, storeBytes}
 
 -- the first two of three tests hold
@@ -93,11 +92,3 @@ module _ (p : Plan) (f b r : List ℕ) (i : ℕ) (out : List ℕ) where
         x ∙ sym (chosen (eqb (length out) 512) (ltb i (storesIn p)) (leb i (p .sectors)) false _ _ _ _ (eq-eqb (length out) 512 s) below (lt-leb i (p .sectors) h)),
         y ∙ sym (chosen (eqb (length out) 512) (ltb i (storesIn p)) (leb i (p .sectors)) false _ _ _ _ (eq-eqb (length out) 512 s) below (lt-leb i (p .sectors) h)),
       )
-
--- the group of a store, by the groups' first numbers
-pub grouped : (r : List ℕ) (p : Plan) → p .sectors ≡ sectorsOf (length r) → (g i : ℕ) → g < 4 → groupStart r g ≤ i → i < groupStart r (suc g) → g ≡ groupOf p i
-grouped r p e zero i h a b = in-front-area p i (omega arith)
-grouped r p e (suc zero) i h a b = in-front-block p i (omega arith) (omega arith)
-grouped r p e (suc (suc zero)) i h a b = in-back-area p i (omega arith) (omega arith) (omega arith)
-grouped r p e (suc (suc (suc zero))) i h a b = in-back-block p i (omega arith) (omega arith) (omega arith) (2 * (p .sectors) + 2) refl (omega arith)
-grouped r p e (suc (suc (suc (suc g)))) i h a b = absurd (let o : _≡_ {A = ℕ} 0 1 = omega arith in omega arith)

@@ -15,9 +15,11 @@ use Rattle.refusal.specs.Tests.{first}
 use Rattle.layout.specs.declared.Device.{Device}
 use Rattle.layout.specs.declared.Side.the-variants.{Front, Back}
 use Rattle.layout.specs.declared.Area.{Area}
+use Rattle.layout.specs.declared.Area.the-variants.{A, B}
 use Rattle.layout.specs.Places.{copyBytes}
 use Rattle.block.specs.declared.Time.{Time}
 use Rattle.block.specs.declared.Holding.{Holding}
+use Rattle.block.specs.declared.Entry.{Entry}
 use Rattle.block.specs.declared.BlockFields.{BlockFields}
 use Rattle.block.specs.declared.Reading.{Reading}
 use Rattle.block.specs.declared.Verdict.the-variants as Verdict
@@ -26,13 +28,23 @@ use Rattle.block.specs.Block.{fieldsOf, readTests, reading}
 use Rattle.block.specs.Writing.{holdingOf}
 use Rattle.block.proofs.Readings.{refused-reading}
 use Rattle.block.proofs.Times.{same-facts, same-test}
-use Rattle.discovery.specs.Copy.{blockIn, areaBytes, entryIn, newest}
+use Rattle.discovery.specs.Copy.{blockIn, areaBytes, entryIn, otherArea, newest}
 use Rattle.discovery.specs.Discovery.{sized}
 use Rattle.device.specs.Device.{Sectors, Sound, copyFrom}
 use Rattle.device.proofs.Copies.{length-copy}
+use Rattle.update.specs.Update.{withEntry}
 use Rattle.update.specs.Demand.{heldIn, recordIn}
 use Rattle.update.proofs.Holding.{Holds}
 use Rattle.update.proofs.InStep.{verdict-facts}
+
+-- a changed entry leaves the device numbers
+pub kept-device : (f : BlockFields) (x : Area) (e : Entry) → withEntry f x e .device ≡ f .device
+kept-device f A e = refl
+kept-device f B e = refl
+
+pub other-differs : (x : Area) → otherArea x ≡ x → ⊥
+other-differs A e = let o : _≡_ {A = ℕ} 0 1 = cc in omega arith
+other-differs B e = let o : _≡_ {A = ℕ} 0 1 = cc in omega arith
 
 -- the same under equal names
 pub renamed : {c : List ℕ} {f : BlockFields} {p q u w : List ℕ} {x : Area} {h : Holding} {r : List ℕ} → p ≡ q → u ≡ w → Holds c f p u x h r → Holds c f q w x h r
