@@ -1,17 +1,15 @@
 -- Demand 3, proved: one claim over every start, update and cut. Assumes nothing.
 use Prim.Native.Nat.{ℕ, zero, suc, _+_, _-_, _*_, _%_, _^_, _≤_, _<_}
-use mathlib.Core.Path.{_≡_, refl, sym, ap, ap₂, subst, _∙_}
-use mathlib.Core.Bool.{Bool, true, false, cond, true≢false}
+use mathlib.Core.Path.{_≡_, refl, sym, ap, subst, _∙_}
+use mathlib.Core.Bool.{Bool, true, cond}
 use mathlib.Core.Logic.{_⊎_, inl, inr}
 use mathlib.Core.List.{List}
-use native.Mathlib.Decide.{ℕ-discrete, decLe}
+use native.Mathlib.Decide.{ℕ-discrete}
 use native.Mathlib.Nat.{le-refl}
 use native.Mathlib.Omega.{arith}
 use borrow.Author.Tests.{eq-eqb}
-use lib.Dec.{leb, ltb, eqb, lit<}
+use lib.Dec.{leb, lit<}
 use lib.ListN.{length}
-use Rattle.endian.specs.Bytes.{same}
-use Rattle.endian.proofs.Tests.{and-both, same-equal, equal-same}
 use Rattle.refusal.specs.Tests.{first, AllHold}
 use Rattle.refusal.proofs.Order.{first-holds}
 use Rattle.layout.specs.declared.Device.{Device}
@@ -19,45 +17,43 @@ use Rattle.layout.specs.declared.Side.{Side}
 use Rattle.layout.specs.declared.Side.the-variants.{Front, Back}
 use Rattle.layout.specs.declared.Area.{Area}
 use Rattle.layout.specs.Limits.{recordLimit, lengthAllowed}
-use Rattle.layout.specs.Places.{blockSector, areaSector, copyBytes}
+use Rattle.layout.specs.Places.{blockSector, areaSector}
 use Rattle.layout.proofs.Laws.{length-facts}
 use Rattle.block.specs.declared.Time.{Time}
-use Rattle.block.specs.declared.Holding.{Holding}
 use Rattle.block.specs.declared.Entry.the-variants.{Used}
 use Rattle.block.specs.declared.BlockFields.{BlockFields}
 use Rattle.block.specs.declared.Reading.{Reading}
 use Rattle.block.specs.declared.Verdict.the-variants as Verdict
-use Rattle.block.specs.Entry.{laterThan, sameTime, timeOf}
-use Rattle.block.specs.Block.{poolOf, uuidOf, fieldsOf, readTests, reading, refusedReading}
+use Rattle.block.specs.Entry.{laterThan, timeOf}
+use Rattle.block.specs.Block.{poolOf, uuidOf, fieldsOf, readTests, reading}
 use Rattle.block.specs.Accepted.{Accepted}
-use Rattle.block.specs.Writing.{holdingOf, writeTests, written}
-use Rattle.block.proofs.Readings.{refused-reading, accepted-length}
+use Rattle.block.specs.Writing.{writeTests, written}
+use Rattle.block.proofs.Readings.{accepted-length}
 use Rattle.block.proofs.Exactly.{obeys}
-use Rattle.block.proofs.Times.{same-facts, same-test, later-asym, never-later}
 use Rattle.discovery.specs.declared.Other.the-variants.{Both}
 use Rattle.discovery.specs.declared.Answer.{Answer}
 use Rattle.discovery.specs.declared.Answer.the-variants.{Found}
-use Rattle.discovery.specs.Copy.{blockIn, areaBytes, entryIn, otherArea, whole, newest, readingIn}
-use Rattle.discovery.specs.Discovery.{recordAt, sameDevice, sized, discovery, inStep}
+use Rattle.discovery.specs.Copy.{blockIn, entryIn, whole, newest, readingIn}
+use Rattle.discovery.specs.Discovery.{recordAt, sameDevice, discovery, inStep}
 use Rattle.device.specs.Device.{Sectors, Sound, Store, Cut, Groups, stores, storeIn, groupStart, CutIn, areaSectors, copyFrom}
 use Rattle.device.proofs.Landing.{landed-size}
-use Rattle.device.proofs.Copies.{limit-sectors, limit-small, length-copy, copy-block}
+use Rattle.device.proofs.Copies.{limit-sectors, limit-small}
 use Rattle.update.specs.Update.{deviceIn, numberAfter, updateTests, updateNumber, sectorsOf, sectorOf, holdingFor, withEntry, spare, newBlock, updateGroups}
 use Rattle.update.specs.declared.Part.{Part}
 use Rattle.update.specs.declared.Plan.{Plan}
 use Rattle.update.specs.declared.Given.{Given}
 use Rattle.update.specs.declared.Given.the-variants as Given
 use Rattle.update.specs.declared.Planned.the-variants as Planned
-use Rattle.update.specs.Plan.{partOf, planOf, planned, storesIn, groupOf, sectorIn, partAnswer, partBytes, storeAnswer, storeBytes}
+use Rattle.update.specs.Plan.{partOf, planOf, storesIn, sectorIn, partAnswer, partBytes, storeAnswer, storeBytes}
 use Rattle.update.specs.Demand.{Gives, heldIn, recordIn, Start, Excused, Cutting, after, Landing, Giving}
 use Rattle.update.proofs.NewBlock.{number-fits, new-reads, new-writes, new-written}
 use Rattle.update.proofs.Holding.{Holds, newest-changed}
 use Rattle.update.proofs.Discovering.{gives, back-found, front-found, both-found, later-found}
-use Rattle.update.proofs.Padding.{sectors-most, length-sector, sector-laid}
+use Rattle.update.proofs.Padding.{sectors-most, sector-laid}
 use Rattle.update.proofs.OneSide as OneSide
 use Rattle.update.proofs.Choosing.{area-sector, block-stored, front-store, back-store}
 use Rattle.update.proofs.InStep.{Stepped, verdict-facts, in-step-facts, same-device-test, held-in-step}
-use Rattle.update.proofs.OneCopy.{used, old-held, new-held, held-long, block-of}
+use Rattle.update.proofs.OneCopy.{used, old-held, new-held, block-of}
 use Rattle.update.proofs.Facts.{kept-device, other-differs, renamed, same-time-is, same-time-refl, sized-copies, refused-differs, stands-as, its-record}
 use Rattle.update.proofs.Places.{Sizes, near, area-near, area-below, block-apart, areas-apart}
 use Rattle.update.proofs.Stores.{starting, begin, count, which, stored-size, side, group-starts, grouped}

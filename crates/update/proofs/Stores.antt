@@ -64,9 +64,7 @@ at-record n a r i l = at-from n a (sectorOf r) (sectorsOf (length r)) i l
 module _ (f b : List ℕ) (t : Time) (r : List ℕ) where
   group-lengths : map length (updateGroups f b t r) ≡ sectorsOf (length r) ∷ 1 ∷ sectorsOf (length r) ∷ 1 ∷ []
   unfolding updateGroups
-  group-lengths =
-      ap₂ (λ (m n : ℕ). m ∷ 1 ∷ n ∷ 1 ∷ []) (length-record (areaSector Front (spare f) (deviceIn f)) r)
-      (length-record (areaSector Back (spare b) (deviceIn f)) r)
+  group-lengths = rw (length-record, length-record)
 
   pub group-starts : (g : ℕ) → groupStart (updateGroups f b t r) g ≡ starting (sectorsOf (length r)) g
   group-starts g = starts (updateGroups f b t r) g ∙ ap (λ (ns : List ℕ). total (take g ns)) group-lengths

@@ -1,6 +1,5 @@
 -- An update: its refusals, its stores and their groups. Document 01, 'Updates, formatting and mending'. Assumes nothing.
 use Prim.Native.Nat.{ℕ, _+_, _-_, _*_, _/_}
-use mathlib.Core.Bool.{Bool, cond}
 use mathlib.Core.List.{List, [], _∷_, _++_}
 use lib.Dec.{leb}
 use lib.ListN.{length}
