@@ -77,17 +77,20 @@ module _ (p : Plan) (f b r : List ℕ) (i : ℕ) (out : List ℕ) where
       below : ltb i (storesIn p) ≡ true
       below = sym (ap (ltb i) e) ∙ lt-ltb i n l
 
+      half-store : (v : Bool) → leb i (p .sectors) ≡ v
+          → g ≡ cond v (partAnswer (p .front) (p .sectors) f i out) (partAnswer (p .back) (p .sectors) b (i - (p .sectors + 1)) out)
+          → w ≡ cond v (partBytes (p .front) (p .sectors) f r i out) (partBytes (p .back) (p .sectors) b r (i - (p .sectors + 1)) out)
+          → (g ≡ storeAnswer p f b i out) × (w ≡ storeBytes p f b r i out)
+      half-store v h x y = (
+        x ∙ sym (chosen (eqb (length out) 512) (ltb i (storesIn p)) (leb i (p .sectors)) v _ _ _ _ (eq-eqb (length out) 512 s) below h),
+        y ∙ sym (chosen (eqb (length out) 512) (ltb i (storesIn p)) (leb i (p .sectors)) v _ _ _ _ (eq-eqb (length out) 512 s) below h),
+      )
+
       pub front-store : i ≤ p .sectors → g ≡ partAnswer (p .front) (p .sectors) f i out → w ≡ partBytes (p .front) (p .sectors) f r i out
           → (g ≡ storeAnswer p f b i out) × (w ≡ storeBytes p f b r i out)
-      front-store h x y = (
-        x ∙ sym (chosen (eqb (length out) 512) (ltb i (storesIn p)) (leb i (p .sectors)) true _ _ _ _ (eq-eqb (length out) 512 s) below (le-leb i (p .sectors) h)),
-        y ∙ sym (chosen (eqb (length out) 512) (ltb i (storesIn p)) (leb i (p .sectors)) true _ _ _ _ (eq-eqb (length out) 512 s) below (le-leb i (p .sectors) h)),
-      )
+      front-store h x y = half-store true (le-leb i (p .sectors) h) x y
 
       pub back-store : p .sectors < i → g ≡ partAnswer (p .back) (p .sectors) b (i - (p .sectors + 1)) out
           → w ≡ partBytes (p .back) (p .sectors) b r (i - (p .sectors + 1)) out
           → (g ≡ storeAnswer p f b i out) × (w ≡ storeBytes p f b r i out)
-      back-store h x y = (
-        x ∙ sym (chosen (eqb (length out) 512) (ltb i (storesIn p)) (leb i (p .sectors)) false _ _ _ _ (eq-eqb (length out) 512 s) below (lt-leb i (p .sectors) h)),
-        y ∙ sym (chosen (eqb (length out) 512) (ltb i (storesIn p)) (leb i (p .sectors)) false _ _ _ _ (eq-eqb (length out) 512 s) below (lt-leb i (p .sectors) h)),
-      )
+      back-store h x y = half-store false (lt-leb i (p .sectors) h) x y

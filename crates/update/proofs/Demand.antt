@@ -38,14 +38,14 @@ use Rattle.discovery.specs.Discovery.{recordAt, sameDevice, discovery, inStep}
 use Rattle.device.specs.Device.{Sectors, Sound, Store, Cut, Groups, stores, storeIn, groupStart, CutIn, areaSectors, copyFrom}
 use Rattle.device.proofs.Landing.{landed-size}
 use Rattle.device.proofs.Copies.{limit-sectors, limit-small}
-use Rattle.update.specs.Update.{deviceIn, numberAfter, updateTests, updateNumber, sectorsOf, sectorOf, holdingFor, withEntry, spare, newBlock, updateGroups}
+use Rattle.update.specs.Update.{deviceIn, numberAfter, updateTests, updateNumber, sectorsOf, sectorOf, holdingFor, withEntry, spare, newBlock}
 use Rattle.update.specs.declared.Part.{Part}
 use Rattle.update.specs.declared.Plan.{Plan}
 use Rattle.update.specs.declared.Given.{Given}
 use Rattle.update.specs.declared.Given.the-variants as Given
 use Rattle.update.specs.declared.Planned.the-variants as Planned
-use Rattle.update.specs.Plan.{partOf, planOf, storesIn, sectorIn, partAnswer, partBytes, storeAnswer, storeBytes}
-use Rattle.update.specs.Demand.{Gives, heldIn, recordIn, Start, Excused, Cutting, after, Landing, Giving}
+use Rattle.update.specs.Plan.{partOf, storesIn, sectorIn, partAnswer, partBytes, storeAnswer, storeBytes}
+use Rattle.update.specs.Demand.{Gives, heldIn, recordIn, Start, Excused, groupsOn, planOn, Cutting, after, Landing, Giving}
 use Rattle.update.proofs.NewBlock.{number-fits, new-reads, new-writes, new-written}
 use Rattle.update.proofs.Holding.{Holds, newest-changed}
 use Rattle.update.proofs.Discovering.{gives, back-found, front-found, both-found, later-found}
@@ -78,7 +78,7 @@ module _ (v : Device) (d : Sectors) (t : Time) (r : List ℕ) (s : Start v d t r
   k = sectorsOf (length r)
 
   abbrev groups : Groups
-  groups = updateGroups (copy Front) (copy Back) t r
+  groups = groupsOn v d t r
 
   abbrev all : ℕ
   all = k + 1 + k + 1
@@ -380,7 +380,7 @@ module _ (v : Device) (d : Sectors) (t : Time) (r : List ℕ) (s : Start v d t r
   sectors-fit = subst (λ (w : Device). w .sectors < 256 ^ 8) (s .placed) (number-fits (blockIn (copy Front)) 20 8)
 
   abbrev plan : Plan
-  plan = planOf (copy Front) (copy Back) t r
+  plan = planOn v d t r
 
   abbrev part : Side → Device → Part
   part w u = partOf w u (copy w) (holdingFor t r)
@@ -469,14 +469,14 @@ landing v d t r s = all-landed v d t r s
 
 pub giving : Giving
 giving v d t r s = (
-  ap (λ (b : Bool). cond b (Planned.Ready (plan v d t r s)) (Planned.Refused (updateNumber (copyFrom Front v d) (copyFrom Back v d) t r)))
+  ap (λ (b : Bool). cond b (Planned.Ready (planOn v d t r)) (Planned.Refused (updateNumber (copyFrom Front v d) (copyFrom Back v d) t r)))
       (eq-eqb (updateNumber (copyFrom Front v d) (copyFrom Back v d) t r) 0 (s .not-refused)),
   (
     (let e : 2 * sectorsOf (length r) + 2 ≡ sectorsOf (length r) + 1 + sectorsOf (length r) + 1 = omega arith in e) ∙ sym (stores-count v d t r s),
     (
       refl,
       (
-        λ g i h a b. sym (grouped (copyFrom Front v d) (copyFrom Back v d) t r (plan v d t r s) refl g i h a b),
+        λ g i h a b. sym (grouped (copyFrom Front v d) (copyFrom Back v d) t r (planOn v d t r) refl g i h a b),
         λ i out l room. all-given v d t r s out room i (subst (λ (n : ℕ). i < n) (stores-count v d t r s) l),
       ),
     ),

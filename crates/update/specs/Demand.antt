@@ -18,7 +18,8 @@ use Rattle.discovery.specs.declared.Other.{Other}
 use Rattle.discovery.specs.declared.Answer.the-variants.{Found}
 use Rattle.discovery.specs.Copy.{blockIn, areaBytes, entryIn, newest}
 use Rattle.discovery.specs.Discovery.{discovery, inStep, recordBytes, readAnswer, readBytes}
-use Rattle.device.specs.Device.{Sectors, Sound, stores, storeIn, groupStart, CutIn, allLanded, copyFrom}
+use Rattle.device.specs.Device.{Sectors, Sound, Groups, stores, storeIn, groupStart, CutIn, allLanded, copyFrom}
+use Rattle.update.specs.declared.Plan.{Plan}
 use Rattle.update.specs.declared.Planned.the-variants.{Ready}
 use Rattle.update.specs.declared.Given.the-variants.{At}
 use Rattle.update.specs.Plan.{planOf, planned, storesIn, groupOf, storeAnswer, storeBytes}
@@ -60,12 +61,19 @@ Excused v d e t r =
     × (blockIn (copyFrom s v e) ≡ newBlock (copyFrom s v d) t r → ⊥)
     × (first (readTests (blockIn (copyFrom s v e))) ≡ 0)
 
+-- the groups of the update, and its plan
+abbrev pub groupsOn : Device → Sectors → Time → List ℕ → Groups
+groupsOn v d t r = updateGroups (copyFrom Front v d) (copyFrom Back v d) t r
+
+abbrev pub planOn : Device → Sectors → Time → List ℕ → Plan
+planOn v d t r = planOf (copyFrom Front v d) (copyFrom Back v d) t r
+
 -- Whatever a cut in one of the four groups leaves, discovery gives the new record exactly when the front signature block
 -- stands in its new version, and otherwise the old record.
 abbrev pub Cutting : Type 0
 Cutting =
     (v : Device) (d e : Sectors) (t : Time) (r : List ℕ) (g : ℕ) → Start v d t r → g < 4
-    → CutIn (updateGroups (copyFrom Front v d) (copyFrom Back v d) t r) g d e
+    → CutIn (groupsOn v d t r) g d e
     → (Excused v d e t r → ⊥)
     → (blockIn (copyFrom Front v e) ≡ newBlock (copyFrom Front v d) t r → Gives (copyFrom Front v e) (copyFrom Back v e) t r)
     × ((blockIn (copyFrom Front v e) ≡ newBlock (copyFrom Front v d) t r → ⊥)
@@ -73,7 +81,7 @@ Cutting =
 
 -- the device after all stores
 abbrev pub after : Device → Sectors → Time → List ℕ → Sectors
-after v d t r = allLanded (updateGroups (copyFrom Front v d) (copyFrom Back v d) t r) d
+after v d t r = allLanded (groupsOn v d t r) d
 
 -- All stores landed: discovery gives the new record with its time, and the two copies are in step on it.
 abbrev pub Landing : Type 0
@@ -88,14 +96,10 @@ Landing =
 abbrev pub Giving : Type 0
 Giving =
     (v : Device) (d : Sectors) (t : Time) (r : List ℕ) → Start v d t r
-    → (planned (copyFrom Front v d) (copyFrom Back v d) t r ≡ Ready (planOf (copyFrom Front v d) (copyFrom Back v d) t r))
-    × ((storesIn (planOf (copyFrom Front v d) (copyFrom Back v d) t r) ≡ length (stores (updateGroups (copyFrom Front v d) (copyFrom Back v d) t r)))
-    × ((storesIn (planOf (copyFrom Front v d) (copyFrom Back v d) t r) ≡ 2 * sectorsOf (length r) + 2)
-    × (((g i : ℕ) → g < 4 → groupStart (updateGroups (copyFrom Front v d) (copyFrom Back v d) t r) g ≤ i
-    → i < groupStart (updateGroups (copyFrom Front v d) (copyFrom Back v d) t r) (suc g)
-    → groupOf (planOf (copyFrom Front v d) (copyFrom Back v d) t r) i ≡ g)
-    × ((i : ℕ) (out : List ℕ) → i < length (stores (updateGroups (copyFrom Front v d) (copyFrom Back v d) t r)) → length out ≡ 512
-    → (storeAnswer (planOf (copyFrom Front v d) (copyFrom Back v d) t r) (copyFrom Front v d) (copyFrom Back v d) i out
-    ≡ At (storeIn (updateGroups (copyFrom Front v d) (copyFrom Back v d) t r) i .sector))
-    × (storeBytes (planOf (copyFrom Front v d) (copyFrom Back v d) t r) (copyFrom Front v d) (copyFrom Back v d) r i out
-    ≡ storeIn (updateGroups (copyFrom Front v d) (copyFrom Back v d) t r) i .content)))))
+    → (planned (copyFrom Front v d) (copyFrom Back v d) t r ≡ Ready (planOn v d t r))
+    × ((storesIn (planOn v d t r) ≡ length (stores (groupsOn v d t r)))
+    × ((storesIn (planOn v d t r) ≡ 2 * sectorsOf (length r) + 2)
+    × (((g i : ℕ) → g < 4 → groupStart (groupsOn v d t r) g ≤ i → i < groupStart (groupsOn v d t r) (suc g) → groupOf (planOn v d t r) i ≡ g)
+    × ((i : ℕ) (out : List ℕ) → i < length (stores (groupsOn v d t r)) → length out ≡ 512
+    → (storeAnswer (planOn v d t r) (copyFrom Front v d) (copyFrom Back v d) i out ≡ At (storeIn (groupsOn v d t r) i .sector))
+    × (storeBytes (planOn v d t r) (copyFrom Front v d) (copyFrom Back v d) r i out ≡ storeIn (groupsOn v d t r) i .content)))))
