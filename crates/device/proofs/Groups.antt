@@ -1,7 +1,7 @@
 -- The stores of groups by their number. Assumes nothing.
 use Prim.Native.Nat.{ℕ, zero, suc, _+_, _-_, _≤_, _<_}
 use mathlib.Core.Path.{_≡_, refl, sym, ap, ap₂, _∙_}
-use mathlib.Core.List.{List, [], _∷_, _++_}
+use mathlib.Core.List.{List, [], _∷_, _++_, map}
 use native.Mathlib.Decide.{ℕ-discrete}
 use native.Mathlib.Nat.{not-suc-le-zero, add-zero}
 use native.Mathlib.Omega.{arith}
@@ -40,3 +40,14 @@ at-from d a c (suc k) i l =
           at-left d (storesFrom a c k) (record { sector = a + k; content = c k } ∷ []) i (rw (length-from a c k) h)
           ∙ at-from d a c k i h
     ]
+
+-- a group starts after the sum of the lengths before it
+abbrev pub total : List ℕ → ℕ
+total [] = 0
+total (n ∷ ns) = n + total ns
+
+pub starts : (gs : Groups) (g : ℕ) → groupStart gs g ≡ total (take g (map length gs))
+unfolding groupStart stores
+starts gs zero = refl
+starts [] (suc g) = refl
+starts (s ∷ gs) (suc g) = length-append s (stores (take g gs)) ∙ ap (λ (n : ℕ). length s + n) (starts gs g)

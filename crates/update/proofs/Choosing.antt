@@ -1,9 +1,8 @@
 -- Which case of the answers applies, from what the code has tested. Assumes nothing.
-use Prim.Native.Nat.{ℕ, zero, suc, _+_, _-_, _*_, _≤_, _<_}
+use Prim.Native.Nat.{ℕ, _+_, _-_, _*_, _≤_, _<_}
 use mathlib.Core.Path.{_≡_, refl, sym, ap, ap₂, _∙_}
 use mathlib.Core.Bool.{Bool, true, false, cond}
 use mathlib.Core.List.{List}
-use native.Mathlib.Omega.{arith}
 use borrow.Author.Tests.{lt-ltb, le-ltb, le-leb, lt-leb, eq-eqb, ne-eqb}
 use lib.Dec.{leb, ltb, eqb}
 use lib.ListN.{length}
@@ -17,8 +16,9 @@ use Rattle.update.specs.declared.Part.{Part}
 use Rattle.update.specs.declared.Plan.{Plan}
 use Rattle.update.specs.declared.Given.{Given}
 use Rattle.update.specs.declared.Given.the-variants as Given
-use Rattle.update.specs.Update.{sectorsOf, groupStart}
+use Rattle.update.specs.Update.{sectorOf}
 use Rattle.update.specs.Plan.{storesIn, groupOf, sectorIn, within, unlessRefused, blockAnswer, blockBytes, partAnswer, partBytes, storeAnswer, storeBytes}
+use Rattle.update.proofs.Padding.{sector-laid}
 
 -- the first two of three tests hold
 chosen : {A : Type 0} (a b c v : Bool) (x y z w : A) → a ≡ true → b ≡ true → c ≡ v → cond a (cond b (cond c x y) z) w ≡ cond v x y
@@ -77,6 +77,26 @@ module _ (p : Part) (k : ℕ) (c r : List ℕ) (j : ℕ) (out : List ℕ) where
     ew ∙ ap (λ (b : Bool). cond b (cond (within (p .area) j) (sectorIn r j out) out) (blockBytes (p .fields) c out)) (sym (le-ltb j k h)),
   )
 
+-- what is given: a block that the writer takes, and a part's sectors and block
+pub block-given : (s : ℕ) (g : BlockFields) (c out b : List ℕ) → first (writeTests out (poolOf (blockIn c)) (uuidOf (blockIn c)) g) ≡ 0
+    → written out (poolOf (blockIn c)) (uuidOf (blockIn c)) g ≡ b → (blockAnswer s g c out ≡ Given.At s) × (blockBytes g c out ≡ b)
+block-given s g c out b z e = (sym (block-stored s g c out _ _ refl refl 0 (sym z) _ refl refl .0), e)
+
+module _ (p : Part) (k : ℕ) (c r : List ℕ) (j : ℕ) (out : List ℕ) where
+  pub area-given : j < k → p .area ≤ 18446744073709551615 - j → length out ≡ 512
+      → (partAnswer p k c j out ≡ Given.At (p .area + j)) × (partBytes p k c r j out ≡ sectorOf r j)
+  area-given h l room =
+      let g : (Given.At (p .area + j) ≡ partAnswer p k c j out) × (sectorIn r j out ≡ partBytes p k c r j out) =
+      area-sector p k c r j out h l (sectorIn r j out) refl in
+      (sym (g .0), sym (g .1) ∙ sector-laid r j out room)
+
+  pub part-given : k ≤ j → (s : ℕ) (b : List ℕ) → (blockAnswer (p .block) (p .fields) c out ≡ Given.At s) × (blockBytes (p .fields) c out ≡ b)
+      → (partAnswer p k c j out ≡ Given.At s) × (partBytes p k c r j out ≡ b)
+  part-given h s b x =
+      let g : (blockAnswer (p .block) (p .fields) c out ≡ partAnswer p k c j out) × (blockBytes (p .fields) c out ≡ partBytes p k c r j out) =
+      part-block p k c r j out h _ _ refl refl in
+      (sym (g .0) ∙ x .0, sym (g .1) ∙ x .1)
+
 module _ (p : Plan) (f b r : List ℕ) (i : ℕ) (out : List ℕ) where
   pub wrong-size : (length out ≡ 512 → ⊥) → (Given.Refused 1 ≡ storeAnswer p f b i out) × (out ≡ storeBytes p f b r i out)
   wrong-size h = (rw (ne-eqb (length out) 512 h), rw (ne-eqb (length out) 512 h))
@@ -89,25 +109,20 @@ module _ (p : Plan) (f b r : List ℕ) (i : ℕ) (out : List ℕ) where
       below : ltb i (storesIn p) ≡ true
       below = sym (ap (ltb i) e) ∙ lt-ltb i n l
 
+      half-store : (v : Bool) → leb i (p .sectors) ≡ v
+          → g ≡ cond v (partAnswer (p .front) (p .sectors) f i out) (partAnswer (p .back) (p .sectors) b (i - (p .sectors + 1)) out)
+          → w ≡ cond v (partBytes (p .front) (p .sectors) f r i out) (partBytes (p .back) (p .sectors) b r (i - (p .sectors + 1)) out)
+          → (g ≡ storeAnswer p f b i out) × (w ≡ storeBytes p f b r i out)
+      half-store v h x y = (
+        x ∙ sym (chosen (eqb (length out) 512) (ltb i (storesIn p)) (leb i (p .sectors)) v _ _ _ _ (eq-eqb (length out) 512 s) below h),
+        y ∙ sym (chosen (eqb (length out) 512) (ltb i (storesIn p)) (leb i (p .sectors)) v _ _ _ _ (eq-eqb (length out) 512 s) below h),
+      )
+
       pub front-store : i ≤ p .sectors → g ≡ partAnswer (p .front) (p .sectors) f i out → w ≡ partBytes (p .front) (p .sectors) f r i out
           → (g ≡ storeAnswer p f b i out) × (w ≡ storeBytes p f b r i out)
-      front-store h x y = (
-        x ∙ sym (chosen (eqb (length out) 512) (ltb i (storesIn p)) (leb i (p .sectors)) true _ _ _ _ (eq-eqb (length out) 512 s) below (le-leb i (p .sectors) h)),
-        y ∙ sym (chosen (eqb (length out) 512) (ltb i (storesIn p)) (leb i (p .sectors)) true _ _ _ _ (eq-eqb (length out) 512 s) below (le-leb i (p .sectors) h)),
-      )
+      front-store h x y = half-store true (le-leb i (p .sectors) h) x y
 
       pub back-store : p .sectors < i → g ≡ partAnswer (p .back) (p .sectors) b (i - (p .sectors + 1)) out
           → w ≡ partBytes (p .back) (p .sectors) b r (i - (p .sectors + 1)) out
           → (g ≡ storeAnswer p f b i out) × (w ≡ storeBytes p f b r i out)
-      back-store h x y = (
-        x ∙ sym (chosen (eqb (length out) 512) (ltb i (storesIn p)) (leb i (p .sectors)) false _ _ _ _ (eq-eqb (length out) 512 s) below (lt-leb i (p .sectors) h)),
-        y ∙ sym (chosen (eqb (length out) 512) (ltb i (storesIn p)) (leb i (p .sectors)) false _ _ _ _ (eq-eqb (length out) 512 s) below (lt-leb i (p .sectors) h)),
-      )
-
--- the group of a store, by the groups' first numbers
-pub grouped : (r : List ℕ) (p : Plan) → p .sectors ≡ sectorsOf (length r) → (g i : ℕ) → g < 4 → groupStart r g ≤ i → i < groupStart r (suc g) → g ≡ groupOf p i
-grouped r p e zero i h a b = in-front-area p i (omega arith)
-grouped r p e (suc zero) i h a b = in-front-block p i (omega arith) (omega arith)
-grouped r p e (suc (suc zero)) i h a b = in-back-area p i (omega arith) (omega arith) (omega arith)
-grouped r p e (suc (suc (suc zero))) i h a b = in-back-block p i (omega arith) (omega arith) (omega arith) (2 * (p .sectors) + 2) refl (omega arith)
-grouped r p e (suc (suc (suc (suc g)))) i h a b = absurd (let o : _≡_ {A = ℕ} 0 1 = omega arith in omega arith)
+      back-store h x y = half-store false (lt-leb i (p .sectors) h) x y

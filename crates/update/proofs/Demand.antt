@@ -1,17 +1,15 @@
 -- Demand 3, proved: one claim over every start, update and cut. Assumes nothing.
 use Prim.Native.Nat.{ℕ, zero, suc, _+_, _-_, _*_, _%_, _^_, _≤_, _<_}
-use mathlib.Core.Path.{_≡_, refl, sym, ap, ap₂, subst, _∙_}
-use mathlib.Core.Bool.{Bool, true, false, cond, true≢false}
+use mathlib.Core.Path.{_≡_, refl, sym, ap, subst, _∙_}
+use mathlib.Core.Bool.{Bool, true, cond}
 use mathlib.Core.Logic.{_⊎_, inl, inr}
 use mathlib.Core.List.{List}
-use native.Mathlib.Decide.{ℕ-discrete, decLe}
+use native.Mathlib.Decide.{ℕ-discrete}
 use native.Mathlib.Nat.{le-refl}
 use native.Mathlib.Omega.{arith}
 use borrow.Author.Tests.{eq-eqb}
-use lib.Dec.{leb, ltb, eqb, lit<}
+use lib.Dec.{leb, lit<}
 use lib.ListN.{length}
-use Rattle.endian.specs.Bytes.{same}
-use Rattle.endian.proofs.Tests.{and-both, same-equal, equal-same}
 use Rattle.refusal.specs.Tests.{first, AllHold}
 use Rattle.refusal.proofs.Order.{first-holds}
 use Rattle.layout.specs.declared.Device.{Device}
@@ -19,130 +17,107 @@ use Rattle.layout.specs.declared.Side.{Side}
 use Rattle.layout.specs.declared.Side.the-variants.{Front, Back}
 use Rattle.layout.specs.declared.Area.{Area}
 use Rattle.layout.specs.Limits.{recordLimit, lengthAllowed}
-use Rattle.layout.specs.Places.{blockSector, areaSector, copyBytes}
+use Rattle.layout.specs.Places.{blockSector, areaSector}
 use Rattle.layout.proofs.Laws.{length-facts}
 use Rattle.block.specs.declared.Time.{Time}
-use Rattle.block.specs.declared.Holding.{Holding}
 use Rattle.block.specs.declared.Entry.the-variants.{Used}
 use Rattle.block.specs.declared.BlockFields.{BlockFields}
 use Rattle.block.specs.declared.Reading.{Reading}
 use Rattle.block.specs.declared.Verdict.the-variants as Verdict
-use Rattle.block.specs.Entry.{laterThan, sameTime, timeOf}
-use Rattle.block.specs.Block.{poolOf, uuidOf, fieldsOf, readTests, reading, refusedReading}
+use Rattle.block.specs.Entry.{laterThan, timeOf}
+use Rattle.block.specs.Block.{poolOf, uuidOf, fieldsOf, readTests, reading}
 use Rattle.block.specs.Accepted.{Accepted}
-use Rattle.block.specs.Writing.{holdingOf, writeTests, written}
-use Rattle.block.proofs.Readings.{refused-reading, accepted-length}
+use Rattle.block.specs.Writing.{writeTests, written}
+use Rattle.block.proofs.Readings.{accepted-length}
 use Rattle.block.proofs.Exactly.{obeys}
-use Rattle.block.proofs.Times.{same-facts, same-test, later-asym, never-later}
 use Rattle.discovery.specs.declared.Other.the-variants.{Both}
 use Rattle.discovery.specs.declared.Answer.{Answer}
 use Rattle.discovery.specs.declared.Answer.the-variants.{Found}
-use Rattle.discovery.specs.Copy.{blockIn, areaBytes, entryIn, otherArea, whole, newest, readingIn}
-use Rattle.discovery.specs.Discovery.{recordAt, sameDevice, sized, discovery, inStep}
-use Rattle.device.specs.Device.{Sectors, Sound, Store, landed, Cut, areaSectors, copyFrom}
+use Rattle.discovery.specs.Copy.{blockIn, entryIn, whole, newest, readingIn}
+use Rattle.discovery.specs.Discovery.{recordAt, sameDevice, discovery, inStep}
+use Rattle.device.specs.Device.{Sectors, Sound, Store, Cut, Groups, stores, storeIn, groupStart, CutIn, areaSectors, copyFrom}
 use Rattle.device.proofs.Landing.{landed-size}
-use Rattle.device.proofs.Copies.{limit-sectors, limit-small, length-copy, copy-block}
-use Rattle.update.specs.Update.{deviceIn, numberAfter, updateTests, updateNumber, sectorsOf, sectorOf, holdingFor, withEntry, spare, newBlock, storeOf, groupStart}
+use Rattle.device.proofs.Copies.{limit-sectors, limit-small}
+use Rattle.update.specs.Update.{deviceIn, numberAfter, updateTests, updateNumber, sectorsOf, sectorOf, holdingFor, withEntry, spare, newBlock}
 use Rattle.update.specs.declared.Part.{Part}
 use Rattle.update.specs.declared.Plan.{Plan}
 use Rattle.update.specs.declared.Given.{Given}
 use Rattle.update.specs.declared.Given.the-variants as Given
 use Rattle.update.specs.declared.Planned.the-variants as Planned
-use Rattle.update.specs.Plan.{partOf, planOf, planned, storesIn, groupOf, sectorIn, partAnswer, partBytes, storeAnswer, storeBytes}
-use Rattle.update.specs.Demand.{Gives, heldIn, recordIn, Start, Excused, Cutting, after, Landing, Giving}
-use Rattle.update.proofs.NewBlock.{number-fits, new-reads, new-writes, new-written}
+use Rattle.update.specs.Plan.{partOf, storesIn, sectorIn, partAnswer, partBytes, storeAnswer, storeBytes}
+use Rattle.update.specs.Demand.{Gives, heldIn, recordIn, Start, Excused, groupsOn, planOn, Cutting, after, Landing, Giving}
+use Rattle.update.proofs.NewBlock.{number-fits, device-kept, new-reads, new-writes, new-written}
 use Rattle.update.proofs.Holding.{Holds, newest-changed}
 use Rattle.update.proofs.Discovering.{gives, back-found, front-found, both-found, later-found}
-use Rattle.update.proofs.Padding.{sectors-most, length-sector, sector-laid}
+use Rattle.update.proofs.Padding.{sectors-most}
 use Rattle.update.proofs.OneSide as OneSide
-use Rattle.update.proofs.Choosing.{grouped, area-sector, block-stored, part-block, front-store, back-store}
+use Rattle.update.proofs.Choosing.{block-given, area-given, part-given, front-store, back-store}
 use Rattle.update.proofs.InStep.{Stepped, verdict-facts, in-step-facts, same-device-test, held-in-step}
-use Rattle.update.proofs.OneCopy.{used, old-held, new-held, held-long, block-of}
-use Rattle.update.proofs.Stores.{Sizes, near, area-near, area-below, block-apart, areas-apart, front-side, back-side}
-
--- the same under equal names
-renamed : {c : List ℕ} {f : BlockFields} {p q u w : List ℕ} {x : Area} {h : Holding} {r : List ℕ} → p ≡ q → u ≡ w → Holds c f p u x h r → Holds c f q w x h r
-renamed {c} {f} {p} {q} {u} {w} {x} {h} {r} a b k =
-    record {
-      reads = k .reads ∙ ap₂ (λ (y z : List ℕ). reading-of f y z) a b;
-      area = k .area;
-      entry = k .entry;
-      bytes = k .bytes;
-      sum = k .sum;
-      long = k .long;
-    }
-  where
-    reading-of : BlockFields → List ℕ → List ℕ → Reading
-    reading-of f y z = record { verdict = Verdict.Accepted f; pool = y; device = z }
-
-same-time-is : (t u : Time) → sameTime t u ≡ true → t ≡ u
-same-time-is t u h =
-    let s : (t .seconds ≡ u .seconds) × (t .nanoseconds ≡ u .nanoseconds) = same-facts t u h in
-    λ i. record { seconds = s .0 i; nanoseconds = s .1 i }
-
-same-time-refl : (t : Time) → sameTime t t ≡ true
-same-time-refl t = same-test t t refl refl
-
-sized-copies : (v : Device) (d e : Sectors) → Sound d → Sound e → sized (copyFrom Front v d) (copyFrom Back v e) ≡ true
-sized-copies v d e sd se =
-    and-both (eqb (length (copyFrom Front v d)) copyBytes) (eqb (length (copyFrom Back v e)) copyBytes)
-    (eq-eqb (length (copyFrom Front v d)) copyBytes (length-copy Front v d sd)) (eq-eqb (length (copyFrom Back v e)) copyBytes (length-copy Back v e se))
-
--- two lists are the same or not
-split : (a b : List ℕ) (x : Bool) → same a b ≡ x → (a ≡ b) ⊎ (a ≡ b → ⊥)
-split a b true e = inl (same-equal a b e)
-split a b false e = inr (λ q. true≢false (sym (equal-same a b q) ∙ e))
-
-refused-differs : (n : ℕ) (f : BlockFields) → Verdict.Refused n ≡ Verdict.Accepted f → ⊥
-refused-differs n f v = let o : _≡_ {A = ℕ} 0 1 = cc in omega arith
-
--- a block that is accepted only in one of two versions stands in one of them, or is refused
-stands-as : (b o n : List ℕ) → ((b ≡ o → ⊥) → (b ≡ n → ⊥) → first (readTests b) ≡ 0 → ⊥)
-    → (b ≡ o) ⊎ ((b ≡ n) ⊎ ((m : ℕ) × (reading b .verdict ≡ Verdict.Refused m)))
-stands-as b o n x = go (split b o (same b o) refl) (split b n (same b n) refl)
-  where
-    go : (b ≡ o) ⊎ (b ≡ o → ⊥) → (b ≡ n) ⊎ (b ≡ n → ⊥) → (b ≡ o) ⊎ ((b ≡ n) ⊎ ((m : ℕ) × (reading b .verdict ≡ Verdict.Refused m)))
-    go (inl p) q = inl p
-    go (inr p) (inl q) = inr (inl q)
-    go (inr p) (inr q) =
-        elim (ℕ-discrete (first (readTests b)) 0) [
-          | yes z ↦ absurd (x p q z)
-          | no h ↦ inr (inr (first (readTests b), sym (ap (λ (a : Reading). a .verdict) (refused-reading b (first (readTests b)) refl h))))
-        ]
-
--- one of four stores
-pick-size : (a b c : Bool) (x y z w : Store) → length (x .content) ≡ 512 → length (y .content) ≡ 512 → length (z .content) ≡ 512 → length (w .content) ≡ 512
-    → length (cond a x (cond b y (cond c z w)) .content) ≡ 512
-pick-size true b c x y z w p q m n = p
-pick-size false true c x y z w p q m n = q
-pick-size false false true x y z w p q m n = m
-pick-size false false false x y z w p q m n = n
-
--- what a copy that holds a record has in its newest area
-its-record : {c : List ℕ} {f : BlockFields} {p u : List ℕ} {x : Area} {h : Holding} {r : List ℕ} → Holds c f p u x h r → (recordIn c ≡ r) × (heldIn c ≡ h)
-its-record {c} {f} {p} {u} {x} {h} {r} k =
-    let e : f ≡ fieldsOf (blockIn c) = verdict-facts (blockIn c) f (ap (λ (q : Reading). q .verdict) (k .reads)) .1 in
-    let w : heldIn c ≡ h =
-    sym (ap (λ (g : BlockFields). holdingOf (entryIn g (newest g))) e) ∙ (ap (λ (y : Area). holdingOf (entryIn f y)) (k .area) ∙ ap holdingOf (k .entry)) in
-    (ap₂ (λ (y : Area) (q : Holding). areaBytes c y (q .bytes)) (sym (ap newest e) ∙ k .area) w ∙ k .bytes, w)
-
--- all that the start gives
-record Ready (v : Device) (d : Sectors) (t : Time) (r : List ℕ) : Type 0 where
-  step : Stepped (copyFrom Front v d) (copyFrom Back v d)
-  sizes : Sizes v
-  ns : leb (t .nanoseconds) 999999999 ≡ true
-  later : laterThan t (timeOf (heldIn (copyFrom Front v d))) ≡ true
-  len : lengthAllowed (length r) ≡ true
+use Rattle.update.proofs.OneCopy.{used, old-held, new-held, block-of}
+use Rattle.update.proofs.Facts.{other-differs, renamed, same-time-is, same-time-refl, sized-copies, refused-differs, stands-as, its-record}
+use Rattle.update.proofs.Places.{Sizes, near, area-near, area-below, block-apart, areas-apart}
+use Rattle.update.proofs.Stores.{starting, begin, count, which, stored-size, side, group-starts, grouped}
 
 module _ (v : Device) (d : Sectors) (t : Time) (r : List ℕ) (s : Start v d t r) where
-  stepped : Stepped (copyFrom Front v d) (copyFrom Back v d)
-  stepped = in-step-facts (copyFrom Front v d) (copyFrom Back v d) (s .in-step)
+  -- a side's copy before the update, the numbers of its block and the area that is present
+  abbrev copy : Side → List ℕ
+  copy w = copyFrom w v d
+
+  abbrev fields : Side → BlockFields
+  fields w = fieldsOf (blockIn (copy w))
+
+  abbrev present : Side → Area
+  present w = newest (fields w)
+
+  -- the numbers of its new block
+  abbrev newFields : Side → BlockFields
+  newFields w = withEntry (fields w) (spare (copy w)) (Used (holdingFor t r))
+
+  -- sectors of the record, the groups, and how many stores they have
+  abbrev k : ℕ
+  k = sectorsOf (length r)
+
+  abbrev groups : Groups
+  groups = groupsOn v d t r
+
+  abbrev all : ℕ
+  all = k + 1 + k + 1
+
+  -- a side's copy holds the old record, or the new one
+  abbrev OldHeld : Side → Sectors → Type 0
+  OldHeld w e =
+      Holds (copyFrom w v e) (fields w) (poolOf (blockIn (copy Front))) (uuidOf (blockIn (copy Front))) (present w) (heldIn (copy w)) (recordIn (copy w))
+
+  abbrev NewHeld : Side → Sectors → Type 0
+  NewHeld w e =
+      Holds (copyFrom w v e) (newFields w) (poolOf (blockIn (copy Front))) (uuidOf (blockIn (copy Front))) (spare (copy w)) (holdingFor t r) r
+
+  -- a side's block stands in its old version, in its new one, or is refused
+  abbrev IsOld : Side → Sectors → Type 0
+  IsOld w e = blockIn (copyFrom w v e) ≡ blockIn (copy w)
+
+  abbrev IsNew : Side → Sectors → Type 0
+  IsNew w e = blockIn (copyFrom w v e) ≡ newBlock (copy w) t r
+
+  abbrev IsRefused : Side → Sectors → Type 0
+  IsRefused w e = (n : ℕ) × (readingIn (copyFrom w v e) .verdict ≡ Verdict.Refused n)
+
+  -- what discovery gives
+  abbrev GivesOld : Sectors → Type 0
+  GivesOld e = Gives (copyFrom Front v e) (copyFrom Back v e) (timeOf (heldIn (copy Front))) (recordIn (copy Front))
+
+  abbrev GivesNew : Sectors → Type 0
+  GivesNew e = Gives (copyFrom Front v e) (copyFrom Back v e) t r
+
+  -- what the start says of the device and of each side
+  stepped : Stepped (copy Front) (copy Back)
+  stepped = in-step-facts (copy Front) (copy Back) (s .in-step)
 
   its-sizes : Sizes v
   its-sizes =
-      let a : Accepted (blockIn (copyFrom Front v d)) = obeys (blockIn (copyFrom Front v d)) (stepped .front) in
-      let es : deviceIn (copyFrom Front v d) .sectors ≡ v .sectors = ap (λ (w : Device). w .sectors) (s .placed) in
-      let em : deviceIn (copyFrom Front v d) .metadata ≡ v .metadata = ap (λ (w : Device). w .metadata) (s .placed) in
+      let a : Accepted (blockIn (copy Front)) = obeys (blockIn (copy Front)) (stepped .front) in
+      let es : deviceIn (copy Front) .sectors ≡ v .sectors = ap (λ (w : Device). w .sectors) (s .placed) in
+      let em : deviceIn (copy Front) .metadata ≡ v .metadata = ap (λ (w : Device). w .metadata) (s .placed) in
       record {
         sectors = subst (λ (n : ℕ). 2097152 ≤ n) es (a .sectors);
         even = subst (λ (n : ℕ). n % 2 ≡ 0) em (a .metadata-even);
@@ -153,369 +128,287 @@ module _ (v : Device) (d : Sectors) (t : Time) (r : List ℕ) (s : Start v d t r
   big : 8 ≤ v .sectors
   big = let c : 2097152 ≤ v .sectors = its-sizes .sectors in omega arith
 
-  front-old : (e : Sectors) → Sound e → e (blockSector Front v) ≡ d (blockSector Front v)
-      → ((i : ℕ) → i < areaSectors → e (areaSector Front (newest (fieldsOf (blockIn (copyFrom Front v d)))) v + i) ≡ d (areaSector Front (newest (fieldsOf (blockIn (copyFrom Front v d)))) v + i))
-      → Holds (copyFrom Front v e) (fieldsOf (blockIn (copyFrom Front v d))) (poolOf (blockIn (copyFrom Front v d))) (uuidOf (blockIn (copyFrom Front v d)))
-      (newest (fieldsOf (blockIn (copyFrom Front v d)))) (heldIn (copyFrom Front v d)) (recordIn (copyFrom Front v d))
-  front-old e se = old-held Front v d (s .sound) big (stepped .front) (stepped .front-whole) e se
-
-  back-old : (e : Sectors) → Sound e → e (blockSector Back v) ≡ d (blockSector Back v)
-      → ((i : ℕ) → i < areaSectors → e (areaSector Back (newest (fieldsOf (blockIn (copyFrom Back v d)))) v + i) ≡ d (areaSector Back (newest (fieldsOf (blockIn (copyFrom Back v d)))) v + i))
-      → Holds (copyFrom Back v e) (fieldsOf (blockIn (copyFrom Back v d))) (poolOf (blockIn (copyFrom Front v d))) (uuidOf (blockIn (copyFrom Front v d)))
-      (newest (fieldsOf (blockIn (copyFrom Back v d)))) (heldIn (copyFrom Back v d)) (recordIn (copyFrom Back v d))
-  back-old e se b a =
-      renamed (sym (stepped .pool)) (sym (stepped .uuid)) (old-held Back v d (s .sound) big (stepped .back) (stepped .back-whole) e se b a)
-
-  one : sameDevice (fieldsOf (blockIn (copyFrom Front v d))) (fieldsOf (blockIn (copyFrom Back v d))) ≡ true
-  one = same-device-test (fieldsOf (blockIn (copyFrom Front v d))) (fieldsOf (blockIn (copyFrom Back v d))) (stepped .device)
-
-  found : discovery (copyFrom Front v d) (copyFrom Back v d)
-      ≡ Found (recordAt Front (newest (fieldsOf (blockIn (copyFrom Front v d)))) (heldIn (copyFrom Front v d))) Both
-  found =
-      both-found (copyFrom Front v d) (copyFrom Back v d) (stepped .sizes) (front-old d (s .sound) refl (λ i l. refl)) (back-old d (s .sound) refl (λ i l. refl)) one
-      (stepped .times) (stepped .records)
-
-  holds-all : AllHold (updateTests (copyFrom Front v d) (copyFrom Back v d) (timeOf (heldIn (copyFrom Front v d))) t r)
-  unfolding updateNumber
-  holds-all =
-      first-holds (updateTests (copyFrom Front v d) (copyFrom Back v d) (timeOf (heldIn (copyFrom Front v d))) t r)
-      (lit< tt, (lit< tt, (lit< tt, (lit< tt, (lit< tt, (lit< tt, (lit< tt, tt)))))))
-      (sym (ap (λ (a : Answer). numberAfter a (copyFrom Front v d) (copyFrom Back v d) t r) found) ∙ s .not-refused)
-
-  ready : Ready v d t r
-  ready = record { step = stepped; sizes = its-sizes; ns = holds-all .1 .0; later = holds-all .1 .1 .0; len = holds-all .1 .1 .1 .0 }
-
-  small : sectorsOf (length r) ≤ areaSectors
-  small =
-      let l : length r ≤ recordLimit = length-facts (length r) (ready .len) .1 in
-      let m : areaSectors * 512 ≡ recordLimit = limit-sectors in
-      sectors-most (length r) areaSectors (omega arith)
-
-  tiny : sectorsOf (length r) ≤ 1020
-  tiny = let a : areaSectors ≤ 1020 = limit-small in let b : sectorsOf (length r) ≤ areaSectors = small in omega arith
-
-  later-back : laterThan t (timeOf (heldIn (copyFrom Back v d))) ≡ true
-  later-back = ap (laterThan t) (sym (same-time-is _ _ (stepped .times))) ∙ ready .later
-
-  front-new : (e : Sectors) → Sound e → e (blockSector Front v) ≡ newBlock (copyFrom Front v d) t r
-      → ((i : ℕ) → i < sectorsOf (length r) → e (areaSector Front (spare (copyFrom Front v d)) v + i) ≡ sectorOf r i)
-      → Holds (copyFrom Front v e) (withEntry (fieldsOf (blockIn (copyFrom Front v d))) (spare (copyFrom Front v d)) (Used (holdingFor t r)))
-      (poolOf (blockIn (copyFrom Front v d))) (uuidOf (blockIn (copyFrom Front v d))) (spare (copyFrom Front v d)) (holdingFor t r) r
-  front-new e se b a =
-      new-held Front v d (s .sound) big (stepped .front) (stepped .front-whole) e se t r (s .fits) (ready .ns) (ready .len) (ready .later) b a
-
-  back-new : (e : Sectors) → Sound e → e (blockSector Back v) ≡ newBlock (copyFrom Back v d) t r
-      → ((i : ℕ) → i < sectorsOf (length r) → e (areaSector Back (spare (copyFrom Back v d)) v + i) ≡ sectorOf r i)
-      → Holds (copyFrom Back v e) (withEntry (fieldsOf (blockIn (copyFrom Back v d))) (spare (copyFrom Back v d)) (Used (holdingFor t r)))
-      (poolOf (blockIn (copyFrom Front v d))) (uuidOf (blockIn (copyFrom Front v d))) (spare (copyFrom Back v d)) (holdingFor t r) r
-  back-new e se b a =
-      renamed (sym (stepped .pool)) (sym (stepped .uuid))
-      (new-held Back v d (s .sound) big (stepped .back) (stepped .back-whole) e se t r (s .fits) (ready .ns) (ready .len) later-back b a)
-
-  front-laid : OneSide.Side (storeOf (copyFrom Front v d) (copyFrom Back v d) t r) (sectorsOf (length r) + 1 + sectorsOf (length r) + 1) 0 (sectorsOf (length r))
-      (areaSector Front (spare (copyFrom Front v d)) v) (blockSector Front v) r (newBlock (copyFrom Front v d) t r) (near Front v)
-  front-laid = front-side (copyFrom Front v d) (copyFrom Back v d) t r v (s .placed) its-sizes tiny
-
-  back-laid : OneSide.Side (storeOf (copyFrom Front v d) (copyFrom Back v d) t r) (sectorsOf (length r) + 1 + sectorsOf (length r) + 1) (sectorsOf (length r) + 1)
-      (sectorsOf (length r)) (areaSector Back (spare (copyFrom Back v d)) v) (blockSector Back v) r (newBlock (copyFrom Back v d) t r) (near Back v)
-  back-laid = back-side (copyFrom Front v d) (copyFrom Back v d) t r v (s .placed) its-sizes tiny
-
-  -- device numbers stay the same
-  kept-device : (f : BlockFields) (y : Area) (k : Holding) → withEntry f y (Used k) .device ≡ f .device
-  kept-device f Rattle.layout.specs.declared.Area.the-variants.A k = refl
-  kept-device f Rattle.layout.specs.declared.Area.the-variants.B k = refl
-
-  new-old : sameDevice (withEntry (fieldsOf (blockIn (copyFrom Front v d))) (spare (copyFrom Front v d)) (Used (holdingFor t r))) (fieldsOf (blockIn (copyFrom Back v d))) ≡ true
-  new-old = same-device-test (withEntry (fieldsOf (blockIn (copyFrom Front v d))) (spare (copyFrom Front v d)) (Used (holdingFor t r))) (fieldsOf (blockIn (copyFrom Back v d))) (kept-device (fieldsOf (blockIn (copyFrom Front v d))) (spare (copyFrom Front v d)) (holdingFor t r) ∙ stepped .device)
-
-  new-new : sameDevice (withEntry (fieldsOf (blockIn (copyFrom Front v d))) (spare (copyFrom Front v d)) (Used (holdingFor t r)))
-      (withEntry (fieldsOf (blockIn (copyFrom Back v d))) (spare (copyFrom Back v d)) (Used (holdingFor t r))) ≡ true
-  new-new =
-      same-device-test (withEntry (fieldsOf (blockIn (copyFrom Front v d))) (spare (copyFrom Front v d)) (Used (holdingFor t r))) (withEntry (fieldsOf (blockIn (copyFrom Back v d))) (spare (copyFrom Back v d)) (Used (holdingFor t r)))
-      (kept-device (fieldsOf (blockIn (copyFrom Front v d))) (spare (copyFrom Front v d)) (holdingFor t r) ∙ (stepped .device ∙ sym (kept-device (fieldsOf (blockIn (copyFrom Back v d))) (spare (copyFrom Back v d)) (holdingFor t r))))
-
-  -- the new front block differs from the old one: its newest entry is in the other area
-  other-differs : (x : Area) → otherArea x ≡ x → ⊥
-  other-differs Rattle.layout.specs.declared.Area.the-variants.A e = let o : _≡_ {A = ℕ} 0 1 = cc in omega arith
-  other-differs Rattle.layout.specs.declared.Area.the-variants.B e = let o : _≡_ {A = ℕ} 0 1 = cc in omega arith
-
-  -- each side's: the block is accepted, its newest area is whole, the update is later
-  accepted : (w : Side) → first (readTests (blockIn (copyFrom w v d))) ≡ 0
+  accepted : (w : Side) → first (readTests (blockIn (copy w))) ≡ 0
   accepted Front = stepped .front
   accepted Back = stepped .back
 
-  its-whole : (w : Side) → whole (copyFrom w v d) (fieldsOf (blockIn (copyFrom w v d))) (newest (fieldsOf (blockIn (copyFrom w v d)))) ≡ true
+  its-whole : (w : Side) → whole (copy w) (fields w) (present w) ≡ true
   its-whole Front = stepped .front-whole
   its-whole Back = stepped .back-whole
 
-  its-later : (w : Side) → laterThan t (timeOf (heldIn (copyFrom w v d))) ≡ true
-  its-later Front = ready .later
-  its-later Back = later-back
+  its-pool : (w : Side) → poolOf (blockIn (copy w)) ≡ poolOf (blockIn (copy Front))
+  its-pool Front = refl
+  its-pool Back = sym (stepped .pool)
 
-  -- the number of its first store
-  abbrev begin : Side → ℕ
-  begin Front = 0
-  begin Back = sectorsOf (length r) + 1
+  its-uuid : (w : Side) → uuidOf (blockIn (copy w)) ≡ uuidOf (blockIn (copy Front))
+  its-uuid Front = refl
+  its-uuid Back = sym (stepped .uuid)
 
-  laid : (w : Side) → OneSide.Side (storeOf (copyFrom Front v d) (copyFrom Back v d) t r) (sectorsOf (length r) + 1 + sectorsOf (length r) + 1) (begin w)
-      (sectorsOf (length r)) (areaSector w (spare (copyFrom w v d)) v) (blockSector w v) r (newBlock (copyFrom w v d) t r) (near w v)
-  laid Front = front-laid
-  laid Back = back-laid
+  its-used : (w : Side) → entryIn (fields w) (present w) ≡ Used (heldIn (copy w))
+  its-used w = used w v d (s .sound) big (accepted w) (its-whole w)
+
+  one-device : sameDevice (fields Front) (fields Back) ≡ true
+  one-device = same-device-test (fields Front) (fields Back) (stepped .device)
+
+  -- the old block and the old sectors of its area: the old record
+  holds-old : (w : Side) (e : Sectors) → Sound e → e (blockSector w v) ≡ d (blockSector w v)
+      → ((i : ℕ) → i < areaSectors → e (areaSector w (present w) v + i) ≡ d (areaSector w (present w) v + i)) → OldHeld w e
+  holds-old w e se b a = renamed (its-pool w) (its-uuid w) (old-held w v d (s .sound) big (accepted w) (its-whole w) e se b a)
+
+  found : discovery (copy Front) (copy Back) ≡ Found (recordAt Front (present Front) (heldIn (copy Front))) Both
+  found =
+      both-found (copy Front) (copy Back) (stepped .sizes) (holds-old Front d (s .sound) refl (λ i l. refl)) (holds-old Back d (s .sound) refl (λ i l. refl))
+      one-device (stepped .times) (stepped .records)
+
+  -- what it says of the time and the record: no test refuses them
+  holds-all : AllHold (updateTests (copy Front) (copy Back) (timeOf (heldIn (copy Front))) t r)
+  unfolding updateNumber
+  holds-all =
+      first-holds (updateTests (copy Front) (copy Back) (timeOf (heldIn (copy Front))) t r)
+      (lit< tt, (lit< tt, (lit< tt, (lit< tt, (lit< tt, (lit< tt, (lit< tt, tt)))))))
+      (sym (ap (λ (a : Answer). numberAfter a (copy Front) (copy Back) t r) found) ∙ s .not-refused)
+
+  its-time : leb (t .nanoseconds) 999999999 ≡ true
+  its-time = holds-all .1 .0
+
+  its-later : (w : Side) → laterThan t (timeOf (heldIn (copy w))) ≡ true
+  its-later Front = holds-all .1 .1 .0
+  its-later Back = ap (laterThan t) (sym (same-time-is _ _ (stepped .times))) ∙ holds-all .1 .1 .0
+
+  its-length : lengthAllowed (length r) ≡ true
+  its-length = holds-all .1 .1 .1 .0
+
+  tiny : k ≤ 1020
+  tiny =
+      let l : length r ≤ recordLimit = length-facts (length r) its-length .1 in
+      let m : areaSectors * 512 ≡ recordLimit = limit-sectors in
+      let a : areaSectors ≤ 1020 = limit-small in
+      let b : k ≤ areaSectors = sectors-most (length r) areaSectors (omega arith) in
+      omega arith
+
+  -- the new block and the record's sectors: the new record
+  holds-new : (w : Side) (e : Sectors) → Sound e → e (blockSector w v) ≡ newBlock (copy w) t r
+      → ((i : ℕ) → i < k → e (areaSector w (spare (copy w)) v + i) ≡ sectorOf r i) → NewHeld w e
+  holds-new w e se b a =
+      renamed (its-pool w) (its-uuid w)
+      (new-held w v d (s .sound) big (accepted w) (its-whole w) e se t r (s .fits) its-time its-length (its-later w) b a)
+
+  new-device : (w : Side) → newFields w .device ≡ fields w .device
+  new-device w = device-kept (fields w) (spare (copy w)) (Used (holdingFor t r))
+
+  new-old : sameDevice (newFields Front) (fields Back) ≡ true
+  new-old = same-device-test (newFields Front) (fields Back) (new-device Front ∙ stepped .device)
+
+  new-new : sameDevice (newFields Front) (newFields Back) ≡ true
+  new-new = same-device-test (newFields Front) (newFields Back) (new-device Front ∙ (stepped .device ∙ sym (new-device Back)))
+
+  -- a side's stores among all
+  laid : (w : Side) → OneSide.Side (storeIn groups) all (begin k w) k (areaSector w (spare (copy w)) v) (blockSector w v) r (newBlock (copy w) t r) (near w v)
+  laid = side copy t r v (s .placed) its-sizes tiny
+
+  stores-count : length (stores groups) ≡ all
+  stores-count = count copy t r v (s .placed)
 
   module _ (w : Side) where
-    its-used : entryIn (fieldsOf (blockIn (copyFrom w v d))) (newest (fieldsOf (blockIn (copyFrom w v d)))) ≡ Used (heldIn (copyFrom w v d))
-    its-used = used w v d (s .sound) big (accepted w) (its-whole w)
-
-    new-verdict : reading (newBlock (copyFrom w v d) t r) .verdict
-        ≡ Verdict.Accepted (withEntry (fieldsOf (blockIn (copyFrom w v d))) (spare (copyFrom w v d)) (Used (holdingFor t r)))
+    new-verdict : reading (newBlock (copy w) t r) .verdict ≡ Verdict.Accepted (newFields w)
     new-verdict =
         ap (λ (q : Reading). q .verdict)
-        (new-reads (copyFrom w v d) (accepted w) (heldIn (copyFrom w v d)) its-used t r (s .fits) (ready .ns) (ready .len) (its-later w))
+        (new-reads (copy w) (accepted w) (heldIn (copy w)) (its-used w) t r (s .fits) its-time its-length (its-later w))
 
-    new-size : length (newBlock (copyFrom w v d) t r) ≡ 512
-    new-size = accepted-length (newBlock (copyFrom w v d) t r) (verdict-facts (newBlock (copyFrom w v d) t r) _ new-verdict .0)
+    new-size : length (newBlock (copy w) t r) ≡ 512
+    new-size = accepted-length (newBlock (copy w) t r) (verdict-facts (newBlock (copy w) t r) _ new-verdict .0)
 
-    new-differs : blockIn (copyFrom w v d) ≡ newBlock (copyFrom w v d) t r → ⊥
+    -- the new block differs from the old one: its newest entry is in the other area
+    new-differs : blockIn (copy w) ≡ newBlock (copy w) t r → ⊥
     new-differs p =
-        let x : Area = newest (fieldsOf (blockIn (copyFrom w v d))) in
-        let f : withEntry (fieldsOf (blockIn (copyFrom w v d))) (spare (copyFrom w v d)) (Used (holdingFor t r)) ≡ fieldsOf (blockIn (copyFrom w v d)) =
-        verdict-facts (blockIn (copyFrom w v d)) _ (ap (λ (b : List ℕ). reading b .verdict) p ∙ new-verdict) .1 in
-        other-differs x
-        (sym (newest-changed (fieldsOf (blockIn (copyFrom w v d))) x (heldIn (copyFrom w v d)) (holdingFor t r) its-used (its-later w)) ∙ ap newest f)
+        let f : newFields w ≡ fields w = verdict-facts (blockIn (copy w)) _ (ap (λ (b : List ℕ). reading b .verdict) p ∙ new-verdict) .1 in
+        other-differs (present w)
+        (sym (newest-changed (fields w) (present w) (heldIn (copy w)) (holdingFor t r) (its-used w) (its-later w)) ∙ ap newest f)
 
     at-block : (e : Sectors) → Sound e → blockIn (copyFrom w v e) ≡ e (blockSector w v)
     at-block e se = block-of w v d (s .sound) big (accepted w) (its-whole w) e se
 
-    -- a block stands in its old version or in its new one, or it is refused
-    state : (e : Sectors) → (Excused v d e t r → ⊥)
-        → (blockIn (copyFrom w v e) ≡ blockIn (copyFrom w v d))
-        ⊎ ((blockIn (copyFrom w v e) ≡ newBlock (copyFrom w v d) t r) ⊎ ((n : ℕ) × (readingIn (copyFrom w v e) .verdict ≡ Verdict.Refused n)))
-    state e x =
-        stands-as (blockIn (copyFrom w v e)) (blockIn (copyFrom w v d)) (newBlock (copyFrom w v d) t r) (λ p q z. x (w, p, q, z))
-
-    -- the present area is never stored to
-    kept : (e : Sectors) (i j : ℕ) → i ≤ j → j ≤ sectorsOf (length r) + 1 + sectorsOf (length r) + 1
-        → Cut (storeOf (copyFrom Front v d) (copyFrom Back v d) t r) i j d e → (q : ℕ) → q < areaSectors
-        → e (areaSector w (newest (fieldsOf (blockIn (copyFrom w v d)))) v + q) ≡ d (areaSector w (newest (fieldsOf (blockIn (copyFrom w v d)))) v + q)
-    kept e i j l b c q h =
-        let a : areaSectors ≤ 1020 = limit-small in
-        let k : sectorsOf (length r) ≤ 1020 = tiny in
-        let x : Area = newest (fieldsOf (blockIn (copyFrom w v d))) in
-        OneSide.cut-kept (laid w) d e i j l b c (areaSector w x v + q) (area-near v its-sizes w x q (omega arith))
-        (λ y u z. areas-apart v its-sizes w x q y (omega arith) (omega arith) z) (λ z. block-apart v its-sizes w x q (omega arith) z)
+    state : (e : Sectors) → (Excused v d e t r → ⊥) → IsOld w e ⊎ (IsNew w e ⊎ IsRefused w e)
+    state e x = stands-as (blockIn (copyFrom w v e)) (blockIn (copy w)) (newBlock (copy w) t r) (λ p q z. x (w, p, q, z))
 
   module _ (e : Sectors) (se : Sound e) where
     -- what each pair of states gives
-    gives-old : Holds (copyFrom Front v e) (fieldsOf (blockIn (copyFrom Front v d))) (poolOf (blockIn (copyFrom Front v d))) (uuidOf (blockIn (copyFrom Front v d)))
-        (newest (fieldsOf (blockIn (copyFrom Front v d)))) (heldIn (copyFrom Front v d)) (recordIn (copyFrom Front v d))
-        → Holds (copyFrom Back v e) (fieldsOf (blockIn (copyFrom Back v d))) (poolOf (blockIn (copyFrom Front v d))) (uuidOf (blockIn (copyFrom Front v d)))
-        (newest (fieldsOf (blockIn (copyFrom Back v d)))) (heldIn (copyFrom Back v d)) (recordIn (copyFrom Back v d))
-        → Gives (copyFrom Front v e) (copyFrom Back v e) (timeOf (heldIn (copyFrom Front v d))) (recordIn (copyFrom Front v d))
+    gives-old : OldHeld Front e → OldHeld Back e → GivesOld e
     gives-old m n =
-        gives (copyFrom Front v e) (copyFrom Back v e) Front (newest (fieldsOf (blockIn (copyFrom Front v d)))) (heldIn (copyFrom Front v d)) Both _ _
-        (both-found (copyFrom Front v e) (copyFrom Back v e) (sized-copies v e e se se) m n one (stepped .times) (stepped .records)) (m .bytes) (m .long) refl
+        gives (copyFrom Front v e) (copyFrom Back v e) Front (present Front) (heldIn (copy Front)) Both _ _
+        (both-found (copyFrom Front v e) (copyFrom Back v e) (sized-copies v e e se se) m n one-device (stepped .times) (stepped .records)) (m .bytes) (m .long) refl
 
-    gives-back : (n : ℕ) → readingIn (copyFrom Front v e) .verdict ≡ Verdict.Refused n
-        → Holds (copyFrom Back v e) (fieldsOf (blockIn (copyFrom Back v d))) (poolOf (blockIn (copyFrom Front v d))) (uuidOf (blockIn (copyFrom Front v d)))
-        (newest (fieldsOf (blockIn (copyFrom Back v d)))) (heldIn (copyFrom Back v d)) (recordIn (copyFrom Back v d))
-        → Gives (copyFrom Front v e) (copyFrom Back v e) (timeOf (heldIn (copyFrom Front v d))) (recordIn (copyFrom Front v d))
-    gives-back n a m =
-        gives (copyFrom Front v e) (copyFrom Back v e) Back (newest (fieldsOf (blockIn (copyFrom Back v d)))) (heldIn (copyFrom Back v d)) _ _ _
-        (back-found (copyFrom Front v e) (copyFrom Back v e) (sized-copies v e e se se) n a m)
+    gives-back : IsRefused Front e → OldHeld Back e → GivesOld e
+    gives-back a m =
+        gives (copyFrom Front v e) (copyFrom Back v e) Back (present Back) (heldIn (copy Back)) _ _ _
+        (back-found (copyFrom Front v e) (copyFrom Back v e) (sized-copies v e e se se) (a .0) (a .1) m)
         (m .bytes ∙ sym (stepped .records)) (m .long ∙ ap length (sym (stepped .records))) (sym (same-time-is _ _ (stepped .times)))
 
-    module _ (m : Holds (copyFrom Front v e) (withEntry (fieldsOf (blockIn (copyFrom Front v d))) (spare (copyFrom Front v d)) (Used (holdingFor t r)))
-        (poolOf (blockIn (copyFrom Front v d))) (uuidOf (blockIn (copyFrom Front v d))) (spare (copyFrom Front v d)) (holdingFor t r) r) where
-      gives-newer : Holds (copyFrom Back v e) (fieldsOf (blockIn (copyFrom Back v d))) (poolOf (blockIn (copyFrom Front v d))) (uuidOf (blockIn (copyFrom Front v d)))
-          (newest (fieldsOf (blockIn (copyFrom Back v d)))) (heldIn (copyFrom Back v d)) (recordIn (copyFrom Back v d))
-          → Gives (copyFrom Front v e) (copyFrom Back v e) t r
+    module _ (m : NewHeld Front e) where
+      gives-newer : OldHeld Back e → GivesNew e
       gives-newer n =
-          gives (copyFrom Front v e) (copyFrom Back v e) Front (spare (copyFrom Front v d)) (holdingFor t r) Both t r
-          (later-found (copyFrom Front v e) (copyFrom Back v e) (sized-copies v e e se se) m n new-old later-back) (m .bytes) (m .long) refl
+          gives (copyFrom Front v e) (copyFrom Back v e) Front (spare (copy Front)) (holdingFor t r) Both t r
+          (later-found (copyFrom Front v e) (copyFrom Back v e) (sized-copies v e e se se) m n new-old (its-later Back)) (m .bytes) (m .long) refl
 
-      gives-both : Holds (copyFrom Back v e) (withEntry (fieldsOf (blockIn (copyFrom Back v d))) (spare (copyFrom Back v d)) (Used (holdingFor t r)))
-          (poolOf (blockIn (copyFrom Front v d))) (uuidOf (blockIn (copyFrom Front v d))) (spare (copyFrom Back v d)) (holdingFor t r) r
-          → Gives (copyFrom Front v e) (copyFrom Back v e) t r
+      gives-both : NewHeld Back e → GivesNew e
       gives-both n =
-          gives (copyFrom Front v e) (copyFrom Back v e) Front (spare (copyFrom Front v d)) (holdingFor t r) Both t r
+          gives (copyFrom Front v e) (copyFrom Back v e) Front (spare (copy Front)) (holdingFor t r) Both t r
           (both-found (copyFrom Front v e) (copyFrom Back v e) (sized-copies v e e se se) m n new-new (same-time-refl t) refl) (m .bytes) (m .long) refl
 
-      gives-front : (n : ℕ) → readingIn (copyFrom Back v e) .verdict ≡ Verdict.Refused n → Gives (copyFrom Front v e) (copyFrom Back v e) t r
-      gives-front n a =
-          gives (copyFrom Front v e) (copyFrom Back v e) Front (spare (copyFrom Front v d)) (holdingFor t r) _ t r
-          (front-found (copyFrom Front v e) (copyFrom Back v e) (sized-copies v e e se se) n m a) (m .bytes) (m .long) refl
+      gives-front : IsRefused Back e → GivesNew e
+      gives-front a =
+          gives (copyFrom Front v e) (copyFrom Back v e) Front (spare (copy Front)) (holdingFor t r) _ t r
+          (front-found (copyFrom Front v e) (copyFrom Back v e) (sized-copies v e e se se) (a .0) m (a .1)) (m .bytes) (m .long) refl
 
   -- what a cut leaves
   abbrev Outcome : Sectors → Type 0
-  Outcome e =
-      (blockIn (copyFrom Front v e) ≡ newBlock (copyFrom Front v d) t r → Gives (copyFrom Front v e) (copyFrom Back v e) t r)
-      × ((blockIn (copyFrom Front v e) ≡ newBlock (copyFrom Front v d) t r → ⊥)
-      → Gives (copyFrom Front v e) (copyFrom Back v e) (timeOf (heldIn (copyFrom Front v d))) (recordIn (copyFrom Front v d)))
+  Outcome e = (IsNew Front e → GivesNew e) × ((IsNew Front e → ⊥) → GivesOld e)
 
-  module _ (e : Sectors) (x : Excused v d e t r → ⊥) where
-    old-stands : blockIn (copyFrom Front v e) ≡ blockIn (copyFrom Front v d)
-        → Gives (copyFrom Front v e) (copyFrom Back v e) (timeOf (heldIn (copyFrom Front v d))) (recordIn (copyFrom Front v d)) → Outcome e
+  module _ (e : Sectors) where
+    old-stands : IsOld Front e → GivesOld e → Outcome e
     old-stands p g = (λ q. absurd (new-differs Front (sym p ∙ q)), λ h. g)
 
-    new-stands : blockIn (copyFrom Front v e) ≡ newBlock (copyFrom Front v d) t r → Gives (copyFrom Front v e) (copyFrom Back v e) t r → Outcome e
+    new-stands : IsNew Front e → GivesNew e → Outcome e
     new-stands p g = (λ q. g, λ h. absurd (h p))
 
-    none-stands : (n : ℕ) → readingIn (copyFrom Front v e) .verdict ≡ Verdict.Refused n
-        → Gives (copyFrom Front v e) (copyFrom Back v e) (timeOf (heldIn (copyFrom Front v d))) (recordIn (copyFrom Front v d)) → Outcome e
-    none-stands n p g =
-        (λ q. absurd (refused-differs n _ (sym p ∙ (ap (λ (b : List ℕ). reading b .verdict) q ∙ new-verdict Front))), λ h. g)
+    none-stands : IsRefused Front e → GivesOld e → Outcome e
+    none-stands p g =
+        (λ q. absurd (refused-differs (p .0) _ (sym (p .1) ∙ (ap (λ (b : List ℕ). reading b .verdict) q ∙ new-verdict Front))), λ h. g)
 
-    module _ (i j : ℕ) (l : i ≤ j) (b : j ≤ sectorsOf (length r) + 1 + sectorsOf (length r) + 1)
-        (c : Cut (storeOf (copyFrom Front v d) (copyFrom Back v d) t r) i j d e) where
-      was : (w : Side) → e (blockSector w v) ≡ d (blockSector w v) → blockIn (copyFrom w v e) ≡ blockIn (copyFrom w v d)
-      was w p = at-block w e (c .sound) ∙ (p ∙ sym (at-block w d (s .sound)))
+  module _ (e : Sectors) (x : Excused v d e t r → ⊥) (i j : ℕ) (l : i ≤ j) (b : j ≤ all) (c : Cut (storeIn groups) i j d e) where
+    -- the block of a side whose block is not yet stored to, or has landed
+    is-old : (w : Side) → j ≤ begin k w + k → IsOld w e
+    is-old w h = at-block w e (c .sound) ∙ (OneSide.cut-old (laid w) d e i j l b c h ∙ sym (at-block w d (s .sound)))
 
-      old-sector : (w : Side) → blockIn (copyFrom w v e) ≡ blockIn (copyFrom w v d) → e (blockSector w v) ≡ d (blockSector w v)
-      old-sector w p = sym (at-block w e (c .sound)) ∙ (p ∙ at-block w d (s .sound))
+    is-new : (w : Side) → begin k w + k < i → IsNew w e
+    is-new w h = at-block w e (c .sound) ∙ OneSide.cut-new (laid w) d e i j l b c h
 
-      new-sector : (w : Side) → blockIn (copyFrom w v e) ≡ newBlock (copyFrom w v d) t r → e (blockSector w v) ≡ newBlock (copyFrom w v d) t r
-      new-sector w p = sym (at-block w e (c .sound)) ∙ p
+    -- the present area is never stored to
+    kept : (w : Side) (q : ℕ) → q < areaSectors → e (areaSector w (present w) v + q) ≡ d (areaSector w (present w) v + q)
+    kept w q h =
+        let a : areaSectors ≤ 1020 = limit-small in
+        let m : k ≤ 1020 = tiny in
+        OneSide.cut-kept (laid w) d e i j l b c (areaSector w (present w) v + q) (area-near v its-sizes w (present w) q (omega arith))
+        (λ y u z. areas-apart v its-sizes w (present w) q y (omega arith) (omega arith) z) (λ z. block-apart v its-sizes w (present w) q (omega arith) z)
 
-      old-front : e (blockSector Front v) ≡ d (blockSector Front v)
-          → Holds (copyFrom Front v e) (fieldsOf (blockIn (copyFrom Front v d))) (poolOf (blockIn (copyFrom Front v d))) (uuidOf (blockIn (copyFrom Front v d)))
-          (newest (fieldsOf (blockIn (copyFrom Front v d)))) (heldIn (copyFrom Front v d)) (recordIn (copyFrom Front v d))
-      old-front p = front-old e (c .sound) p (kept Front e i j l b c)
+    still-old : (w : Side) → IsOld w e → OldHeld w e
+    still-old w p = holds-old w e (c .sound) (sym (at-block w e (c .sound)) ∙ (p ∙ at-block w d (s .sound))) (kept w)
 
-      old-back : e (blockSector Back v) ≡ d (blockSector Back v)
-          → Holds (copyFrom Back v e) (fieldsOf (blockIn (copyFrom Back v d))) (poolOf (blockIn (copyFrom Front v d))) (uuidOf (blockIn (copyFrom Front v d)))
-          (newest (fieldsOf (blockIn (copyFrom Back v d)))) (heldIn (copyFrom Back v d)) (recordIn (copyFrom Back v d))
-      old-back p = back-old e (c .sound) p (kept Back e i j l b c)
+    now-new : (w : Side) → begin k w + k ≤ i → IsNew w e → NewHeld w e
+    now-new w h p = holds-new w e (c .sound) (sym (at-block w e (c .sound)) ∙ p) (OneSide.cut-area (laid w) d e i j l b c h)
 
-      -- the front's area is being stored
-      in-front-area : j ≤ sectorsOf (length r) → Outcome e
-      in-front-area u =
-          let p : e (blockSector Front v) ≡ d (blockSector Front v) = OneSide.cut-old (laid Front) d e i j l b c (omega arith) in
-          let q : e (blockSector Back v) ≡ d (blockSector Back v) = OneSide.cut-old (laid Back) d e i j l b c (omega arith) in
-          old-stands (was Front p) (gives-old e (c .sound) (old-front p) (old-back q))
+    -- the front's area is being stored
+    in-front-area : j ≤ k → Outcome e
+    in-front-area u =
+        let p : IsOld Front e = is-old Front (omega arith) in
+        old-stands e p (gives-old e (c .sound) (still-old Front p) (still-old Back (is-old Back (omega arith))))
 
-      -- the front's block is
-      in-front-block : sectorsOf (length r) ≤ i → j ≤ sectorsOf (length r) + 1 → Outcome e
-      in-front-block u o = go (state Front e x)
+    -- the front's block is
+    in-front-block : k ≤ i → j ≤ k + 1 → Outcome e
+    in-front-block u o = go (state Front e x)
+      where
+        back : OldHeld Back e
+        back = still-old Back (is-old Back (omega arith))
+
+        go : IsOld Front e ⊎ (IsNew Front e ⊎ IsRefused Front e) → Outcome e
+        go (inl p) = old-stands e p (gives-old e (c .sound) (still-old Front p) back)
+        go (inr (inl p)) = new-stands e p (gives-newer e (c .sound) (now-new Front (omega arith) p) back)
+        go (inr (inr p)) = none-stands e p (gives-back e (c .sound) p back)
+
+    -- the front's block has landed
+    module _ (u : k < i) where
+      stands : IsNew Front e
+      stands = is-new Front (omega arith)
+
+      front : NewHeld Front e
+      front = now-new Front (omega arith) stands
+
+      in-back-area : j ≤ k + 1 + k → Outcome e
+      in-back-area o = new-stands e stands (gives-newer e (c .sound) front (still-old Back (is-old Back o)))
+
+      in-back-block : k + 1 + k ≤ i → Outcome e
+      in-back-block o = new-stands e stands (go (state Back e x))
         where
-          q : e (blockSector Back v) ≡ d (blockSector Back v)
-          q = OneSide.cut-old (laid Back) d e i j l b c (omega arith)
+          go : IsOld Back e ⊎ (IsNew Back e ⊎ IsRefused Back e) → GivesNew e
+          go (inl p) = gives-newer e (c .sound) front (still-old Back p)
+          go (inr (inl p)) = gives-both e (c .sound) front (now-new Back o p)
+          go (inr (inr p)) = gives-front e (c .sound) front p
 
-          go : (blockIn (copyFrom Front v e) ≡ blockIn (copyFrom Front v d))
-              ⊎ ((blockIn (copyFrom Front v e) ≡ newBlock (copyFrom Front v d) t r) ⊎ ((n : ℕ) × (readingIn (copyFrom Front v e) .verdict ≡ Verdict.Refused n)))
-              → Outcome e
-          go (inl p) = old-stands p (gives-old e (c .sound) (old-front (old-sector Front p)) (old-back q))
-          go (inr (inl p)) =
-              new-stands p
-              (gives-newer e (c .sound)
-              (front-new e (c .sound) (new-sector Front p) (OneSide.cut-area (laid Front) d e i j l b c (omega arith))) (old-back q))
-          go (inr (inr p)) = none-stands (p .0) (p .1) (gives-back e (c .sound) (p .0) (p .1) (old-back q))
-
-      -- the front's block has landed
-      module _ (u : sectorsOf (length r) < i) where
-        stands : blockIn (copyFrom Front v e) ≡ newBlock (copyFrom Front v d) t r
-        stands = at-block Front e (c .sound) ∙ OneSide.cut-new (laid Front) d e i j l b c (omega arith)
-
-        front-holds : Holds (copyFrom Front v e) (withEntry (fieldsOf (blockIn (copyFrom Front v d))) (spare (copyFrom Front v d)) (Used (holdingFor t r)))
-            (poolOf (blockIn (copyFrom Front v d))) (uuidOf (blockIn (copyFrom Front v d))) (spare (copyFrom Front v d)) (holdingFor t r) r
-        front-holds = front-new e (c .sound) (new-sector Front stands) (OneSide.cut-area (laid Front) d e i j l b c (omega arith))
-
-        in-back-area : j ≤ sectorsOf (length r) + 1 + sectorsOf (length r) → Outcome e
-        in-back-area o =
-            new-stands stands (gives-newer e (c .sound) front-holds (old-back (OneSide.cut-old (laid Back) d e i j l b c o)))
-
-        in-back-block : sectorsOf (length r) + 1 + sectorsOf (length r) ≤ i → Outcome e
-        in-back-block o = new-stands stands (go (state Back e x))
-          where
-            go : (blockIn (copyFrom Back v e) ≡ blockIn (copyFrom Back v d))
-                ⊎ ((blockIn (copyFrom Back v e) ≡ newBlock (copyFrom Back v d) t r) ⊎ ((n : ℕ) × (readingIn (copyFrom Back v e) .verdict ≡ Verdict.Refused n)))
-                → Gives (copyFrom Front v e) (copyFrom Back v e) t r
-            go (inl p) = gives-newer e (c .sound) front-holds (old-back (old-sector Back p))
-            go (inr (inl p)) =
-                gives-both e (c .sound) front-holds
-                (back-new e (c .sound) (new-sector Back p) (OneSide.cut-area (laid Back) d e i j l b c o))
-            go (inr (inr p)) = gives-front e (c .sound) front-holds (p .0) (p .1)
+  -- a cut in any of the four groups
+  in-group : (e : Sectors) → (Excused v d e t r → ⊥) → (g : ℕ) → g < 4 → CutIn groups g d e → Outcome e
+  in-group e x g h c =
+      go g h
+      (subst (λ (n : ℕ). Cut (storeIn groups) n (starting k (suc g)) d e) (group-starts (copy Front) (copy Back) t r g)
+      (subst (λ (n : ℕ). Cut (storeIn groups) (groupStart groups g) n d e) (group-starts (copy Front) (copy Back) t r (suc g)) c))
+    where
+      go : (g : ℕ) → g < 4 → Cut (storeIn groups) (starting k g) (starting k (suc g)) d e → Outcome e
+      go zero h c = in-front-area e x (starting k 0) (starting k 1) (omega arith) (omega arith) c (omega arith)
+      go (suc zero) h c = in-front-block e x (starting k 1) (starting k 2) (omega arith) (omega arith) c (omega arith) (omega arith)
+      go (suc (suc zero)) h c = in-back-area e x (starting k 2) (starting k 3) (omega arith) (omega arith) c (omega arith) (omega arith)
+      go (suc (suc (suc zero))) h c = in-back-block e x (starting k 3) (starting k 4) (omega arith) (omega arith) c (omega arith) (omega arith)
+      go (suc (suc (suc (suc g)))) h c = absurd (let o : _≡_ {A = ℕ} 0 1 = omega arith in omega arith)
 
   -- all stores landed
-  store-size : (i : ℕ) → length (storeOf (copyFrom Front v d) (copyFrom Back v d) t r i .content) ≡ 512
-  unfolding storeOf
-  store-size i =
-      let k : ℕ = sectorsOf (length r) in
-      pick-size (ltb i k) (ltb i (k + 1)) (ltb i (k + 1 + k))
-      (record { sector = areaSector Front (spare (copyFrom Front v d)) (deviceIn (copyFrom Front v d)) + i; content = sectorOf r i })
-      (record { sector = blockSector Front (deviceIn (copyFrom Front v d)); content = newBlock (copyFrom Front v d) t r })
-      (record { sector = areaSector Back (spare (copyFrom Back v d)) (deviceIn (copyFrom Front v d)) + (i - (k + 1)); content = sectorOf r (i - (k + 1)) })
-      (record { sector = blockSector Back (deviceIn (copyFrom Front v d)); content = newBlock (copyFrom Back v d) t r })
-      (length-sector r i) (new-size Front) (length-sector r (i - (k + 1))) (new-size Back)
-
   after-sound : Sound (after v d t r)
-  after-sound = record { size = landed-size (storeOf (copyFrom Front v d) (copyFrom Back v d) t r) d (s .sound .size) (groupStart r 4) (λ i l. store-size i) }
+  after-sound =
+      record {
+        size =
+            landed-size (storeIn groups) d (s .sound .size) (length (stores groups))
+            (λ i l. stored-size copy t r v (s .placed) new-size i (subst (λ (n : ℕ). i < n) stores-count l));
+      }
 
-  all-landed : Gives (copyFrom Front v (after v d t r)) (copyFrom Back v (after v d t r)) t r
+  has-landed : (w : Side) → NewHeld w (after v d t r)
+  has-landed w =
+      let n : length (stores groups) ≡ all = stores-count in
+      let m : begin k w + k < all = laid w .within in
+      holds-new w (after v d t r) after-sound (OneSide.block-landed (laid w) d (length (stores groups)) (omega arith) (omega arith))
+      (λ i y. OneSide.area-landed (laid w) d i (length (stores groups)) y (omega arith) (omega arith))
+
+  all-landed : GivesNew (after v d t r)
       × ((inStep (copyFrom Front v (after v d t r)) (copyFrom Back v (after v d t r)) ≡ true)
       × ((w : Side) → (recordIn (copyFrom w v (after v d t r)) ≡ r) × (timeOf (heldIn (copyFrom w v (after v d t r))) ≡ t)))
   all-landed = (
-    gives-both (after v d t r) after-sound front back,
-    (held-in-step front back (sized-copies v (after v d t r) (after v d t r) after-sound after-sound) new-new (same-time-refl t), holds),
+    gives-both (after v d t r) after-sound (has-landed Front) (has-landed Back),
+    (
+      held-in-step (has-landed Front) (has-landed Back) (sized-copies v (after v d t r) (after v d t r) after-sound after-sound) new-new (same-time-refl t),
+      λ w. (its-record (has-landed w) .0, ap timeOf (its-record (has-landed w) .1)),
+    ),
   )
-    where
-      front : Holds (copyFrom Front v (after v d t r)) (withEntry (fieldsOf (blockIn (copyFrom Front v d))) (spare (copyFrom Front v d)) (Used (holdingFor t r)))
-          (poolOf (blockIn (copyFrom Front v d))) (uuidOf (blockIn (copyFrom Front v d))) (spare (copyFrom Front v d)) (holdingFor t r) r
-      front =
-          front-new (after v d t r) after-sound (OneSide.block-landed (laid Front) d (groupStart r 4) (omega arith) (omega arith))
-          (λ i y. OneSide.area-landed (laid Front) d i (groupStart r 4) y (omega arith) (omega arith))
-
-      back : Holds (copyFrom Back v (after v d t r)) (withEntry (fieldsOf (blockIn (copyFrom Back v d))) (spare (copyFrom Back v d)) (Used (holdingFor t r)))
-          (poolOf (blockIn (copyFrom Front v d))) (uuidOf (blockIn (copyFrom Front v d))) (spare (copyFrom Back v d)) (holdingFor t r) r
-      back =
-          back-new (after v d t r) after-sound (OneSide.block-landed (laid Back) d (groupStart r 4) (omega arith) (omega arith))
-          (λ i y. OneSide.area-landed (laid Back) d i (groupStart r 4) y (omega arith) (omega arith))
-
-      holds : (w : Side) → (recordIn (copyFrom w v (after v d t r)) ≡ r) × (timeOf (heldIn (copyFrom w v (after v d t r))) ≡ t)
-      holds Front = (its-record front .0, ap timeOf (its-record front .1))
-      holds Back = (its-record back .0, ap timeOf (its-record back .1))
 
   -- the stores that the plan gives
   sectors-fit : v .sectors < 256 ^ 8
-  sectors-fit = subst (λ (w : Device). w .sectors < 256 ^ 8) (s .placed) (number-fits (blockIn (copyFrom Front v d)) 20 8)
+  sectors-fit = subst (λ (w : Device). w .sectors < 256 ^ 8) (s .placed) (number-fits (blockIn (copy Front)) 20 8)
+
+  abbrev plan : Plan
+  plan = planOn v d t r
+
+  abbrev part : Side → Device → Part
+  part w u = partOf w u (copy w) (holdingFor t r)
 
   module _ (w : Side) (out : List ℕ) (room : length out ≡ 512) where
-    given-area : (j : ℕ) → j < sectorsOf (length r)
-        → (partAnswer (partOf w v (copyFrom w v d) (holdingFor t r)) (sectorsOf (length r)) (copyFrom w v d) j out ≡ Given.At (areaSector w (spare (copyFrom w v d)) v + j))
-        × (partBytes (partOf w v (copyFrom w v d) (holdingFor t r)) (sectorsOf (length r)) (copyFrom w v d) r j out ≡ sectorOf r j)
+    given-area : (j : ℕ) → j < k
+        → (partAnswer (part w v) k (copy w) j out ≡ Given.At (areaSector w (spare (copy w)) v + j))
+        × (partBytes (part w v) k (copy w) r j out ≡ sectorOf r j)
     given-area j l =
-        let k : sectorsOf (length r) ≤ 1020 = tiny in
-        let a : areaSector w (spare (copyFrom w v d)) v + j < v .sectors = area-below v its-sizes w (spare (copyFrom w v d)) j (omega arith) in
+        let m : k ≤ 1020 = tiny in
+        let a : areaSector w (spare (copy w)) v + j < v .sectors = area-below v its-sizes w (spare (copy w)) j (omega arith) in
         let b : v .sectors < 256 ^ 8 = sectors-fit in
-        let h : areaSector w (spare (copyFrom w v d)) v ≤ 18446744073709551615 - j = omega arith in
-        let g : (Given.At (areaSector w (spare (copyFrom w v d)) v + j) ≡ partAnswer (partOf w v (copyFrom w v d) (holdingFor t r)) (sectorsOf (length r)) (copyFrom w v d) j out)
-        × (sectorIn r j out ≡ partBytes (partOf w v (copyFrom w v d) (holdingFor t r)) (sectorsOf (length r)) (copyFrom w v d) r j out) =
-        area-sector (partOf w v (copyFrom w v d) (holdingFor t r)) (sectorsOf (length r)) (copyFrom w v d) r j out l h (sectorIn r j out) refl in
-        (sym (g .0), sym (g .1) ∙ sector-laid r j out room)
+        let h : areaSector w (spare (copy w)) v ≤ 18446744073709551615 - j = omega arith in
+        area-given (part w v) k (copy w) r j out l h room
 
-    given-block : (partAnswer (partOf w v (copyFrom w v d) (holdingFor t r)) (sectorsOf (length r)) (copyFrom w v d) (sectorsOf (length r)) out ≡ Given.At (blockSector w v))
-        × (partBytes (partOf w v (copyFrom w v d) (holdingFor t r)) (sectorsOf (length r)) (copyFrom w v d) r (sectorsOf (length r)) out ≡ newBlock (copyFrom w v d) t r)
+    given-block : (partAnswer (part w v) k (copy w) k out ≡ Given.At (blockSector w v)) × (partBytes (part w v) k (copy w) r k out ≡ newBlock (copy w) t r)
     given-block =
-        let z : first (writeTests out (poolOf (blockIn (copyFrom w v d))) (uuidOf (blockIn (copyFrom w v d))) (withEntry (fieldsOf (blockIn (copyFrom w v d))) (spare (copyFrom w v d)) (Used (holdingFor t r)))) ≡ 0 =
-        new-writes (copyFrom w v d) (accepted w) (heldIn (copyFrom w v d)) (its-used w) t r (s .fits) (ready .ns) (ready .len) (its-later w) out room in
-        let g : (Given.At (blockSector w v) ≡ partAnswer (partOf w v (copyFrom w v d) (holdingFor t r)) (sectorsOf (length r)) (copyFrom w v d) (sectorsOf (length r)) out)
-        × (written out (poolOf (blockIn (copyFrom w v d))) (uuidOf (blockIn (copyFrom w v d))) (withEntry (fieldsOf (blockIn (copyFrom w v d))) (spare (copyFrom w v d)) (Used (holdingFor t r)))
-        ≡ partBytes (partOf w v (copyFrom w v d) (holdingFor t r)) (sectorsOf (length r)) (copyFrom w v d) r (sectorsOf (length r)) out) =
-        part-block (partOf w v (copyFrom w v d) (holdingFor t r)) (sectorsOf (length r)) (copyFrom w v d) r (sectorsOf (length r)) out (le-refl (sectorsOf (length r))) _ _
-        (block-stored (blockSector w v) (withEntry (fieldsOf (blockIn (copyFrom w v d))) (spare (copyFrom w v d)) (Used (holdingFor t r))) (copyFrom w v d) out
-        (poolOf (blockIn (copyFrom w v d))) (uuidOf (blockIn (copyFrom w v d))) refl refl 0 (sym z) _ refl refl .0) refl in (
-          sym (g .0),
-          sym (g .1)
-              ∙ new-written (copyFrom w v d) (accepted w) (heldIn (copyFrom w v d)) (its-used w) t r (s .fits) (ready .ns) (ready .len) (its-later w) out room,
-        )
+        part-given (part w v) k (copy w) r k out (le-refl k) (blockSector w v) (newBlock (copy w) t r)
+        (block-given (blockSector w v) (newFields w) (copy w) out (newBlock (copy w) t r)
+        (new-writes (copy w) (accepted w) (heldIn (copy w)) (its-used w) t r (s .fits) its-time its-length (its-later w) out room)
+        (new-written (copy w) (accepted w) (heldIn (copy w)) (its-used w) t r (s .fits) its-time its-length (its-later w) out room))
 
     -- store j of a side is the store that the update has at its number
-    given-store : (j : ℕ) → j ≤ sectorsOf (length r)
-        → (partAnswer (partOf w v (copyFrom w v d) (holdingFor t r)) (sectorsOf (length r)) (copyFrom w v d) j out
-        ≡ Given.At (storeOf (copyFrom Front v d) (copyFrom Back v d) t r (begin w + j) .sector))
-        × (partBytes (partOf w v (copyFrom w v d) (holdingFor t r)) (sectorsOf (length r)) (copyFrom w v d) r j out
-        ≡ storeOf (copyFrom Front v d) (copyFrom Back v d) t r (begin w + j) .content)
+    given-store : (j : ℕ) → j ≤ k
+        → (partAnswer (part w v) k (copy w) j out ≡ Given.At (storeIn groups (begin k w + j) .sector))
+        × (partBytes (part w v) k (copy w) r j out ≡ storeIn groups (begin k w + j) .content)
     given-store j l =
-        elim (ℕ-discrete j (sectorsOf (length r))) [
+        elim (ℕ-discrete j k) [
           | yes e ↦
               rw e
               (given-block .0 ∙ ap (λ (q : Store). Given.At (q .sector)) (sym (laid w .block)), given-block .1 ∙ ap (λ (q : Store). q .content) (sym (laid w .block)))
@@ -526,64 +419,60 @@ module _ (v : Device) (d : Sectors) (t : Time) (r : List ℕ) (s : Start v d t r
         ]
 
     -- with the places as the front copy says them
-    given-at : (j : ℕ) → j ≤ sectorsOf (length r)
-        → (partAnswer (partOf w (deviceIn (copyFrom Front v d)) (copyFrom w v d) (holdingFor t r)) (sectorsOf (length r)) (copyFrom w v d) j out
-        ≡ Given.At (storeOf (copyFrom Front v d) (copyFrom Back v d) t r (begin w + j) .sector))
-        × (partBytes (partOf w (deviceIn (copyFrom Front v d)) (copyFrom w v d) (holdingFor t r)) (sectorsOf (length r)) (copyFrom w v d) r j out
-        ≡ storeOf (copyFrom Front v d) (copyFrom Back v d) t r (begin w + j) .content)
+    given-at : (j : ℕ) → j ≤ k
+        → (partAnswer (part w (deviceIn (copy Front))) k (copy w) j out ≡ Given.At (storeIn groups (begin k w + j) .sector))
+        × (partBytes (part w (deviceIn (copy Front))) k (copy w) r j out ≡ storeIn groups (begin k w + j) .content)
     given-at j l = (
-      ap (λ (u : Device). partAnswer (partOf w u (copyFrom w v d) (holdingFor t r)) (sectorsOf (length r)) (copyFrom w v d) j out) (s .placed) ∙ given-store j l .0,
-      ap (λ (u : Device). partBytes (partOf w u (copyFrom w v d) (holdingFor t r)) (sectorsOf (length r)) (copyFrom w v d) r j out) (s .placed) ∙ given-store j l .1,
+      ap (λ (u : Device). partAnswer (part w u) k (copy w) j out) (s .placed) ∙ given-store j l .0,
+      ap (λ (u : Device). partBytes (part w u) k (copy w) r j out) (s .placed) ∙ given-store j l .1,
     )
 
-  all-given : (i : ℕ) (out : List ℕ) → i < sectorsOf (length r) + 1 + sectorsOf (length r) + 1 → length out ≡ 512
-      → (storeAnswer (planOf (copyFrom Front v d) (copyFrom Back v d) t r) (copyFrom Front v d) (copyFrom Back v d) i out
-      ≡ Given.At (storeOf (copyFrom Front v d) (copyFrom Back v d) t r i .sector))
-      × (storeBytes (planOf (copyFrom Front v d) (copyFrom Back v d) t r) (copyFrom Front v d) (copyFrom Back v d) r i out
-      ≡ storeOf (copyFrom Front v d) (copyFrom Back v d) t r i .content)
-  all-given i out l room =
-      elim (decLe i (sectorsOf (length r))) [
-        | yes h ↦
-            let n : 0 + i ≡ i = omega arith in
-            let z : i < storesIn (planOf (copyFrom Front v d) (copyFrom Back v d) t r) = omega arith in
-            joined (0 + i) n
-            (front-store (planOf (copyFrom Front v d) (copyFrom Back v d) t r) (copyFrom Front v d) (copyFrom Back v d) r i out room _ refl z _ _ h refl refl)
-            (given-at Front out room i h)
-        | no h ↦
-            let n : sectorsOf (length r) + 1 + (i - (sectorsOf (length r) + 1)) ≡ i = omega arith in
-            let z : i < storesIn (planOf (copyFrom Front v d) (copyFrom Back v d) t r) = omega arith in
-            let a : sectorsOf (length r) < i = omega arith in
-            joined (sectorsOf (length r) + 1 + (i - (sectorsOf (length r) + 1))) n
-            (back-store (planOf (copyFrom Front v d) (copyFrom Back v d) t r) (copyFrom Front v d) (copyFrom Back v d) r i out room _ refl z _ _ a refl refl)
-            (given-at Back out room (i - (sectorsOf (length r) + 1)) (omega arith))
-      ]
-    where
-      joined : {g k : Given} {x y : List ℕ} (m : ℕ) → m ≡ i → (g ≡ k) × (x ≡ y)
-          → (g ≡ Given.At (storeOf (copyFrom Front v d) (copyFrom Back v d) t r m .sector)) × (x ≡ storeOf (copyFrom Front v d) (copyFrom Back v d) t r m .content)
-          → (k ≡ Given.At (storeOf (copyFrom Front v d) (copyFrom Back v d) t r i .sector)) × (y ≡ storeOf (copyFrom Front v d) (copyFrom Back v d) t r i .content)
-      joined m e p q = (
-        sym (p .0) ∙ (q .0 ∙ ap (λ (a : ℕ). Given.At (storeOf (copyFrom Front v d) (copyFrom Back v d) t r a .sector)) e),
-        sym (p .1) ∙ (q .1 ∙ ap (λ (a : ℕ). storeOf (copyFrom Front v d) (copyFrom Back v d) t r a .content) e),
-      )
+  module _ (out : List ℕ) (room : length out ≡ 512) where
+    -- the plan gives it at that number
+    plan-gives : (w : Side) (j : ℕ) → j ≤ k
+        → (partAnswer (part w (deviceIn (copy Front))) k (copy w) j out ≡ storeAnswer plan (copy Front) (copy Back) (begin k w + j) out)
+        × (partBytes (part w (deviceIn (copy Front))) k (copy w) r j out ≡ storeBytes plan (copy Front) (copy Back) r (begin k w + j) out)
+    plan-gives Front j l =
+        let n : j ≡ 0 + j = omega arith in
+        let z : 0 + j < storesIn plan = omega arith in
+        front-store plan (copy Front) (copy Back) r (0 + j) out room _ refl z _ _ (omega arith)
+        (ap (λ (i : ℕ). partAnswer (part Front (deviceIn (copy Front))) k (copy Front) i out) n)
+        (ap (λ (i : ℕ). partBytes (part Front (deviceIn (copy Front))) k (copy Front) r i out) n)
+    plan-gives Back j l =
+        let n : j ≡ k + 1 + j - (k + 1) = omega arith in
+        let z : k + 1 + j < storesIn plan = omega arith in
+        back-store plan (copy Front) (copy Back) r (k + 1 + j) out room _ refl z _ _ (omega arith)
+        (ap (λ (i : ℕ). partAnswer (part Back (deviceIn (copy Front))) k (copy Back) i out) n)
+        (ap (λ (i : ℕ). partBytes (part Back (deviceIn (copy Front))) k (copy Back) r i out) n)
+
+    all-given : (i : ℕ) → i < all
+        → (storeAnswer plan (copy Front) (copy Back) i out ≡ Given.At (storeIn groups i .sector))
+        × (storeBytes plan (copy Front) (copy Back) r i out ≡ storeIn groups i .content)
+    all-given i l = go (which k i l)
+      where
+        go : (w : Side) × (j : ℕ) × (j ≤ k) × (i ≡ begin k w + j)
+            → (storeAnswer plan (copy Front) (copy Back) i out ≡ Given.At (storeIn groups i .sector))
+            × (storeBytes plan (copy Front) (copy Back) r i out ≡ storeIn groups i .content)
+        go (w, j, h, e) = rw e (sym (plan-gives w j h .0) ∙ given-at w out room j h .0, sym (plan-gives w j h .1) ∙ given-at w out room j h .1)
 
 pub cutting : Cutting
-cutting v d e t r zero s h c x = in-front-area v d t r s e x 0 (sectorsOf (length r)) (omega arith) (omega arith) c (omega arith)
-cutting v d e t r (suc zero) s h c x =
-    in-front-block v d t r s e x (sectorsOf (length r)) (sectorsOf (length r) + 1) (omega arith) (omega arith) c (omega arith) (omega arith)
-cutting v d e t r (suc (suc zero)) s h c x =
-    in-back-area v d t r s e x (sectorsOf (length r) + 1) (sectorsOf (length r) + 1 + sectorsOf (length r)) (omega arith) (omega arith) c (omega arith) (omega arith)
-cutting v d e t r (suc (suc (suc zero))) s h c x =
-    in-back-block v d t r s e x (sectorsOf (length r) + 1 + sectorsOf (length r)) (sectorsOf (length r) + 1 + sectorsOf (length r) + 1) (omega arith) (omega arith) c
-    (omega arith) (omega arith)
-cutting v d e t r (suc (suc (suc (suc g)))) s h c x = absurd (let o : _≡_ {A = ℕ} 0 1 = omega arith in omega arith)
+cutting v d e t r g s h c x = in-group v d t r s e x g h c
 
 pub landing : Landing
 landing v d t r s = all-landed v d t r s
 
 pub giving : Giving
 giving v d t r s = (
-  sym
-      (ap (λ (b : Bool). cond b (Planned.Ready (planOf (copyFrom Front v d) (copyFrom Back v d) t r)) (Planned.Refused (updateNumber (copyFrom Front v d) (copyFrom Back v d) t r)))
-      (sym (eq-eqb (updateNumber (copyFrom Front v d) (copyFrom Back v d) t r) 0 (s .not-refused)))),
-  ((let e : 2 * sectorsOf (length r) + 2 ≡ sectorsOf (length r) + 1 + sectorsOf (length r) + 1 = omega arith in e), (λ g i h a b. sym (grouped r (planOf (copyFrom Front v d) (copyFrom Back v d) t r) refl g i h a b), all-given v d t r s)),
+  ap (λ (b : Bool). cond b (Planned.Ready (planOn v d t r)) (Planned.Refused (updateNumber (copyFrom Front v d) (copyFrom Back v d) t r)))
+      (eq-eqb (updateNumber (copyFrom Front v d) (copyFrom Back v d) t r) 0 (s .not-refused)),
+  (
+    (let e : 2 * sectorsOf (length r) + 2 ≡ sectorsOf (length r) + 1 + sectorsOf (length r) + 1 = omega arith in e) ∙ sym (stores-count v d t r s),
+    (
+      refl,
+      (
+        λ g i h a b. sym (grouped (copyFrom Front v d) (copyFrom Back v d) t r (planOn v d t r) refl g i h a b),
+        λ i out l room. all-given v d t r s out room i (subst (λ (n : ℕ). i < n) (stores-count v d t r s) l),
+      ),
+    ),
+  ),
 )

@@ -6,7 +6,9 @@ pub mod Padding
 pub mod OneSide
 pub mod InStep
 pub mod OneCopy
+pub mod Places
 pub mod Stores
+pub mod Facts
 pub mod Demand
 pub mod Number
 pub mod Choosing

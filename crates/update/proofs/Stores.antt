@@ -1,195 +1,169 @@
--- The stores of an update, side by side: which number goes to which sector. Assumes nothing.
-use Prim.Native.Nat.{ℕ, zero, suc, _+_, _-_, _*_, _/_, _%_, _≤_, _<_}
-use mathlib.Core.Path.{_≡_, refl, sym, ap, ap₂, _∙_}
-use mathlib.Core.Bool.{Bool, true, false, cond}
-use mathlib.Core.List.{List}
-use native.Mathlib.Decide.{decLe, decLt, ℕ-discrete}
-use native.Mathlib.Nat.{zero-add}
+-- The stores of an update, by side: which number goes to which sector. Assumes nothing.
+use Prim.Native.Nat.{ℕ, zero, suc, _+_, _-_, _*_, _≤_, _<_}
+use mathlib.Core.Path.{_≡_, refl, sym, ap, ap₂, subst, _∙_}
+use mathlib.Core.List.{List, [], _∷_, _++_, append-assoc, map}
+use native.Mathlib.Decide.{decLe, ℕ-discrete}
+use native.Mathlib.Nat.{zero-add, add-zero, le-refl}
 use native.Mathlib.Omega.{arith}
-use borrow.Author.Tests.{lt-ltb, le-ltb}
-use lib.Dec.{ltb}
-use lib.ListN.{length}
+use lib.ListN.{length, take, getD, length-append}
 use Rattle.layout.specs.declared.Device.{Device}
 use Rattle.layout.specs.declared.Side.{Side}
 use Rattle.layout.specs.declared.Side.the-variants.{Front, Back}
-use Rattle.layout.specs.declared.Area.{Area}
-use Rattle.layout.specs.declared.Area.the-variants.{A, B}
 use Rattle.layout.specs.Places.{blockSector, areaSector}
 use Rattle.block.specs.declared.Time.{Time}
-use Rattle.discovery.specs.Copy.{otherArea}
-use Rattle.device.specs.Device.{Store}
-use Rattle.update.specs.Update.{deviceIn, sectorsOf, sectorOf, spare, newBlock, storeOf}
+use Rattle.device.specs.Device.{Store, Groups, stores, storeIn, groupStart}
+use Rattle.device.proofs.Groups.{total, starts, at-left, at-right, length-from, at-from}
+use Rattle.update.specs.Update.{deviceIn, sectorsOf, sectorOf, spare, newBlock, recordStores, blockStore, sideGroups, updateGroups}
+use Rattle.update.specs.declared.Plan.{Plan}
+use Rattle.update.specs.Plan.{groupOf}
+use Rattle.update.proofs.Choosing.{in-front-area, in-front-block, in-back-area, in-back-block}
+use Rattle.update.proofs.Padding.{length-sector}
+use Rattle.update.proofs.Places.{Sizes, near, area-near, block-near, block-apart, same-side}
 use Rattle.update.proofs.OneSide as OneSide
 
--- allowed device numbers
-pub record Sizes (v : Device) : Type 0 where
-  pub sectors : 2097152 ≤ v .sectors
-  pub even : v .metadata % 2 ≡ 0
-  pub least : 2040 ≤ v .metadata
-  pub most : v .metadata ≤ 16384
+-- with k sectors: the number of a group's first store, and of a side's
+abbrev pub starting : ℕ → ℕ → ℕ
+starting k g = total (take g (k ∷ 1 ∷ k ∷ 1 ∷ []))
 
--- the sectors of a side
-abbrev pub near : Side → Device → ℕ → Type 0
-near Front v n = n < 8 + v .metadata
-near Back v n = v .sectors ≤ n + 8 + v .metadata
+abbrev pub begin : ℕ → Side → ℕ
+begin k Front = 0
+begin k Back = k + 1
 
-module _ (v : Device) (z : Sizes v) where
-  pub area-near : (s : Side) (x : Area) (i : ℕ) → i < 1020 → near s v (areaSector s x v + i)
-  area-near Front A i l = let a : 2040 ≤ v .metadata = z .least in omega arith
-  area-near Front B i l =
-      let a : 2040 ≤ v .metadata = z .least in
-      let e : v .metadata % 2 ≡ 0 = z .even in
-      omega arith
-  area-near Back A i l = omega arith
-  area-near Back B i l = omega arith
+within : (k : ℕ) (w : Side) → begin k w + k < k + 1 + k + 1
+within k Front = omega arith
+within k Back = omega arith
 
-  pub block-near : (s : Side) → near s v (blockSector s v)
-  block-near Front = omega arith
-  block-near Back = let a : 2040 ≤ v .metadata = z .least in omega arith
+-- every number is one side's
+pub which : (k j : ℕ) → j < k + 1 + k + 1 → (w : Side) × (i : ℕ) × (i ≤ k) × (j ≡ begin k w + i)
+which k j l =
+    elim (decLe j k) [
+      | yes h ↦ (Front, j, h, sym (zero-add j))
+      | no h ↦ (Back, j - (k + 1), omega arith, omega arith)
+    ]
 
-  -- a side's areas and its block are apart
-  pub block-apart : (s : Side) (x : Area) (i : ℕ) → i < 1020 → areaSector s x v + i ≡ blockSector s v → ⊥
-  block-apart Front A i l e = omega arith
-  block-apart Front B i l e = omega arith
-  block-apart Back A i l e =
-      let a : 2040 ≤ v .metadata = z .least in
-      let b : v .metadata ≤ 16384 = z .most in
-      let c : 2097152 ≤ v .sectors = z .sectors in
-      omega arith
-  block-apart Back B i l e =
-      let a : 2040 ≤ v .metadata = z .least in
-      let b : v .metadata ≤ 16384 = z .most in
-      let c : 2097152 ≤ v .sectors = z .sectors in
-      omega arith
+pub length-record : (a : ℕ) (r : List ℕ) → length (recordStores a r) ≡ sectorsOf (length r)
+unfolding recordStores
+length-record a r = length-from a (sectorOf r) (sectorsOf (length r))
 
-  pub areas-apart : (s : Side) (x : Area) (i j : ℕ) → i < 1020 → j < 1020 → areaSector s x v + i ≡ areaSector s (otherArea x) v + j → ⊥
-  areas-apart Front A i j l m e = let a : 2040 ≤ v .metadata = z .least in omega arith
-  areas-apart Front B i j l m e = let a : 2040 ≤ v .metadata = z .least in omega arith
-  areas-apart Back A i j l m e =
-      let a : 2040 ≤ v .metadata = z .least in
-      let b : v .metadata ≤ 16384 = z .most in
-      let c : 2097152 ≤ v .sectors = z .sectors in
-      let f : v .metadata % 2 ≡ 0 = z .even in
-      omega arith
-  areas-apart Back B i j l m e =
-      let a : 2040 ≤ v .metadata = z .least in
-      let b : v .metadata ≤ 16384 = z .most in
-      let c : 2097152 ≤ v .sectors = z .sectors in
-      let f : v .metadata % 2 ≡ 0 = z .even in
-      omega arith
+pub at-record : (n : Store) (a : ℕ) (r : List ℕ) (i : ℕ) → i < sectorsOf (length r) → getD (recordStores a r) i n ≡ record { sector = a + i; content = sectorOf r i }
+unfolding recordStores
+at-record n a r i l = at-from n a (sectorOf r) (sectorsOf (length r)) i l
 
-  -- an area's sectors are below the device's end
-  pub area-below : (s : Side) (x : Area) (i : ℕ) → i < 1020 → areaSector s x v + i < v .sectors
-  area-below Front A i l = let c : 2097152 ≤ v .sectors = z .sectors in omega arith
-  area-below Front B i l =
-      let b : v .metadata ≤ 16384 = z .most in
-      let c : 2097152 ≤ v .sectors = z .sectors in
-      omega arith
-  area-below Back A i l =
-      let a : 2040 ≤ v .metadata = z .least in
-      let b : v .metadata ≤ 16384 = z .most in
-      let c : 2097152 ≤ v .sectors = z .sectors in
-      omega arith
-  area-below Back B i l =
-      let a : 2040 ≤ v .metadata = z .least in
-      let b : v .metadata ≤ 16384 = z .most in
-      let c : 2097152 ≤ v .sectors = z .sectors in
-      omega arith
+-- the groups have k stores, one, k and one
+module _ (f b : List ℕ) (t : Time) (r : List ℕ) where
+  group-lengths : map length (updateGroups f b t r) ≡ sectorsOf (length r) ∷ 1 ∷ sectorsOf (length r) ∷ 1 ∷ []
+  unfolding updateGroups
+  group-lengths = rw (length-record, length-record)
 
-  -- a sector is not on both sides
-  pub one-side : (n : ℕ) → near Front v n → near Back v n → ⊥
-  one-side n p q =
-      let b : v .metadata ≤ 16384 = z .most in
-      let c : 2097152 ≤ v .sectors = z .sectors in
-      omega arith
+  pub group-starts : (g : ℕ) → groupStart (updateGroups f b t r) g ≡ starting (sectorsOf (length r)) g
+  group-starts g = starts (updateGroups f b t r) g ∙ ap (λ (ns : List ℕ). total (take g ns)) group-lengths
 
-module _ (f b : List ℕ) (t : Time) (r : List ℕ) (v : Device) (at : deviceIn f ≡ v) where
-  abbrev stored : ℕ → List ℕ → Store
-  stored s c = record { sector = s; content = c }
+  -- what a plan of as many sectors says of a group's stores
+  pub grouped : (p : Plan) → p .sectors ≡ sectorsOf (length r) → (g i : ℕ) → g < 4 → groupStart (updateGroups f b t r) g ≤ i
+      → i < groupStart (updateGroups f b t r) (suc g) → g ≡ groupOf p i
+  grouped p e g i h a b = go g h (subst (λ (n : ℕ). n ≤ i) (group-starts g) a) (subst (λ (n : ℕ). i < n) (group-starts (suc g)) b)
+    where
+      go : (g : ℕ) → g < 4 → starting (sectorsOf (length r)) g ≤ i → i < starting (sectorsOf (length r)) (suc g) → g ≡ groupOf p i
+      go zero h a b = in-front-area p i (omega arith)
+      go (suc zero) h a b = in-front-block p i (omega arith) (omega arith)
+      go (suc (suc zero)) h a b = in-back-area p i (omega arith) (omega arith) (omega arith)
+      go (suc (suc (suc zero))) h a b = in-back-block p i (omega arith) (omega arith) (omega arith) (2 * (p .sectors) + 2) refl (omega arith)
+      go (suc (suc (suc (suc g)))) h a b = absurd (let o : _≡_ {A = ℕ} 0 1 = omega arith in omega arith)
 
-  front-area : (i : ℕ) → i < sectorsOf (length r) → storeOf f b t r i ≡ record { sector = areaSector Front (spare f) v + i; content = sectorOf r i }
-  unfolding storeOf
-  front-area i l = rw (lt-ltb i (sectorsOf (length r)) l, at)
+-- the copies of the two sides, on the device that the front one is of
+module _ (c : Side → List ℕ) (t : Time) (r : List ℕ) (v : Device) (at : deviceIn (c Front) ≡ v) where
+  abbrev k : ℕ
+  k = sectorsOf (length r)
 
-  front-block : storeOf f b t r (sectorsOf (length r)) ≡ record { sector = blockSector Front v; content = newBlock f t r }
-  unfolding storeOf
-  front-block =
-      rw (
-        le-ltb (sectorsOf (length r)) (sectorsOf (length r)) (native.Mathlib.Nat.le-refl (sectorsOf (length r))),
-        lt-ltb (sectorsOf (length r)) (sectorsOf (length r) + 1) (let q : sectorsOf (length r) < sectorsOf (length r) + 1 = omega arith in q),
-      )
+  abbrev groups : Groups
+  groups = updateGroups (c Front) (c Back) t r
 
-  back-area : (i : ℕ) → i < sectorsOf (length r)
-      → storeOf f b t r (sectorsOf (length r) + 1 + i) ≡ record { sector = areaSector Back (spare b) v + i; content = sectorOf r i }
-  unfolding storeOf
-  back-area i l =
-      let n : ℕ = sectorsOf (length r) in
-      let e : n + 1 + i - (n + 1) ≡ i = omega arith in
-      rw (
-        le-ltb (n + 1 + i) n (let q : n ≤ n + 1 + i = omega arith in q),
-        le-ltb (n + 1 + i) (n + 1) (let q : n + 1 ≤ n + 1 + i = omega arith in q),
-        lt-ltb (n + 1 + i) (n + 1 + n) (let q : n + 1 + i < n + 1 + n = omega arith in q),
-        e,
-        at,
-      )
+  abbrev none : Store
+  none = record { sector = 0; content = [] }
 
-  back-block : storeOf f b t r (sectorsOf (length r) + 1 + sectorsOf (length r)) ≡ record { sector = blockSector Back v; content = newBlock b t r }
-  unfolding storeOf
-  back-block =
-      let n : ℕ = sectorsOf (length r) in
-      rw (
-        le-ltb (n + 1 + n) n (let q : n ≤ n + 1 + n = omega arith in q),
-        le-ltb (n + 1 + n) (n + 1) (let q : n + 1 ≤ n + 1 + n = omega arith in q),
-        le-ltb (n + 1 + n) (n + 1 + n) (native.Mathlib.Nat.le-refl (n + 1 + n)),
-      )
-      (ap (λ (w : Device). stored (blockSector Back w) (newBlock b t r)) at)
+  -- a side's record, its block and the two together
+  abbrev areaPart : Side → List Store
+  areaPart w = recordStores (areaSector w (spare (c w)) v) r
 
-  module _ (z : Sizes v) (small : sectorsOf (length r) ≤ 1020) where
-    -- the first numbers are the front's, the others the back's
-    front-near : (j : ℕ) → j < sectorsOf (length r) + 1 → near Front v (storeOf f b t r j .sector)
-    front-near j l =
-        elim (ℕ-discrete j (sectorsOf (length r))) [
-          | yes e ↦ rw (e, front-block) (block-near v z Front)
-          | no e ↦ rw (front-area j (omega arith)) (area-near v z Front (spare f) j (omega arith))
+  abbrev blockPart : Side → List Store
+  blockPart w = blockStore w v (newBlock (c w) t r)
+
+  abbrev part : Side → List Store
+  part w = areaPart w ++ blockPart w
+
+  length-part : (w : Side) → length (part w) ≡ k + 1
+  length-part w = length-append (areaPart w) (blockPart w) ∙ ap (λ (n : ℕ). n + 1) (length-record (areaSector w (spare (c w)) v) r)
+
+  -- the front's stores, then the back's
+  by-side : stores groups ≡ part Front ++ part Back
+  unfolding updateGroups stores
+  by-side =
+      ap (λ (u : Device). stores (sideGroups Front u (c Front) t r ++ sideGroups Back u (c Back) t r)) at
+      ∙ sym (append-assoc (areaPart Front) (blockPart Front) (part Back))
+
+  pub count : length (stores groups) ≡ k + 1 + k + 1
+  count =
+      ap length by-side
+      ∙ (length-append (part Front) (part Back)
+      ∙ (ap₂ _+_ (length-part Front) (length-part Back) ∙ (let e : k + 1 + (k + 1) ≡ k + 1 + k + 1 = omega arith in e)))
+
+  at-side : (w : Side) (j : ℕ) → j ≤ k → storeIn groups (begin k w + j) ≡ getD (part w) j none
+  unfolding storeIn
+  at-side Front j l =
+      let m : length (part Front) ≡ k + 1 = length-part Front in
+      ap₂ (λ (s : List Store) (n : ℕ). getD s n none) by-side (zero-add j) ∙ at-left none (part Front) (part Back) j (omega arith)
+  at-side Back j l =
+      ap₂ (λ (s : List Store) (n : ℕ). getD s (n + j) none) by-side (sym (length-part Front)) ∙ at-right none (part Front) (part Back) j
+
+  -- a side's k stores to its area, and the one to its block
+  side-area : (w : Side) (i : ℕ) → i < k → storeIn groups (begin k w + i) ≡ record { sector = areaSector w (spare (c w)) v + i; content = sectorOf r i }
+  side-area w i l =
+      let m : length (areaPart w) ≡ k = length-record (areaSector w (spare (c w)) v) r in
+      at-side w i (omega arith) ∙ (at-left none (areaPart w) (blockPart w) i (omega arith) ∙ at-record none (areaSector w (spare (c w)) v) r i l)
+
+  side-block : (w : Side) → storeIn groups (begin k w + k) ≡ record { sector = blockSector w v; content = newBlock (c w) t r }
+  side-block w =
+      at-side w k (le-refl k)
+      ∙ (ap (λ (n : ℕ). getD (part w) n none) (sym (add-zero k) ∙ ap (λ (n : ℕ). n + 0) (sym (length-record (areaSector w (spare (c w)) v) r)))
+      ∙ at-right none (areaPart w) (blockPart w) 0)
+
+  -- every store has 512 bytes, where the new blocks have
+  pub stored-size : ((w : Side) → length (newBlock (c w) t r) ≡ 512) → (j : ℕ) → j < k + 1 + k + 1 → length (storeIn groups j .content) ≡ 512
+  stored-size h j l = go (which k j l)
+    where
+      go : (w : Side) × (i : ℕ) × (i ≤ k) × (j ≡ begin k w + i) → length (storeIn groups j .content) ≡ 512
+      go (w, i, m, e) =
+          elim (ℕ-discrete i k) [
+            | yes q ↦ ap (λ (s : Store). length (s .content)) (ap (storeIn groups) (e ∙ ap (λ (n : ℕ). begin k w + n) q) ∙ side-block w) ∙ h w
+            | no q ↦ ap (λ (s : Store). length (s .content)) (ap (storeIn groups) e ∙ side-area w i (omega arith)) ∙ length-sector r i
+          ]
+
+  module _ (z : Sizes v) (small : k ≤ 1020) where
+    -- a side's stores are near it
+    near-stores : (w : Side) (i : ℕ) → i ≤ k → near w v (storeIn groups (begin k w + i) .sector)
+    near-stores w i l =
+        elim (ℕ-discrete i k) [
+          | yes e ↦ rw (e, side-block w) (block-near v z w)
+          | no e ↦ rw (side-area w i (omega arith)) (area-near v z w (spare (c w)) i (omega arith))
         ]
 
-    back-near : (j : ℕ) → sectorsOf (length r) < j → j < sectorsOf (length r) + 1 + sectorsOf (length r) + 1 → near Back v (storeOf f b t r j .sector)
-    back-near j l m =
-        let n : ℕ = sectorsOf (length r) in
-        elim (ℕ-discrete j (n + 1 + n)) [
-          | yes e ↦ rw (e, back-block) (block-near v z Back)
-          | no e ↦
-              let i : ℕ = j - (n + 1) in
-              let x : j ≡ n + 1 + i = omega arith in
-              rw (x, back-area i (omega arith)) (area-near v z Back (spare b) i (omega arith))
-        ]
+    -- and no others
+    own : (w : Side) (j : ℕ) → j < k + 1 + k + 1 → near w v (storeIn groups j .sector) → (begin k w ≤ j) × (j ≤ begin k w + k)
+    own w j l n = go (which k j l)
+      where
+        go : (u : Side) × (i : ℕ) × (i ≤ k) × (j ≡ begin k u + i) → (begin k w ≤ j) × (j ≤ begin k w + k)
+        go (u, i, m, e) =
+            subst (λ (s : Side). (begin k s ≤ j) × (j ≤ begin k s + k))
+            (same-side v z u w (storeIn groups j .sector) (rw e (near-stores u i m)) n) (omega arith, omega arith)
 
-    pub front-side : OneSide.Side (storeOf f b t r) (sectorsOf (length r) + 1 + sectorsOf (length r) + 1) 0 (sectorsOf (length r))
-        (areaSector Front (spare f) v) (blockSector Front v) r (newBlock f t r) (near Front v)
-    front-side =
+    pub side : (w : Side) → OneSide.Side (storeIn groups) (k + 1 + k + 1) (begin k w) k (areaSector w (spare (c w)) v) (blockSector w v) r (newBlock (c w) t r) (near w v)
+    side w =
         record {
-          within = omega arith;
-          area = λ i l. ap (storeOf f b t r) (zero-add i) ∙ front-area i l;
-          block = ap (storeOf f b t r) (zero-add (sectorsOf (length r))) ∙ front-block;
-          own = λ j l w.
-              elim (decLe j (0 + sectorsOf (length r)))
-              [ yes q ↦ (omega arith, q) | no q ↦ absurd (one-side v z (storeOf f b t r j .sector) w (back-near j (omega arith) l)) ];
-          near-area = λ i l. area-near v z Front (spare f) i (omega arith);
-          near-block = block-near v z Front;
-          block-apart = λ i l e. block-apart v z Front (spare f) i (omega arith) e;
-        }
-
-    pub back-side : OneSide.Side (storeOf f b t r) (sectorsOf (length r) + 1 + sectorsOf (length r) + 1) (sectorsOf (length r) + 1) (sectorsOf (length r))
-        (areaSector Back (spare b) v) (blockSector Back v) r (newBlock b t r) (near Back v)
-    back-side =
-        record {
-          within = omega arith;
-          area = back-area;
-          block = back-block;
-          own = λ j l w.
-              elim (decLt (sectorsOf (length r)) j)
-              [ yes q ↦ (omega arith, omega arith) | no q ↦ absurd (one-side v z (storeOf f b t r j .sector) (front-near j (omega arith)) w) ];
-          near-area = λ i l. area-near v z Back (spare b) i (omega arith);
-          near-block = block-near v z Back;
-          block-apart = λ i l e. block-apart v z Back (spare b) i (omega arith) e;
+          within = within k w;
+          area = side-area w;
+          block = side-block w;
+          own = own w;
+          near-area = λ i l. area-near v z w (spare (c w)) i (omega arith);
+          near-block = block-near v z w;
+          block-apart = λ i l e. block-apart v z w (spare (c w)) i (omega arith) e;
         }

@@ -1,5 +1,5 @@
 -- Demand 3: what a cut in an update leaves. `proofs/Demand.antt` proves `Cutting`, `Landing` and `Giving`. Assumes nothing.
-use Prim.Native.Nat.{ℕ, _^_, _≤_, _<_}
+use Prim.Native.Nat.{ℕ, suc, _+_, _*_, _^_, _≤_, _<_}
 use mathlib.Core.Path.{_≡_}
 use mathlib.Core.Bool.{true}
 use mathlib.Core.List.{List}
@@ -18,11 +18,12 @@ use Rattle.discovery.specs.declared.Other.{Other}
 use Rattle.discovery.specs.declared.Answer.the-variants.{Found}
 use Rattle.discovery.specs.Copy.{blockIn, areaBytes, entryIn, newest}
 use Rattle.discovery.specs.Discovery.{discovery, inStep, recordBytes, readAnswer, readBytes}
-use Rattle.device.specs.Device.{Sectors, Sound, landed, Cut, copyFrom}
+use Rattle.device.specs.Device.{Sectors, Sound, Groups, stores, storeIn, groupStart, CutIn, allLanded, copyFrom}
+use Rattle.update.specs.declared.Plan.{Plan}
 use Rattle.update.specs.declared.Planned.the-variants.{Ready}
 use Rattle.update.specs.declared.Given.the-variants.{At}
 use Rattle.update.specs.Plan.{planOf, planned, storesIn, groupOf, storeAnswer, storeBytes}
-use Rattle.update.specs.Update.{deviceIn, updateNumber, newBlock, storeOf, groupStart}
+use Rattle.update.specs.Update.{deviceIn, updateNumber, sectorsOf, newBlock, updateGroups}
 
 -- Discovery gives a record: it answers that length and time, the area it names starts with those bytes, and reading what it
 -- found into a buffer with room copies them to the buffer's start.
@@ -60,12 +61,19 @@ Excused v d e t r =
     × (blockIn (copyFrom s v e) ≡ newBlock (copyFrom s v d) t r → ⊥)
     × (first (readTests (blockIn (copyFrom s v e))) ≡ 0)
 
+-- the groups of the update, and its plan
+abbrev pub groupsOn : Device → Sectors → Time → List ℕ → Groups
+groupsOn v d t r = updateGroups (copyFrom Front v d) (copyFrom Back v d) t r
+
+abbrev pub planOn : Device → Sectors → Time → List ℕ → Plan
+planOn v d t r = planOf (copyFrom Front v d) (copyFrom Back v d) t r
+
 -- Whatever a cut in one of the four groups leaves, discovery gives the new record exactly when the front signature block
 -- stands in its new version, and otherwise the old record.
 abbrev pub Cutting : Type 0
 Cutting =
     (v : Device) (d e : Sectors) (t : Time) (r : List ℕ) (g : ℕ) → Start v d t r → g < 4
-    → Cut (storeOf (copyFrom Front v d) (copyFrom Back v d) t r) (groupStart r g) (groupStart r (Prim.Native.Nat.suc g)) d e
+    → CutIn (groupsOn v d t r) g d e
     → (Excused v d e t r → ⊥)
     → (blockIn (copyFrom Front v e) ≡ newBlock (copyFrom Front v d) t r → Gives (copyFrom Front v e) (copyFrom Back v e) t r)
     × ((blockIn (copyFrom Front v e) ≡ newBlock (copyFrom Front v d) t r → ⊥)
@@ -73,7 +81,7 @@ Cutting =
 
 -- the device after all stores
 abbrev pub after : Device → Sectors → Time → List ℕ → Sectors
-after v d t r = landed (storeOf (copyFrom Front v d) (copyFrom Back v d) t r) (groupStart r 4) d
+after v d t r = allLanded (groupsOn v d t r) d
 
 -- All stores landed: discovery gives the new record with its time, and the two copies are in step on it.
 abbrev pub Landing : Type 0
@@ -84,15 +92,14 @@ Landing =
     × ((s : Side) → (recordIn (copyFrom s v (after v d t r)) ≡ r) × (timeOf (heldIn (copyFrom s v (after v d t r))) ≡ t)))
 
 -- The stores of the plan that `work_out` gives are those that a cut and a landing speak of: the plan is not refused, it has
--- 2k + 2 stores, each is in its group, and each is given with its sector and its 512 bytes.
+-- as many stores, 2k + 2, each is in its group, and each is given with its sector and its 512 bytes.
 abbrev pub Giving : Type 0
 Giving =
     (v : Device) (d : Sectors) (t : Time) (r : List ℕ) → Start v d t r
-    → (planned (copyFrom Front v d) (copyFrom Back v d) t r ≡ Ready (planOf (copyFrom Front v d) (copyFrom Back v d) t r))
-    × ((storesIn (planOf (copyFrom Front v d) (copyFrom Back v d) t r) ≡ groupStart r 4)
-    × (((g i : ℕ) → g < 4 → groupStart r g ≤ i → i < groupStart r (Prim.Native.Nat.suc g) → groupOf (planOf (copyFrom Front v d) (copyFrom Back v d) t r) i ≡ g)
-    × ((i : ℕ) (out : List ℕ) → i < groupStart r 4 → length out ≡ 512
-    → (storeAnswer (planOf (copyFrom Front v d) (copyFrom Back v d) t r) (copyFrom Front v d) (copyFrom Back v d) i out
-    ≡ At (storeOf (copyFrom Front v d) (copyFrom Back v d) t r i .sector))
-    × (storeBytes (planOf (copyFrom Front v d) (copyFrom Back v d) t r) (copyFrom Front v d) (copyFrom Back v d) r i out
-    ≡ storeOf (copyFrom Front v d) (copyFrom Back v d) t r i .content))))
+    → (planned (copyFrom Front v d) (copyFrom Back v d) t r ≡ Ready (planOn v d t r))
+    × ((storesIn (planOn v d t r) ≡ length (stores (groupsOn v d t r)))
+    × ((storesIn (planOn v d t r) ≡ 2 * sectorsOf (length r) + 2)
+    × (((g i : ℕ) → g < 4 → groupStart (groupsOn v d t r) g ≤ i → i < groupStart (groupsOn v d t r) (suc g) → groupOf (planOn v d t r) i ≡ g)
+    × ((i : ℕ) (out : List ℕ) → i < length (stores (groupsOn v d t r)) → length out ≡ 512
+    → (storeAnswer (planOn v d t r) (copyFrom Front v d) (copyFrom Back v d) i out ≡ At (storeIn (groupsOn v d t r) i .sector))
+    × (storeBytes (planOn v d t r) (copyFrom Front v d) (copyFrom Back v d) r i out ≡ storeIn (groupsOn v d t r) i .content)))))

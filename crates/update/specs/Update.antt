@@ -1,8 +1,7 @@
 -- An update: its refusals, its stores and their groups. Document 01, 'Updates, formatting and mending'. Assumes nothing.
-use Prim.Native.Nat.{ℕ, zero, suc, _+_, _-_, _*_, _/_}
-use mathlib.Core.Bool.{Bool, cond}
+use Prim.Native.Nat.{ℕ, _+_, _-_, _*_, _/_}
 use mathlib.Core.List.{List, [], _∷_, _++_}
-use lib.Dec.{leb, ltb}
+use lib.Dec.{leb}
 use lib.ListN.{length}
 use Rattle.endian.specs.Bytes.{window, zeros}
 use Rattle.checksum.specs.Crc as Crc
@@ -28,7 +27,7 @@ use Rattle.discovery.specs.declared.Answer.the-variants as Answer
 use Rattle.discovery.specs.Copy.{blockIn, otherArea, newest}
 use Rattle.discovery.specs.Discovery.{discovery, inStep}
 use Rattle.discovery.specs.Newest.{timeAt}
-use Rattle.device.specs.Device.{Store, storesFrom}
+use Rattle.device.specs.Device.{Store, Groups, storesFrom}
 
 -- the device that the copies are of
 abbrev pub deviceIn : List ℕ → Device
@@ -56,14 +55,6 @@ sectorsOf n = (n + 511) / 512
 unfoldable pub sectorOf : List ℕ → ℕ → List ℕ
 sectorOf r j = window r (512 * j) 512 ++ zeros (512 - length (window r (512 * j) 512))
 
--- a record's stores, from sector a on
-abbrev pub recordStores : ℕ → List ℕ → List Store
-recordStores a r = storesFrom a (sectorOf r) (sectorsOf (length r))
-
--- the one store of a side's signature block
-abbrev pub blockStore : Side → Device → List ℕ → List Store
-blockStore w v b = record { sector = blockSector w v; content = b } ∷ []
-
 -- what the new entry says
 abbrev pub holdingFor : Time → List ℕ → Holding
 holdingFor t r = record { seconds = t .seconds; nanoseconds = t .nanoseconds; bytes = length r; checksum = Crc.checksum r }
@@ -81,20 +72,18 @@ spare c = otherArea (newest (fieldsOf (blockIn c)))
 unfoldable pub newBlock : List ℕ → Time → List ℕ → List ℕ
 newBlock c t r = blockOf (poolOf (blockIn c)) (uuidOf (blockIn c)) (withEntry (fieldsOf (blockIn c)) (spare c) (Used (holdingFor t r)))
 
--- the store with number i: front area, front signature block, back area, back signature block
-unfoldable pub storeOf : List ℕ → List ℕ → Time → List ℕ → ℕ → Store
-storeOf f b t r i =
-    cond (ltb i (sectorsOf (length r))) (record { sector = areaSector Front (spare f) (deviceIn f) + i; content = sectorOf r i })
-    (cond (ltb i (sectorsOf (length r) + 1)) (record { sector = blockSector Front (deviceIn f); content = newBlock f t r })
-    (cond (ltb i (sectorsOf (length r) + 1 + sectorsOf (length r)))
-    (record
-    { sector = areaSector Back (spare b) (deviceIn f) + (i - (sectorsOf (length r) + 1)); content = sectorOf r (i - (sectorsOf (length r) + 1)) })
-    (record { sector = blockSector Back (deviceIn f); content = newBlock b t r })))
+-- the stores of a record from sector a on
+unfoldable pub recordStores : ℕ → List ℕ → List Store
+recordStores a r = storesFrom a (sectorOf r) (sectorsOf (length r))
 
--- the four groups, by the number of their first store; the last number ends the last group
-abbrev pub groupStart : List ℕ → ℕ → ℕ
-groupStart r zero = 0
-groupStart r (suc zero) = sectorsOf (length r)
-groupStart r (suc (suc zero)) = sectorsOf (length r) + 1
-groupStart r (suc (suc (suc zero))) = sectorsOf (length r) + 1 + sectorsOf (length r)
-groupStart r (suc (suc (suc (suc g)))) = sectorsOf (length r) + 1 + sectorsOf (length r) + 1
+-- the one store of a side's signature block
+abbrev pub blockStore : Side → Device → List ℕ → List Store
+blockStore w v b = record { sector = blockSector w v; content = b } ∷ []
+
+-- one side of an update of its copy: the record to the area that is not present, then the block
+abbrev pub sideGroups : Side → Device → List ℕ → Time → List ℕ → Groups
+sideGroups w v c t r = recordStores (areaSector w (spare c) v) r ∷ blockStore w v (newBlock c t r) ∷ []
+
+-- the four groups of an update: front area, front signature block, back area, back signature block
+unfoldable pub updateGroups : List ℕ → List ℕ → Time → List ℕ → Groups
+updateGroups f b t r = sideGroups Front (deviceIn f) f t r ++ sideGroups Back (deviceIn f) b t r
