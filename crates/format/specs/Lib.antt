@@ -1,0 +1,4 @@
+-- What the contracts of `format` cite, and what holds of formatted copies.
+pub mod Format
+pub mod Filling
+pub mod Demand
