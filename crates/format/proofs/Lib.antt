@@ -1,3 +1,4 @@
 -- The laws that callers cite.
 pub mod Checking
 pub mod Filling
+pub mod Demand

@@ -1,9 +1,10 @@
--- What holds of formatted copies. `proofs/Demand.antt` proves `Formatting` and `Zero`. Assumes nothing.
+-- What holds of formatted copies. `proofs/Demand.antt` proves `Lowest`, `Formatting` and `Zero`. Assumes nothing.
 use Prim.Native.Nat.{ℕ, _+_, _^_, _≤_, _<_}
 use mathlib.Core.Path.{_≡_}
 use mathlib.Core.Bool.{true}
 use mathlib.Core.List.{List}
 use lib.ListN.{length, getD}
+use Rattle.refusal.specs.Tests.{Fails}
 use Rattle.layout.specs.declared.Device.{Device}
 use Rattle.layout.specs.declared.Area.the-variants.{A}
 use Rattle.layout.specs.Places.{areaOffset}
@@ -12,7 +13,14 @@ use Rattle.block.specs.Entry.{timeOf}
 use Rattle.discovery.specs.Discovery.{inStep}
 use Rattle.update.specs.Update.{deviceIn}
 use Rattle.update.specs.Demand.{Gives, heldIn, recordIn}
-use Rattle.format.specs.Format.{formatNumber, formattedCopy}
+use Rattle.format.specs.Format.{formatTests, formatNumber, formattedCopy}
+
+-- A refusal is the lowest number that applies.
+abbrev pub Lowest : Type 0
+Lowest =
+    (f b : List ℕ) (v : Device) (p u : List ℕ) (t : Time) (r : List ℕ) → 0 < formatNumber f b v p u t r
+    → Fails (formatTests f b v p u t r) (formatNumber f b v p u t r)
+    × ((k : ℕ) → Fails (formatTests f b v p u t r) k → formatNumber f b v p u t r ≤ k)
 
 -- Area a holds a first record: discovery of the two copies gives it with its time, they are in step on it, and both say the
 -- device's numbers.

@@ -119,7 +119,7 @@ pick-size false false true x y z w p q m n = m
 pick-size false false false x y z w p q m n = n
 
 -- what a copy that holds a record has in its newest area
-its-record : {c : List ℕ} {f : BlockFields} {p u : List ℕ} {x : Area} {h : Holding} {r : List ℕ} → Holds c f p u x h r → (recordIn c ≡ r) × (heldIn c ≡ h)
+pub its-record : {c : List ℕ} {f : BlockFields} {p u : List ℕ} {x : Area} {h : Holding} {r : List ℕ} → Holds c f p u x h r → (recordIn c ≡ r) × (heldIn c ≡ h)
 its-record {c} {f} {p} {u} {x} {h} {r} k =
     let e : f ≡ fieldsOf (blockIn c) = verdict-facts (blockIn c) f (ap (λ (q : Reading). q .verdict) (k .reads)) .1 in
     let w : heldIn c ≡ h =
