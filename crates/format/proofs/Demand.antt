@@ -32,11 +32,12 @@ use Rattle.block.proofs.Written.{length-blockOf}
 use Rattle.block.proofs.RoundTrip.{read-back}
 use Rattle.block.proofs.Times.{same-test}
 use Rattle.discovery.specs.declared.Other.the-variants.{Both}
+use Rattle.discovery.specs.declared.Answer.the-variants.{Found}
 use Rattle.discovery.specs.Copy.{blockIn, newer, newest}
-use Rattle.discovery.specs.Discovery.{sized, sameDevice}
+use Rattle.discovery.specs.Discovery.{recordAt, sized, sameDevice, discovery, inStep}
 use Rattle.device.specs.Device.{areaSectors}
 use Rattle.device.proofs.Copies.{limit-sectors}
-use Rattle.update.specs.Update.{sectorsOf, holdingFor}
+use Rattle.update.specs.Update.{deviceIn, sectorsOf, holdingFor}
 use Rattle.update.specs.Plan.{layTests, laid}
 use Rattle.update.proofs.Holding.{Holds}
 use Rattle.update.proofs.Discovering.{gives, both-found}
@@ -140,27 +141,38 @@ module _ {f b : List ℕ} {v : Device} {p u : List ℕ} {t : Time} {r : List ℕ
           long = refl;
         }
 
--- one time and one device, twice
+-- a time is the same as itself
 same-time-refl : (t : Time) → sameTime t t ≡ true
 same-time-refl t = same-test t t refl refl
+
+module _ {f b : List ℕ} {v : Device} {p u : List ℕ} {t : Time} {r : List ℕ} (k : Taken f b v p u t r) (ts : t .seconds < 2 ^ 64) (vs : v .sectors < 2 ^ 64) where
+  both-sized : sized (formattedCopy v p u t r) (formattedCopy v p u t r) ≡ true
+  both-sized =
+      and-both (eqb (length (formattedCopy v p u t r)) copyBytes) (eqb (length (formattedCopy v p u t r)) copyBytes)
+      (eq-eqb (length (formattedCopy v p u t r)) copyBytes (length-formatted k)) (eq-eqb (length (formattedCopy v p u t r)) copyBytes (length-formatted k))
+
+  one-device : sameDevice (firstFields v t r) (firstFields v t r) ≡ true
+  one-device = same-device-test (firstFields v t r) (firstFields v t r) refl
+
+  pub format-found : discovery (formattedCopy v p u t r) (formattedCopy v p u t r) ≡ Found (recordAt Front A (holdingFor t r)) Both
+  format-found =
+      both-found (formattedCopy v p u t r) (formattedCopy v p u t r) both-sized (holds k ts vs) (holds k ts vs) one-device (same-time-refl t) refl
+
+  pub format-in-step : inStep (formattedCopy v p u t r) (formattedCopy v p u t r) ≡ true
+  format-in-step = held-in-step (holds k ts vs) (holds k ts vs) both-sized one-device (same-time-refl t)
+
+  pub format-device : deviceIn (formattedCopy v p u t r) ≡ v
+  format-device =
+      sym
+      (ap (λ (q : BlockFields). q .device)
+      (verdict-facts (blockIn (formattedCopy v p u t r)) (firstFields v t r) (ap (λ (q : Reading). q .verdict) (holds k ts vs .reads)) .1))
 
 pub formatting : Formatting
 formatting f b v p u t r ts vs e =
     let k : Taken f b v p u t r = taken f b v p u t r e in
-    let c : List ℕ = formattedCopy v p u t r in
-    let h : Holds (formattedCopy v p u t r) (firstFields v t r) p u A (holdingFor t r) r = holds k ts vs in
-    let z : sized (formattedCopy v p u t r) (formattedCopy v p u t r) ≡ true =
-    and-both (eqb (length (formattedCopy v p u t r)) copyBytes) (eqb (length (formattedCopy v p u t r)) copyBytes)
-    (eq-eqb (length (formattedCopy v p u t r)) copyBytes (length-formatted k)) (eq-eqb (length (formattedCopy v p u t r)) copyBytes (length-formatted k)) in
-    let d : sameDevice (firstFields v t r) (firstFields v t r) ≡ true = same-device-test (firstFields v t r) (firstFields v t r) refl in
-    let n : firstFields v t r ≡ fieldsOf (blockIn (formattedCopy v p u t r)) =
-    verdict-facts (blockIn (formattedCopy v p u t r)) (firstFields v t r) (ap (λ (q : Reading). q .verdict) (h .reads)) .1 in (
-      gives (formattedCopy v p u t r) (formattedCopy v p u t r) Front A (holdingFor t r) Both t r
-          (both-found (formattedCopy v p u t r) (formattedCopy v p u t r) z h h d (same-time-refl t) refl) (h .bytes) refl refl,
-      (
-        held-in-step h h z d (same-time-refl t),
-        (its-record h .0, (ap timeOf (its-record h .1), sym (ap (λ (q : BlockFields). q .device) n))),
-      ),
+    let h : Holds (formattedCopy v p u t r) (firstFields v t r) p u A (holdingFor t r) r = holds k ts vs in (
+      gives (formattedCopy v p u t r) (formattedCopy v p u t r) Front A (holdingFor t r) Both t r (format-found k ts vs) (h .bytes) refl refl,
+      (format-in-step k ts vs, (its-record h .0, (ap timeOf (its-record h .1), format-device k ts vs))),
     )
 
 -- zeros are zero, and so is what lies past them
