@@ -128,7 +128,7 @@ fn is_hex(x: u8) -> bool
 }
 
 // Whether all bytes of s are such digits.
-fn all_hex(s: &[u8]) -> bool
+pub fn all_hex(s: &[u8]) -> bool
     ensures { λ r. ⌜ r ≡ all isHex (now (s .entry)) ⌝ }
 {
     let mut i = 0;

@@ -55,7 +55,7 @@ use Rattle.update.proofs.Choosing.{block-given, area-given, part-given,
 use Rattle.update.proofs.InStep.{Stepped, verdict-facts, in-step-facts, same-device-test, held-in-step}
 use Rattle.update.proofs.OneCopy.{used, old-held, new-held, block-of}
 use Rattle.update.proofs.Facts.{other-differs, renamed, same-time-is, same-time-refl, sized-copies, refused-differs, stands-as, its-record}
-use Rattle.update.proofs.Places.{Sizes, near, area-near, area-below, block-apart, areas-apart}
+use Rattle.update.proofs.Places.{Sizes, sizes-accepted, near, area-near, area-below, block-apart, areas-apart}
 use Rattle.update.proofs.Stores.{starting, begin, count, which, stored-size, side, group-starts, grouped}
 
 module _ (v : Device) (d : Sectors) (t : Time) (r : List ℕ) (s : Start v d t r) where
@@ -114,16 +114,7 @@ module _ (v : Device) (d : Sectors) (t : Time) (r : List ℕ) (s : Start v d t r
   stepped = in-step-facts (copy Front) (copy Back) (s .in-step)
 
   its-sizes : Sizes v
-  its-sizes =
-      let a : Accepted (blockIn (copy Front)) = obeys (blockIn (copy Front)) (stepped .front) in
-      let es : deviceIn (copy Front) .sectors ≡ v .sectors = ap (λ (w : Device). w .sectors) (s .placed) in
-      let em : deviceIn (copy Front) .metadata ≡ v .metadata = ap (λ (w : Device). w .metadata) (s .placed) in
-      record {
-        sectors = subst (λ (n : ℕ). 2097152 ≤ n) es (a .sectors);
-        even = subst (λ (n : ℕ). n % 2 ≡ 0) em (a .metadata-even);
-        least = subst (λ (n : ℕ). 2040 ≤ n) em (a .metadata-least);
-        most = subst (λ (n : ℕ). n ≤ 16384) em (a .metadata-most);
-      }
+  its-sizes = subst Sizes (s .placed) (sizes-accepted (blockIn (copy Front)) (stepped .front))
 
   big : 8 ≤ v .sectors
   big = let c : 2097152 ≤ v .sectors = its-sizes .sectors in omega arith

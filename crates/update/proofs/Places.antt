@@ -2,14 +2,23 @@
 -- nothing.
 use Prim.Native.Nat.{ℕ, _+_, _%_, _≤_, _<_}
 use mathlib.Core.Path.{_≡_, refl}
+use mathlib.Core.Bool.{true}
+use mathlib.Core.List.{List}
 use native.Mathlib.Omega.{arith}
+use borrow.Author.Tests.{leb-true}
+use Rattle.refusal.specs.Tests.{first, AllHold}
+use Rattle.refusal.proofs.Order.{first-zero}
 use Rattle.layout.specs.declared.Device.{Device}
 use Rattle.layout.specs.declared.Side.{Side}
 use Rattle.layout.specs.declared.Side.the-variants.{Front, Back}
 use Rattle.layout.specs.declared.Area.{Area}
 use Rattle.layout.specs.declared.Area.the-variants.{A, B}
 use Rattle.layout.specs.Places.{blockSector, areaSector}
-use Rattle.discovery.specs.Copy.{otherArea}
+use Rattle.layout.specs.Limits.{sizeAllowed, metadataAllowed}
+use Rattle.layout.proofs.Laws.{metadata-facts}
+use Rattle.block.specs.Block.{deviceOf, readTests}
+use Rattle.block.proofs.Readings.{ascending}
+use Rattle.discovery.specs.Copy.{otherArea, otherSide}
 
 -- allowed device numbers
 pub record Sizes (v : Device) : Type 0 where
@@ -17,6 +26,21 @@ pub record Sizes (v : Device) : Type 0 where
   pub even : v .metadata % 2 ≡ 0
   pub least : 2040 ≤ v .metadata
   pub most : v .metadata ≤ 16384
+
+pub sizes-allowed : (v : Device) → sizeAllowed (v .sectors) ≡ true → metadataAllowed (v .metadata) ≡ true → Sizes v
+sizes-allowed v s m =
+    record {
+      sectors = leb-true 2097152 (v .sectors) s;
+      even = metadata-facts (v .metadata) m .0;
+      least = metadata-facts (v .metadata) m .1;
+      most = metadata-facts (v .metadata) m .2;
+    }
+
+-- those of an accepted block
+pub sizes-accepted : (b : List ℕ) → first (readTests b) ≡ 0 → Sizes (deviceOf b)
+sizes-accepted b ok =
+    let a : AllHold (readTests b) = first-zero 0 (readTests b) (ascending b) ok in
+    sizes-allowed (deviceOf b) (a .1 .1 .1 .0) (a .1 .1 .1 .1 .1 .1 .0)
 
 -- the sectors of a side
 abbrev pub near : Side → Device → ℕ → Type 0
@@ -99,3 +123,7 @@ module _ (v : Device) (z : Sizes v) where
   same-side Front Back n p q = absurd (one-side n p q)
   same-side Back Front n p q = absurd (one-side n q p)
   same-side Back Back n p q = refl
+
+  pub other-side : (s : Side) (n : ℕ) → near s v n → near (otherSide s) v n → ⊥
+  other-side Front n p q = one-side n p q
+  other-side Back n p q = one-side n q p

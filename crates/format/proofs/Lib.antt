@@ -1,0 +1,6 @@
+-- The laws that callers cite.
+pub mod Checking
+pub mod Filling
+pub mod Demand
+pub mod Placed
+pub mod Starting

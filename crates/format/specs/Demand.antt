@@ -1,0 +1,64 @@
+-- What holds of formatted copies. `proofs/Demand.antt` proves `Lowest`, `Formatting` and `Zero`,
+-- `proofs/Starting.antt` the rest. Assumes nothing.
+use Prim.Native.Nat.{ℕ, _+_, _^_, _≤_, _<_}
+use mathlib.Core.Path.{_≡_}
+use mathlib.Core.Bool.{true}
+use mathlib.Core.List.{List}
+use lib.Dec.{leb}
+use lib.ListN.{length, getD}
+use Rattle.refusal.specs.Tests.{first, AllHold, Fails}
+use Rattle.layout.specs.declared.Device.{Device}
+use Rattle.layout.specs.declared.Side.{Side}
+use Rattle.layout.specs.declared.Area.the-variants.{A}
+use Rattle.layout.specs.Limits.{deviceTests}
+use Rattle.layout.specs.Places.{areaOffset, copyBytes}
+use Rattle.block.specs.declared.Time.{Time}
+use Rattle.block.specs.Entry.{laterThan, timeOf}
+use Rattle.record.specs.Accept.{contentTests}
+use Rattle.discovery.specs.Discovery.{inStep, copyOn}
+use Rattle.device.specs.Device.{Sound, copyFrom}
+use Rattle.update.specs.Update.{deviceIn}
+use Rattle.update.specs.Demand.{Gives, heldIn, recordIn, Start}
+use Rattle.format.specs.Format.{formatTests, formatNumber, formattedCopy}
+use Rattle.format.specs.Placed.{onDevice}
+
+-- A refusal is the lowest number that applies.
+abbrev pub Lowest : Type 0
+Lowest =
+    (f b : List ℕ) (v : Device) (p u : List ℕ) (t : Time) (r : List ℕ) → 0 < formatNumber f b v p u t r
+    → Fails (formatTests f b v p u t r) (formatNumber f b v p u t r)
+    × ((k : ℕ) → Fails (formatTests f b v p u t r) k → formatNumber f b v p u t r ≤ k)
+
+-- Area a holds a first record: discovery of the two copies gives it with its time, they are in step on it, and both say the
+-- device's numbers.
+abbrev pub Formatting : Type 0
+Formatting =
+    (f b : List ℕ) (v : Device) (p u : List ℕ) (t : Time) (r : List ℕ) → t .seconds < 2 ^ 64 → v .sectors < 2 ^ 64
+    → formatNumber f b v p u t r ≡ 0
+    → Gives (formattedCopy v p u t r) (formattedCopy v p u t r) t r
+    × ((inStep (formattedCopy v p u t r) (formattedCopy v p u t r) ≡ true)
+    × ((recordIn (formattedCopy v p u t r) ≡ r)
+    × ((timeOf (heldIn (formattedCopy v p u t r)) ≡ t) × (deviceIn (formattedCopy v p u t r) ≡ v))))
+
+-- Everything not named is zero: each byte outside the signature block and outside the record.
+abbrev pub Zero : Type 0
+Zero =
+    (f b : List ℕ) (v : Device) (p u : List ℕ) (t : Time) (r : List ℕ) (i : ℕ) → formatNumber f b v p u t r ≡ 0
+    → (512 ≤ i → i < 1024 → ⊥) → (areaOffset A ≤ i → i < areaOffset A + length r → ⊥)
+    → getD (formattedCopy v p u t r) i 0 ≡ 0
+
+-- On any allowed device numbers a device has any two copies: each is read from it where S and L place it.
+abbrev pub Placing : Type 0
+Placing =
+    (v : Device) (f b : List ℕ) → first (deviceTests v) ≡ 0 → length f ≡ copyBytes → length b ≡ copyBytes
+    → Sound (onDevice v f b) × ((s : Side) → copyFrom s v (onDevice v f b) ≡ copyOn s f b)
+
+-- Demand 3 speaks of something: on a device with formatted copies every update that the paper does not refuse, by its time
+-- and its record, has a start.
+abbrev pub Starting : Type 0
+Starting =
+    (f b : List ℕ) (v : Device) (p u : List ℕ) (t : Time) (r : List ℕ) → t .seconds < 2 ^ 64 → v .sectors < 2 ^ 64
+    → formatNumber f b v p u t r ≡ 0
+    → (t' : Time) (r' : List ℕ) → t' .seconds < 2 ^ 64 → leb (t' .nanoseconds) 999999999 ≡ true → laterThan t' t ≡ true
+    → AllHold (contentTests v r')
+    → Start v (onDevice v (formattedCopy v p u t r) (formattedCopy v p u t r)) t' r'
