@@ -7,8 +7,9 @@ use native.Mathlib.Decide.{ℕ-discrete}
 use native.Mathlib.Nat.{not-suc-le-zero}
 use native.Mathlib.Omega.{arith}
 use borrow.Author.Tests.{eq-eqb, ne-eqb}
+use lib.Dec.{eqb}
 use lib.ListN.{length}
-use Rattle.device.specs.Device.{Sectors, Store, landed}
+use Rattle.device.specs.Device.{Sectors, Store, put, landed}
 
 module _ (st : ℕ → Store) (d : Sectors) where
   step-hit : (i n : ℕ) → n ≡ st i .sector → landed st (suc i) d n ≡ st i .content
@@ -49,3 +50,9 @@ module _ (st : ℕ → Store) (d : Sectors) where
         | yes e ↦ ap length (step-hit j n e) ∙ c j (omega arith)
         | no e ↦ ap length (step-miss j n e) ∙ landed-size h j (λ i l. c i (omega arith)) n
       ]
+
+-- the first store, then the others
+pub landed-first : (st : ℕ → Store) (d : Sectors) (j n : ℕ) → landed st (suc j) d n ≡ landed (λ i. st (suc i)) j (put d (st 0)) n
+unfolding landed
+landed-first st d zero n = refl
+landed-first st d (suc j) n = ap (λ (v : List ℕ). cond (eqb n (st (suc j) .sector)) (st (suc j) .content) v) (landed-first st d j n)

@@ -1,3 +1,6 @@
 -- The laws of `mend`.
 pub mod Choosing
 pub mod Planning
+pub mod Kept
+pub mod Stores
+pub mod Blocks

@@ -1,0 +1,143 @@
+-- The stores of a mend: which number goes to which sector. Assumes nothing.
+use Prim.Native.Nat.{ℕ, zero, suc, _+_, _-_, _≤_, _<_}
+use mathlib.Core.Path.{_≡_, refl, sym, ap, ap₂, subst, _∙_}
+use mathlib.Core.Bool.{Bool, true, false, cond}
+use mathlib.Core.Logic.{_⊎_, inl, inr}
+use mathlib.Core.List.{List, [], _∷_, _++_, map}
+use native.Mathlib.Decide.{decLe, ℕ-discrete}
+use native.Mathlib.Nat.{add-zero}
+use native.Mathlib.Omega.{arith}
+use lib.ListN.{length, take, getD, length-append}
+use Rattle.layout.specs.declared.Device.{Device}
+use Rattle.layout.specs.declared.Side.{Side}
+use Rattle.layout.specs.declared.Area.{Area}
+use Rattle.layout.specs.declared.Area.the-variants.{A}
+use Rattle.layout.specs.Places.{blockSector, areaSector}
+use Rattle.block.specs.Block.{fieldsOf}
+use Rattle.discovery.specs.Copy.{blockIn, entryIn, otherSide}
+use Rattle.device.specs.Device.{Store, Groups, stores, storeIn, groupStart}
+use Rattle.device.proofs.Groups.{at-left, at-right, total, starts}
+use Rattle.update.specs.Update.{deviceIn, sectorsOf, sectorOf, recordStores, blockStore}
+use Rattle.update.proofs.Stores.{length-record, at-record}
+use Rattle.mend.specs.Mend.{blockLike, emptied, refilled, blanked, laterWhole, lastGroup, rewriting}
+
+abbrev none : Store
+none = record { sector = 0; content = [] }
+
+module _ (w : Side) (c : List ℕ) (x : Area) (r : List ℕ) where
+  abbrev k : ℕ
+  k = sectorsOf (length r)
+
+  abbrev groups : Groups
+  groups = rewriting w c x r
+
+  abbrev blockPlace : Side → List ℕ → Store
+  blockPlace s b = record { sector = blockSector s (deviceIn c); content = b }
+
+  abbrev theRecord : List Store
+  theRecord = recordStores (areaSector (otherSide w) A (deviceIn c)) r
+
+  -- the three blocks that are stored
+  abbrev pub emptyBlock : List ℕ
+  emptyBlock = blockLike c (emptied (deviceIn c))
+
+  abbrev pub filledBlock : List ℕ
+  filledBlock = blockLike c (refilled (deviceIn c) (entryIn (fieldsOf (blockIn c)) x))
+
+  abbrev pub blankBlock : List ℕ
+  blankBlock = blockLike c (blanked (fieldsOf (blockIn c)))
+
+  listed : stores groups ≡ blockPlace (otherSide w) emptyBlock ∷ (theRecord ++ (blockPlace (otherSide w) filledBlock ∷ stores (lastGroup w c)))
+  unfolding stores rewriting
+  listed = refl
+
+  long : length theRecord ≡ k
+  long = length-record (areaSector (otherSide w) A (deviceIn c)) r
+
+  pub at-first : storeIn groups 0 ≡ blockPlace (otherSide w) emptyBlock
+  unfolding storeIn
+  at-first = ap (λ (s : List Store). getD s 0 none) listed
+
+  pub at-sector : (i : ℕ) → i < k → storeIn groups (suc i) ≡ record { sector = areaSector (otherSide w) A (deviceIn c) + i; content = sectorOf r i }
+  unfolding storeIn
+  at-sector i l =
+      let m : length theRecord ≡ k = long in
+      ap (λ (s : List Store). getD s (suc i) none) listed
+      ∙ (at-left none theRecord (blockPlace (otherSide w) filledBlock ∷ stores (lastGroup w c)) i (omega arith)
+      ∙ at-record none (areaSector (otherSide w) A (deviceIn c)) r i l)
+
+  -- what stands after the record
+  after-record : (i : ℕ) → storeIn groups (suc (k + i)) ≡ getD (blockPlace (otherSide w) filledBlock ∷ stores (lastGroup w c)) i none
+  unfolding storeIn
+  after-record i =
+      ap (λ (s : List Store). getD s (suc (k + i)) none) listed
+      ∙ (ap (λ (n : ℕ). getD (theRecord ++ (blockPlace (otherSide w) filledBlock ∷ stores (lastGroup w c))) (n + i) none) (sym long)
+      ∙ at-right none theRecord (blockPlace (otherSide w) filledBlock ∷ stores (lastGroup w c)) i)
+
+  pub at-second : storeIn groups (suc k) ≡ blockPlace (otherSide w) filledBlock
+  at-second = ap (λ (n : ℕ). storeIn groups (suc n)) (sym (add-zero k)) ∙ after-record 0
+
+  count : length (stores groups) ≡ k + 2 + length (stores (lastGroup w c))
+  count =
+      ap length listed
+      ∙ (ap suc (length-append theRecord (blockPlace (otherSide w) filledBlock ∷ stores (lastGroup w c)) ∙ ap (λ (n : ℕ). n + suc (length (stores (lastGroup w c)))) long)
+      ∙ (let n : ℕ = length (stores (lastGroup w c)) in let e : suc (k + suc n) ≡ k + 2 + n = omega arith in e))
+
+  group-lengths : map length groups ≡ 1 ∷ k ∷ 1 ∷ map length (lastGroup w c)
+  unfolding rewriting
+  group-lengths = ap (λ (n : ℕ). 1 ∷ n ∷ 1 ∷ map length (lastGroup w c)) long
+
+  pub group-starts : (g : ℕ) → groupStart groups g ≡ total (take g (1 ∷ k ∷ 1 ∷ map length (lastGroup w c)))
+  group-starts g = starts groups g ∙ ap (λ (ns : List ℕ). total (take g ns)) group-lengths
+
+  -- no last store
+  module _ (h : laterWhole c ≡ true) where
+    pub last-none : lastGroup w c ≡ []
+    unfolding lastGroup
+    last-none = ap (λ (b : Bool). cond b [] (blockStore w (deviceIn c) blankBlock ∷ [])) h
+
+    pub count-whole : length (stores groups) ≡ k + 2
+    unfolding stores
+    count-whole = count ∙ (ap (λ (g : Groups). k + 2 + length (stores g)) last-none ∙ add-zero (k + 2))
+
+  -- one last store
+  module _ (h : laterWhole c ≡ false) where
+    pub last-one : lastGroup w c ≡ blockStore w (deviceIn c) blankBlock ∷ []
+    unfolding lastGroup
+    last-one = ap (λ (b : Bool). cond b [] (blockStore w (deviceIn c) blankBlock ∷ [])) h
+
+    pub count-blank : length (stores groups) ≡ k + 3
+    unfolding stores
+    count-blank =
+        count ∙ (ap (λ (g : Groups). k + 2 + length (stores g)) last-one ∙ (let e : k + 2 + 1 ≡ k + 3 = omega arith in e))
+
+    pub at-last : storeIn groups (suc (suc k)) ≡ blockPlace w blankBlock
+    unfolding stores
+    at-last =
+        ap (λ (n : ℕ). storeIn groups (suc n)) (let e : suc k ≡ k + 1 = omega arith in e)
+        ∙ (after-record 1 ∙ ap (λ (g : Groups). getD (blockPlace (otherSide w) filledBlock ∷ stores g) 1 none) last-one)
+
+  -- every store is one of these
+  pub which : (j : ℕ) → j < length (stores groups)
+      → (j ≡ 0) ⊎ (((i : ℕ) × (i < k) × (j ≡ suc i)) ⊎ ((j ≡ suc k) ⊎ ((j ≡ suc (suc k)) × (laterWhole c ≡ false))))
+  which j l = go (laterWhole c) refl
+    where
+      low : j < k + 2 → (j ≡ 0) ⊎ (((i : ℕ) × (i < k) × (j ≡ suc i)) ⊎ ((j ≡ suc k) ⊎ ((j ≡ suc (suc k)) × (laterWhole c ≡ false))))
+      low m =
+          elim (ℕ-discrete j 0) [
+            | yes e ↦ inl e
+            | no e ↦
+                elim (decLe j k) [
+                  | yes a ↦ inr (inl (j - 1, omega arith, omega arith))
+                  | no a ↦ inr (inr (inl (omega arith)))
+                ]
+          ]
+
+      go : (t : Bool) → laterWhole c ≡ t → (j ≡ 0) ⊎ (((i : ℕ) × (i < k) × (j ≡ suc i)) ⊎ ((j ≡ suc k) ⊎ ((j ≡ suc (suc k)) × (laterWhole c ≡ false))))
+      go true h = low (let m : length (stores groups) ≡ k + 2 = count-whole h in omega arith)
+      go false h =
+          let m : length (stores groups) ≡ k + 3 = count-blank h in
+          elim (decLe j (k + 1)) [
+            | yes a ↦ low (omega arith)
+            | no a ↦ inr (inr (inr (omega arith, h)))
+          ]
