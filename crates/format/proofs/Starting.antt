@@ -1,31 +1,36 @@
--- A device with formatted copies, where every update that is not refused has a start. Assumes nothing.
+-- A device with formatted copies, where every update that is not refused has a start, and that there is one. Assumes nothing.
 use Prim.Native.Nat.{ℕ, _^_, _%_, _≤_, _<_}
 use mathlib.Core.Path.{_≡_, refl, sym, ap, ap₂, subst, _∙_}
-use mathlib.Core.Bool.{Bool, true}
-use mathlib.Core.List.{List}
-use borrow.Author.Tests.{leb-true}
-use lib.Dec.{leb, lit<}
-use lib.ListN.{length}
+use mathlib.Core.Bool.{Bool, true, _&&_}
+use mathlib.Core.List.{List, [], _∷_}
+use borrow.Author.Tests.{leb-true, eq-eqb}
+use lib.Dec.{leb, eqb, lit<, lit≤}
+use lib.ListN.{length, replicate}
+use Rattle.endian.specs.Bytes.{le, window, all, zeros}
+use Rattle.endian.proofs.Tests.{and-both, length-zeros}
 use Rattle.refusal.specs.Tests.{first, AllHold}
 use Rattle.refusal.proofs.Order.{first-zero, first-all}
 use Rattle.layout.specs.declared.Device.{Device}
 use Rattle.layout.specs.declared.Side.{Side}
 use Rattle.layout.specs.declared.Side.the-variants.{Front, Back}
-use Rattle.layout.specs.Limits.{sizeAllowed, metadataAllowed, deviceTests}
+use Rattle.layout.specs.Limits.{sizeAllowed, metadataAllowed, deviceTests, recordLimit, lengthAllowed}
 use Rattle.layout.specs.Places.{copyBytes}
-use Rattle.layout.proofs.Laws.{metadata-facts}
+use Rattle.layout.proofs.Laws.{metadata-facts, length-test}
 use Rattle.block.specs.declared.Time.{Time}
 use Rattle.block.specs.Entry.{laterThan}
-use Rattle.record.specs.Accept.{contentTests}
+use Rattle.block.specs.Block.{isHex}
+use Rattle.record.specs.Search.{every, least}
+use Rattle.record.specs.Items.{itemOf, headBytes, blockSize, headRight, count}
+use Rattle.record.specs.Accept.{wellFormed, allInRange, earlierOf, apart, contentTests}
 use Rattle.discovery.specs.declared.Answer.{Answer}
-use Rattle.discovery.specs.Discovery.{inStep, copyOn}
+use Rattle.discovery.specs.Discovery.{sized, inStep, copyOn}
 use Rattle.device.specs.Device.{copyFrom}
 use Rattle.update.specs.Update.{deviceIn, updateTests, numberAfter, updateNumber}
 use Rattle.update.specs.Demand.{Start}
 use Rattle.update.proofs.Stores.{Sizes}
-use Rattle.format.specs.Format.{formattedCopy}
+use Rattle.format.specs.Format.{formatTests, formatNumber, formattedCopy}
 use Rattle.format.specs.Placed.{onDevice}
-use Rattle.format.specs.Demand.{Placing, Starting}
+use Rattle.format.specs.Demand.{Placing, Starting, Possible}
 use Rattle.format.proofs.Checking.{Taken, taken}
 use Rattle.format.proofs.Placed.{sound-device, its-copy}
 use Rattle.format.proofs.Demand.{length-formatted, format-found, format-in-step, format-device}
@@ -68,3 +73,61 @@ starting f b v p u t r ts vs e t' r' fits ns later content =
       fits = fits;
       not-refused = ap₂ (λ (x y : List ℕ). updateNumber x y t' r') (on Front) (on Back) ∙ not-refused k ts vs t' r' ns later content;
     }
+
+-- a record with no segments, of data blocks of 128 sectors, is accepted on any device
+abbrev bare : List ℕ
+bare = 8 ∷ 0 ∷ 16 ∷ 0 ∷ 128 ∷ 0 ∷ 0 ∷ 0 ∷ []
+
+bare-long : lengthAllowed (length bare) ≡ true
+unfolding recordLimit
+bare-long = length-test (length bare) (lit≤ tt) (lit≤ tt)
+
+bare-formed : wellFormed bare ≡ true
+unfolding wellFormed headBytes headRight blockSize itemOf count every le window
+bare-formed = refl
+
+bare-in-range : (v : Device) → allInRange v bare ≡ true
+unfolding allInRange every count headBytes
+bare-in-range v = refl
+
+bare-apart : apart bare ≡ true
+unfolding apart earlierOf least count headBytes
+bare-apart = refl
+
+bare-accepted : (v : Device) → AllHold (contentTests v bare)
+bare-accepted v = (bare-long, (bare-formed, (bare-in-range v, (bare-apart, tt))))
+
+-- a UUID of digits 0
+abbrev naught : List ℕ
+naught = replicate 32 48
+
+naught-hex : all isHex naught && all isHex naught ≡ true
+unfolding all
+naught-hex = refl
+
+module _ (v : Device) (a : AllHold (deviceTests v)) where
+  bare-taken : formatNumber (zeros copyBytes) (zeros copyBytes) v naught naught (record { seconds = 0; nanoseconds = 0 }) bare ≡ 0
+  unfolding formatNumber
+  bare-taken =
+      let n : eqb (length (zeros copyBytes)) copyBytes ≡ true = eq-eqb (length (zeros copyBytes)) copyBytes (length-zeros copyBytes) in
+      first-all (formatTests (zeros copyBytes) (zeros copyBytes) v naught naught (record { seconds = 0; nanoseconds = 0 }) bare) (
+        and-both (sized (zeros copyBytes) (zeros copyBytes)) true
+            (and-both (eqb (length (zeros copyBytes)) copyBytes) (eqb (length (zeros copyBytes)) copyBytes) n n) refl,
+        (a .0, (naught-hex, (a .1 .0, (a .1 .1 .0, (refl, bare-accepted v))))),
+      )
+
+pub possible : Possible
+unfolding laterThan
+possible v e vs =
+    let a : AllHold (deviceTests v) = first-zero 0 (deviceTests v) (lit< tt, (lit< tt, (lit< tt, tt))) e in (
+      onDevice v (formattedCopy v naught naught (record { seconds = 0; nanoseconds = 0 }) bare)
+          (formattedCopy v naught naught (record { seconds = 0; nanoseconds = 0 }) bare),
+      (
+        record { seconds = 1; nanoseconds = 0 },
+        (
+          bare,
+          starting (zeros copyBytes) (zeros copyBytes) v naught naught (record { seconds = 0; nanoseconds = 0 }) bare (lit< tt) vs (bare-taken v a)
+              (record { seconds = 1; nanoseconds = 0 }) bare (lit< tt) refl refl (bare-accepted v),
+        ),
+      ),
+    )

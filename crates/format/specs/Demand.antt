@@ -16,7 +16,7 @@ use Rattle.block.specs.declared.Time.{Time}
 use Rattle.block.specs.Entry.{laterThan, timeOf}
 use Rattle.record.specs.Accept.{contentTests}
 use Rattle.discovery.specs.Discovery.{inStep, copyOn}
-use Rattle.device.specs.Device.{Sound, copyFrom}
+use Rattle.device.specs.Device.{Sectors, Sound, copyFrom}
 use Rattle.update.specs.Update.{deviceIn}
 use Rattle.update.specs.Demand.{Gives, heldIn, recordIn, Start}
 use Rattle.format.specs.Format.{formatTests, formatNumber, formattedCopy}
@@ -62,3 +62,7 @@ Starting =
     → (t' : Time) (r' : List ℕ) → t' .seconds < 2 ^ 64 → leb (t' .nanoseconds) 999999999 ≡ true → laterThan t' t ≡ true
     → AllHold (contentTests v r')
     → Start v (onDevice v (formattedCopy v p u t r) (formattedCopy v p u t r)) t' r'
+
+-- And there is such a device for any allowed device numbers.
+abbrev pub Possible : Type 0
+Possible = (v : Device) → first (deviceTests v) ≡ 0 → v .sectors < 2 ^ 64 → (d : Sectors) × ((t : Time) × ((r : List ℕ) × Start v d t r))
