@@ -1,14 +1,14 @@
 -- A device with formatted copies, where every update that is not refused has a start, and that there is one. Assumes nothing.
-use Prim.Native.Nat.{ℕ, _^_, _%_, _≤_, _<_}
+use Prim.Native.Nat.{ℕ, _^_, _<_}
 use mathlib.Core.Path.{_≡_, refl, sym, ap, ap₂, subst, _∙_}
-use mathlib.Core.Bool.{Bool, true, _&&_}
+use mathlib.Core.Bool.{true, _&&_}
 use mathlib.Core.List.{List, [], _∷_}
 use borrow.Author.Tests.{leb-true, eq-eqb}
 use lib.Dec.{leb, eqb, lit<, lit≤}
 use lib.ListN.{length, replicate}
 use Rattle.endian.specs.Bytes.{le, window, all, zeros}
 use Rattle.endian.proofs.Tests.{and-both, length-zeros}
-use Rattle.refusal.specs.Tests.{first, AllHold}
+use Rattle.refusal.specs.Tests.{AllHold}
 use Rattle.refusal.proofs.Order.{first-zero, first-all}
 use Rattle.layout.specs.declared.Device.{Device}
 use Rattle.layout.specs.declared.Side.{Side}
@@ -26,7 +26,6 @@ use Rattle.discovery.specs.declared.Answer.{Answer}
 use Rattle.discovery.specs.Discovery.{sized, inStep, copyOn}
 use Rattle.device.specs.Device.{copyFrom}
 use Rattle.update.specs.Update.{deviceIn, updateTests, numberAfter, updateNumber}
-use Rattle.update.specs.Demand.{Start}
 use Rattle.update.proofs.Stores.{Sizes}
 use Rattle.format.specs.Format.{formatTests, formatNumber, formattedCopy}
 use Rattle.format.specs.Placed.{onDevice}
@@ -75,59 +74,59 @@ starting f b v p u t r ts vs e t' r' fits ns later content =
     }
 
 -- a record with no segments, of data blocks of 128 sectors, is accepted on any device
-abbrev bare : List ℕ
-bare = 8 ∷ 0 ∷ 16 ∷ 0 ∷ 128 ∷ 0 ∷ 0 ∷ 0 ∷ []
+abbrev emptyRecord : List ℕ
+emptyRecord = 8 ∷ 0 ∷ 16 ∷ 0 ∷ 128 ∷ 0 ∷ 0 ∷ 0 ∷ []
 
-bare-long : lengthAllowed (length bare) ≡ true
+empty-long : lengthAllowed (length emptyRecord) ≡ true
 unfolding recordLimit
-bare-long = length-test (length bare) (lit≤ tt) (lit≤ tt)
+empty-long = length-test (length emptyRecord) (lit≤ tt) (lit≤ tt)
 
-bare-formed : wellFormed bare ≡ true
+empty-formed : wellFormed emptyRecord ≡ true
 unfolding wellFormed headBytes headRight blockSize itemOf count every le window
-bare-formed = refl
+empty-formed = refl
 
-bare-in-range : (v : Device) → allInRange v bare ≡ true
+empty-in-range : (v : Device) → allInRange v emptyRecord ≡ true
 unfolding allInRange every count headBytes
-bare-in-range v = refl
+empty-in-range v = refl
 
-bare-apart : apart bare ≡ true
+empty-apart : apart emptyRecord ≡ true
 unfolding apart earlierOf least count headBytes
-bare-apart = refl
+empty-apart = refl
 
-bare-accepted : (v : Device) → AllHold (contentTests v bare)
-bare-accepted v = (bare-long, (bare-formed, (bare-in-range v, (bare-apart, tt))))
+empty-accepted : (v : Device) → AllHold (contentTests v emptyRecord)
+empty-accepted v = (empty-long, (empty-formed, (empty-in-range v, (empty-apart, tt))))
 
 -- a UUID of digits 0
-abbrev naught : List ℕ
-naught = replicate 32 48
+abbrev zeroUuid : List ℕ
+zeroUuid = replicate 32 48
 
-naught-hex : all isHex naught && all isHex naught ≡ true
+uuid-hex : all isHex zeroUuid && all isHex zeroUuid ≡ true
 unfolding all
-naught-hex = refl
+uuid-hex = refl
 
 module _ (v : Device) (a : AllHold (deviceTests v)) where
-  bare-taken : formatNumber (zeros copyBytes) (zeros copyBytes) v naught naught (record { seconds = 0; nanoseconds = 0 }) bare ≡ 0
+  empty-taken : formatNumber (zeros copyBytes) (zeros copyBytes) v zeroUuid zeroUuid (record { seconds = 0; nanoseconds = 0 }) emptyRecord ≡ 0
   unfolding formatNumber
-  bare-taken =
+  empty-taken =
       let n : eqb (length (zeros copyBytes)) copyBytes ≡ true = eq-eqb (length (zeros copyBytes)) copyBytes (length-zeros copyBytes) in
-      first-all (formatTests (zeros copyBytes) (zeros copyBytes) v naught naught (record { seconds = 0; nanoseconds = 0 }) bare) (
+      first-all (formatTests (zeros copyBytes) (zeros copyBytes) v zeroUuid zeroUuid (record { seconds = 0; nanoseconds = 0 }) emptyRecord) (
         and-both (sized (zeros copyBytes) (zeros copyBytes)) true
             (and-both (eqb (length (zeros copyBytes)) copyBytes) (eqb (length (zeros copyBytes)) copyBytes) n n) refl,
-        (a .0, (naught-hex, (a .1 .0, (a .1 .1 .0, (refl, bare-accepted v))))),
+        (a .0, (uuid-hex, (a .1 .0, (a .1 .1 .0, (refl, empty-accepted v))))),
       )
 
 pub possible : Possible
 unfolding laterThan
 possible v e vs =
     let a : AllHold (deviceTests v) = first-zero 0 (deviceTests v) (lit< tt, (lit< tt, (lit< tt, tt))) e in (
-      onDevice v (formattedCopy v naught naught (record { seconds = 0; nanoseconds = 0 }) bare)
-          (formattedCopy v naught naught (record { seconds = 0; nanoseconds = 0 }) bare),
+      onDevice v (formattedCopy v zeroUuid zeroUuid (record { seconds = 0; nanoseconds = 0 }) emptyRecord)
+          (formattedCopy v zeroUuid zeroUuid (record { seconds = 0; nanoseconds = 0 }) emptyRecord),
       (
         record { seconds = 1; nanoseconds = 0 },
         (
-          bare,
-          starting (zeros copyBytes) (zeros copyBytes) v naught naught (record { seconds = 0; nanoseconds = 0 }) bare (lit< tt) vs (bare-taken v a)
-              (record { seconds = 1; nanoseconds = 0 }) bare (lit< tt) refl refl (bare-accepted v),
+          emptyRecord,
+          starting (zeros copyBytes) (zeros copyBytes) v zeroUuid zeroUuid (record { seconds = 0; nanoseconds = 0 }) emptyRecord (lit< tt) vs (empty-taken v a)
+              (record { seconds = 1; nanoseconds = 0 }) emptyRecord (lit< tt) refl refl (empty-accepted v),
         ),
       ),
     )
