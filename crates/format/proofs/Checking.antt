@@ -1,7 +1,7 @@
 -- The refusal number, from what the code has tested, and what its being 0 says. Assumes nothing.
-use Prim.Native.Nat.{ℕ, _<_}
-use mathlib.Core.Path.{_≡_, refl, sym, ap, _∙_}
-use mathlib.Core.Bool.{Bool, true, false, not, _&&_}
+use Prim.Native.Nat.{ℕ}
+use mathlib.Core.Path.{_≡_, ap}
+use mathlib.Core.Bool.{true, false, not, _&&_}
 use mathlib.Core.List.{List}
 use borrow.Author.Tests.{eqb-true}
 use lib.Dec.{leb, eqb, lit<}
@@ -11,7 +11,7 @@ use Rattle.endian.proofs.Tests.{and-left, and-right}
 use Rattle.refusal.specs.Tests.{first, AllHold, Ascending}
 use Rattle.refusal.proofs.Order.{refused, passed, first-zero}
 use Rattle.layout.specs.declared.Device.{Device}
-use Rattle.layout.specs.Limits.{sizeAllowed, metadataAllowed, reservedAllowed, lengthAllowed}
+use Rattle.layout.specs.Limits.{sizeAllowed, metadataAllowed, reservedAllowed}
 use Rattle.layout.specs.Places.{copyBytes}
 use Rattle.block.specs.declared.Time.{Time}
 use Rattle.block.specs.Block.{isHex}

@@ -1,39 +1,39 @@
 -- What holds of formatted copies, proved. Assumes nothing.
 use Prim.Native.Nat.{ℕ, _+_, _-_, _*_, _^_, _≤_, _<_}
 use mathlib.Core.Path.{_≡_, refl, sym, ap, ap₂, _∙_}
-use mathlib.Core.Bool.{Bool, true, false, cond}
+use mathlib.Core.Bool.{Bool, true, cond}
 use mathlib.Core.List.{List, _++_, append-assoc}
 use native.Mathlib.Decide.{decLe}
+use native.Mathlib.Nat.{add-zero}
 use native.Mathlib.Omega.{arith}
 use borrow.Author.Tests.{eq-eqb}
-use lib.Dec.{eqb}
+use lib.Dec.{eqb, lit<}
 use lib.ListN.{length, getD, take, drop, length-append, getD-replicate, List·getD-append, List·getD-eq-default}
 use lib.Seq.{take-at, drop-at, getD-take, getD-drop, getD-append-add, length-take-le}
 use Rattle.endian.specs.Bytes.{window, splice, zeros}
-use Rattle.endian.proofs.Parts.{length-window-fits, splice-fits, length-splice, window-splice, window-before, window-after}
+use Rattle.endian.proofs.Parts.{splice-fits, length-splice, window-splice, window-before, window-after}
 use Rattle.endian.proofs.Tests.{and-both, length-zeros}
 use Rattle.checksum.proofs.Laws.{checksum-below}
 use Rattle.refusal.specs.Tests.{first}
 use Rattle.refusal.proofs.Order.{first-all, first-lowest}
 use Rattle.layout.specs.declared.Device.{Device}
 use Rattle.layout.specs.declared.Side.the-variants.{Front}
-use Rattle.layout.specs.declared.Area.the-variants.{A, B}
+use Rattle.layout.specs.declared.Area.the-variants.{A}
 use Rattle.layout.specs.Limits.{recordLimit}
 use Rattle.layout.specs.Places.{areaOffset, copyBytes}
 use Rattle.layout.proofs.Laws.{length-facts}
 use Rattle.block.specs.declared.Time.{Time}
 use Rattle.block.specs.declared.BlockFields.{BlockFields}
 use Rattle.block.specs.declared.Reading.{Reading}
-use Rattle.block.specs.declared.Verdict.the-variants as Verdict
 use Rattle.block.specs.Entry.{sameTime, timeOf}
-use Rattle.block.specs.Block.{fieldsOf, reading}
+use Rattle.block.specs.Block.{reading}
 use Rattle.block.specs.Writing.{blockOf}
 use Rattle.block.proofs.Written.{length-blockOf}
 use Rattle.block.proofs.RoundTrip.{read-back}
 use Rattle.block.proofs.Times.{same-test}
 use Rattle.discovery.specs.declared.Other.the-variants.{Both}
 use Rattle.discovery.specs.declared.Answer.the-variants.{Found}
-use Rattle.discovery.specs.Copy.{blockIn, newer, newest}
+use Rattle.discovery.specs.Copy.{blockIn, newest}
 use Rattle.discovery.specs.Discovery.{recordAt, sized, sameDevice, discovery, inStep}
 use Rattle.device.specs.Device.{areaSectors}
 use Rattle.device.proofs.Copies.{limit-sectors}
@@ -169,7 +169,7 @@ formatting f b v p u t r ts vs e =
     let k : Taken f b v p u t r = taken f b v p u t r e in
     let h : Holds (formattedCopy v p u t r) (firstFields v t r) p u A (holdingFor t r) r = holds k ts vs in (
       gives (formattedCopy v p u t r) (formattedCopy v p u t r) Front A (holdingFor t r) Both t r (format-found k ts vs) (h .bytes) refl refl,
-      (format-in-step k ts vs, (its-record h .0, (ap timeOf (its-record h .1), format-device k ts vs))),
+      (format-in-step k ts vs, (its-record h .0, (ap timeOf (its-record h .1), (format-device k ts vs, h .reads)))),
     )
 
 -- zeros are zero, and so is what lies past them
@@ -184,7 +184,7 @@ zeros-zero n i =
 -- an element, as a part of one
 one : (s : List ℕ) (i : ℕ) → getD s i 0 ≡ getD (window s i 1) 0 0
 unfolding window
-one s i = sym (getD-take 1 (drop i s) 0 0 (lib.Dec.lit< tt) ∙ (getD-drop i s 0 0 ∙ ap (λ (n : ℕ). getD s n 0) (native.Mathlib.Nat.add-zero i)))
+one s i = sym (getD-take 1 (drop i s) 0 0 (lit< tt) ∙ (getD-drop i s 0 0 ∙ ap (λ (n : ℕ). getD s n 0) (add-zero i)))
 
 -- what lies before and after a list that is laid
 before : (s : List ℕ) (at : ℕ) (w : List ℕ) (i : ℕ) → i < at → getD (splice s at w) i 0 ≡ getD s i 0

@@ -1,7 +1,7 @@
 -- A copy as the code fills it, and both copies as formatting leaves them. Assumes nothing.
-use Prim.Native.Nat.{ℕ, _+_, _-_, _≤_, _<_}
-use mathlib.Core.Path.{_≡_, refl, sym, ap, ap₂, _∙_}
-use mathlib.Core.Bool.{Bool, true, false, cond, _&&_}
+use Prim.Native.Nat.{ℕ, _-_, _≤_, _<_}
+use mathlib.Core.Path.{_≡_, refl, sym, ap, _∙_}
+use mathlib.Core.Bool.{Bool, true, cond}
 use mathlib.Core.List.{List, _++_}
 use native.Mathlib.Decide.{ℕ-discrete}
 use native.Mathlib.Omega.{arith}
@@ -12,7 +12,7 @@ use Rattle.endian.specs.Bytes.{window, splice, zeros}
 use Rattle.endian.proofs.Parts.{length-window-fits, window-part, splice-part}
 use Rattle.endian.proofs.Tests.{and-both, length-zeros}
 use Rattle.checksum.specs.Crc as Crc
-use Rattle.refusal.specs.Tests.{first}
+use Rattle.refusal.specs.Tests.{first, AllHold}
 use Rattle.refusal.proofs.Order.{first-all}
 use Rattle.layout.specs.declared.Device.{Device}
 use Rattle.layout.specs.declared.Area.the-variants.{A}
@@ -20,12 +20,11 @@ use Rattle.layout.specs.Limits.{recordLimit, lengthAllowed}
 use Rattle.layout.specs.Places.{copyBytes}
 use Rattle.layout.proofs.Laws.{length-facts, limit-fits}
 use Rattle.block.specs.declared.Time.{Time}
-use Rattle.block.specs.declared.Holding.{Holding}
 use Rattle.block.specs.declared.Entry.the-variants.{Unused, Used}
 use Rattle.block.specs.declared.BlockFields.{BlockFields}
 use Rattle.block.specs.Entry.{entryAllowed}
 use Rattle.block.specs.Block.{limitTests}
-use Rattle.block.specs.Writing.{blockOf, writeTests, written}
+use Rattle.block.specs.Writing.{writeTests, written}
 use Rattle.block.proofs.Written.{length-blockOf, written-refused, written-accepted, write-sizes}
 use Rattle.update.specs.Update.{holdingFor}
 use Rattle.update.specs.Plan.{laid}
@@ -89,7 +88,7 @@ record-small r h =
 
 module _ {f b : List ℕ} {v : Device} {p u : List ℕ} {t : Time} {r : List ℕ} (k : Taken f b v p u t r) where
   -- the first entry is within its limits, and so is the block
-  pub first-limits : Rattle.refusal.specs.Tests.AllHold (limitTests p u (firstFields v t r))
+  pub first-limits : AllHold (limitTests p u (firstFields v t r))
   first-limits = (
     k .hex,
     (

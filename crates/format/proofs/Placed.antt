@@ -1,16 +1,15 @@
 -- Runs of sectors on a device, and two copies on one. Assumes nothing.
-use Prim.Native.Nat.{ℕ, zero, suc, _+_, _-_, _*_, _/_, _%_, _≤_, _<_}
+use Prim.Native.Nat.{ℕ, zero, suc, _+_, _-_, _*_, _%_, _≤_, _<_}
 use mathlib.Core.Path.{_≡_, refl, sym, ap, ap₂, _∙_}
 use mathlib.Core.Bool.{Bool, true, false, cond, _&&_}
 use mathlib.Core.Logic.{_⊎_, inl, inr}
 use mathlib.Core.List.{List, [], _∷_, _++_}
-use native.Mathlib.Decide.{decLe}
 use native.Mathlib.Nat.{add-zero, add-suc, suc-add}
 use native.Mathlib.Omega.{arith}
 use borrow.Author.Tests.{le-leb, lt-ltb, le-ltb, leb-true, ltb-true}
 use lib.Dec.{leb, ltb}
-use lib.ListN.{length, drop}
-use Rattle.endian.specs.Bytes.{window, zeros}
+use lib.ListN.{length}
+use Rattle.endian.specs.Bytes.{window}
 use Rattle.endian.proofs.Parts.{length-window-fits, window-append, window-rest}
 use Rattle.endian.proofs.Tests.{and-left, and-right, and-both, length-zeros}
 use Rattle.layout.specs.declared.Device.{Device}
@@ -19,7 +18,7 @@ use Rattle.layout.specs.declared.Side.the-variants.{Front, Back}
 use Rattle.layout.specs.declared.Area.{Area}
 use Rattle.layout.specs.declared.Area.the-variants.{A, B}
 use Rattle.layout.specs.Limits.{recordLimit}
-use Rattle.layout.specs.Places.{headerSector, areaSector, areaOffset, copyBytes}
+use Rattle.layout.specs.Places.{areaOffset, copyBytes}
 use Rattle.discovery.specs.Copy.{areaBytes}
 use Rattle.discovery.specs.Discovery.{copyOn}
 use Rattle.device.specs.Device.{Sectors, Sound, gather, areaSectors, copyFrom}

@@ -1,29 +1,35 @@
--- A device with formatted copies, where every update that is not refused has a start. Assumes nothing.
-use Prim.Native.Nat.{ℕ, _^_, _%_, _≤_, _<_}
+-- A device with formatted copies, where every update that is not refused has a start, and that there is one. Assumes nothing.
+use Prim.Native.Nat.{ℕ, _^_, _<_}
 use mathlib.Core.Path.{_≡_, refl, sym, ap, ap₂, subst, _∙_}
-use mathlib.Core.Bool.{Bool, true}
-use mathlib.Core.List.{List}
-use lib.Dec.{leb, lit<}
-use lib.ListN.{length}
-use Rattle.refusal.specs.Tests.{first, AllHold}
+use mathlib.Core.Bool.{true, _&&_}
+use mathlib.Core.List.{List, [], _∷_}
+use borrow.Author.Tests.{eq-eqb}
+use lib.Dec.{leb, eqb, lit<, lit≤}
+use lib.ListN.{length, replicate}
+use Rattle.endian.specs.Bytes.{le, window, all, zeros}
+use Rattle.endian.proofs.Tests.{and-both, length-zeros}
+use Rattle.refusal.specs.Tests.{AllHold}
 use Rattle.refusal.proofs.Order.{first-zero, first-all}
 use Rattle.layout.specs.declared.Device.{Device}
 use Rattle.layout.specs.declared.Side.{Side}
 use Rattle.layout.specs.declared.Side.the-variants.{Front, Back}
-use Rattle.layout.specs.Limits.{deviceTests}
+use Rattle.layout.specs.Limits.{sizeAllowed, metadataAllowed, deviceTests, recordLimit, lengthAllowed}
 use Rattle.layout.specs.Places.{copyBytes}
+use Rattle.layout.proofs.Laws.{length-test}
 use Rattle.block.specs.declared.Time.{Time}
 use Rattle.block.specs.Entry.{laterThan}
-use Rattle.record.specs.Accept.{contentTests}
+use Rattle.block.specs.Block.{isHex}
+use Rattle.record.specs.Search.{every, least}
+use Rattle.record.specs.Items.{itemOf, headBytes, blockSize, headRight, count}
+use Rattle.record.specs.Accept.{wellFormed, allInRange, earlierOf, apart, contentTests}
 use Rattle.discovery.specs.declared.Answer.{Answer}
-use Rattle.discovery.specs.Discovery.{inStep, copyOn}
+use Rattle.discovery.specs.Discovery.{sized, inStep, copyOn}
 use Rattle.device.specs.Device.{copyFrom}
 use Rattle.update.specs.Update.{deviceIn, updateTests, numberAfter, updateNumber}
-use Rattle.update.specs.Demand.{Start}
 use Rattle.update.proofs.Places.{sizes-allowed}
-use Rattle.format.specs.Format.{formattedCopy}
+use Rattle.format.specs.Format.{formatTests, formatNumber, formattedCopy}
 use Rattle.format.specs.Placed.{onDevice}
-use Rattle.format.specs.Demand.{Placing, Starting}
+use Rattle.format.specs.Demand.{Placing, Starting, Possible}
 use Rattle.format.proofs.Checking.{Taken, taken}
 use Rattle.format.proofs.Placed.{sound-device, its-copy}
 use Rattle.format.proofs.Demand.{length-formatted, format-found, format-in-step, format-device}
@@ -57,3 +63,61 @@ starting f b v p u t r ts vs e t' r' fits ns later content =
       fits = fits;
       not-refused = ap₂ (λ (x y : List ℕ). updateNumber x y t' r') (on Front) (on Back) ∙ not-refused k ts vs t' r' ns later content;
     }
+
+-- a record with no segments, of data blocks of 128 sectors, is accepted on any device
+abbrev emptyRecord : List ℕ
+emptyRecord = 8 ∷ 0 ∷ 16 ∷ 0 ∷ 128 ∷ 0 ∷ 0 ∷ 0 ∷ []
+
+empty-long : lengthAllowed (length emptyRecord) ≡ true
+unfolding recordLimit
+empty-long = length-test (length emptyRecord) (lit≤ tt) (lit≤ tt)
+
+empty-formed : wellFormed emptyRecord ≡ true
+unfolding wellFormed headBytes headRight blockSize itemOf count every le window
+empty-formed = refl
+
+empty-in-range : (v : Device) → allInRange v emptyRecord ≡ true
+unfolding allInRange every count headBytes
+empty-in-range v = refl
+
+empty-apart : apart emptyRecord ≡ true
+unfolding apart earlierOf least count headBytes
+empty-apart = refl
+
+empty-accepted : (v : Device) → AllHold (contentTests v emptyRecord)
+empty-accepted v = (empty-long, (empty-formed, (empty-in-range v, (empty-apart, tt))))
+
+-- a UUID of digits 0
+abbrev zeroUuid : List ℕ
+zeroUuid = replicate 32 48
+
+uuid-hex : all isHex zeroUuid && all isHex zeroUuid ≡ true
+unfolding all
+uuid-hex = refl
+
+module _ (v : Device) (a : AllHold (deviceTests v)) where
+  empty-taken : formatNumber (zeros copyBytes) (zeros copyBytes) v zeroUuid zeroUuid (record { seconds = 0; nanoseconds = 0 }) emptyRecord ≡ 0
+  unfolding formatNumber
+  empty-taken =
+      let n : eqb (length (zeros copyBytes)) copyBytes ≡ true = eq-eqb (length (zeros copyBytes)) copyBytes (length-zeros copyBytes) in
+      first-all (formatTests (zeros copyBytes) (zeros copyBytes) v zeroUuid zeroUuid (record { seconds = 0; nanoseconds = 0 }) emptyRecord) (
+        and-both (sized (zeros copyBytes) (zeros copyBytes)) true
+            (and-both (eqb (length (zeros copyBytes)) copyBytes) (eqb (length (zeros copyBytes)) copyBytes) n n) refl,
+        (a .0, (uuid-hex, (a .1 .0, (a .1 .1 .0, (refl, empty-accepted v))))),
+      )
+
+pub possible : Possible
+unfolding laterThan
+possible v e vs =
+    let a : AllHold (deviceTests v) = first-zero 0 (deviceTests v) (lit< tt, (lit< tt, (lit< tt, tt))) e in (
+      onDevice v (formattedCopy v zeroUuid zeroUuid (record { seconds = 0; nanoseconds = 0 }) emptyRecord)
+          (formattedCopy v zeroUuid zeroUuid (record { seconds = 0; nanoseconds = 0 }) emptyRecord),
+      (
+        record { seconds = 1; nanoseconds = 0 },
+        (
+          emptyRecord,
+          starting (zeros copyBytes) (zeros copyBytes) v zeroUuid zeroUuid (record { seconds = 0; nanoseconds = 0 }) emptyRecord (lit< tt) vs (empty-taken v a)
+              (record { seconds = 1; nanoseconds = 0 }) emptyRecord (lit< tt) refl refl (empty-accepted v),
+        ),
+      ),
+    )

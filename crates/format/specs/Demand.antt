@@ -13,13 +13,15 @@ use Rattle.layout.specs.declared.Area.the-variants.{A}
 use Rattle.layout.specs.Limits.{deviceTests}
 use Rattle.layout.specs.Places.{areaOffset, copyBytes}
 use Rattle.block.specs.declared.Time.{Time}
+use Rattle.block.specs.declared.Verdict.the-variants as Verdict
 use Rattle.block.specs.Entry.{laterThan, timeOf}
 use Rattle.record.specs.Accept.{contentTests}
+use Rattle.discovery.specs.Copy.{readingIn}
 use Rattle.discovery.specs.Discovery.{inStep, copyOn}
-use Rattle.device.specs.Device.{Sound, copyFrom}
+use Rattle.device.specs.Device.{Sectors, Sound, copyFrom}
 use Rattle.update.specs.Update.{deviceIn}
 use Rattle.update.specs.Demand.{Gives, heldIn, recordIn, Start}
-use Rattle.format.specs.Format.{formatTests, formatNumber, formattedCopy}
+use Rattle.format.specs.Format.{formatTests, formatNumber, firstFields, formattedCopy}
 use Rattle.format.specs.Placed.{onDevice}
 
 -- A refusal is the lowest number that applies.
@@ -29,8 +31,8 @@ Lowest =
     → Fails (formatTests f b v p u t r) (formatNumber f b v p u t r)
     × ((k : ℕ) → Fails (formatTests f b v p u t r) k → formatNumber f b v p u t r ≤ k)
 
--- Area a holds a first record: discovery of the two copies gives it with its time, they are in step on it, and both say the
--- device's numbers.
+-- Area a holds a first record: discovery of the two copies gives it with its time, they are in step on it, and both blocks
+-- are accepted with the device's numbers and UUIDs, area b unused.
 abbrev pub Formatting : Type 0
 Formatting =
     (f b : List ℕ) (v : Device) (p u : List ℕ) (t : Time) (r : List ℕ) → t .seconds < 2 ^ 64 → v .sectors < 2 ^ 64
@@ -38,7 +40,9 @@ Formatting =
     → Gives (formattedCopy v p u t r) (formattedCopy v p u t r) t r
     × ((inStep (formattedCopy v p u t r) (formattedCopy v p u t r) ≡ true)
     × ((recordIn (formattedCopy v p u t r) ≡ r)
-    × ((timeOf (heldIn (formattedCopy v p u t r)) ≡ t) × (deviceIn (formattedCopy v p u t r) ≡ v))))
+    × ((timeOf (heldIn (formattedCopy v p u t r)) ≡ t)
+    × ((deviceIn (formattedCopy v p u t r) ≡ v)
+    × (readingIn (formattedCopy v p u t r) ≡ record { verdict = Verdict.Accepted (firstFields v t r); pool = p; device = u })))))
 
 -- Everything not named is zero: each byte outside the signature block and outside the record.
 abbrev pub Zero : Type 0
@@ -62,3 +66,7 @@ Starting =
     → (t' : Time) (r' : List ℕ) → t' .seconds < 2 ^ 64 → leb (t' .nanoseconds) 999999999 ≡ true → laterThan t' t ≡ true
     → AllHold (contentTests v r')
     → Start v (onDevice v (formattedCopy v p u t r) (formattedCopy v p u t r)) t' r'
+
+-- And there is such a device for any allowed device numbers.
+abbrev pub Possible : Type 0
+Possible = (v : Device) → first (deviceTests v) ≡ 0 → v .sectors < 2 ^ 64 → (d : Sectors) × ((t : Time) × ((r : List ℕ) × Start v d t r))
