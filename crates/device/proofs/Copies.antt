@@ -1,19 +1,18 @@
 -- What a copy has of the sectors that it was read from. Assumes nothing.
 use Prim.Native.Nat.{ℕ, zero, suc, _+_, _*_, _-_, _≤_, _<_}
 use mathlib.Core.Path.{_≡_, refl, sym, ap, ap₂, _∙_}
-use mathlib.Core.List.{List, [], _∷_, _++_, append-assoc}
-use native.Mathlib.Nat.{mul-suc, suc-mul, zero-mul, mul-comm, add-suc, suc-add, add-zero}
+use mathlib.Core.List.{List, _++_, append-assoc}
+use native.Mathlib.Nat.{add-suc, suc-add, add-zero}
 use native.Mathlib.Omega.{arith}
 use lib.ListN.{length, take, drop, length-append}
-use lib.Seq.{take-at, drop-at, take-append-le, take-append-add}
+use lib.Seq.{take-at, drop-at, take-append-le}
 use Rattle.endian.specs.Bytes.{window}
 use Rattle.layout.specs.declared.Device.{Device}
 use Rattle.layout.specs.declared.Side.{Side}
-use Rattle.layout.specs.declared.Side.the-variants.{Front, Back}
 use Rattle.layout.specs.declared.Area.{Area}
 use Rattle.layout.specs.declared.Area.the-variants.{A, B}
-use Rattle.layout.specs.Limits.{sectorBytes, recordLimit}
-use Rattle.layout.specs.Places.{headerSector, blockSector, areaSector, areaOffset, copyBytes}
+use Rattle.layout.specs.Limits.{recordLimit}
+use Rattle.layout.specs.Places.{headerSector, areaSector, areaOffset, copyBytes}
 use Rattle.device.specs.Device.{Sectors, Sound, gather, areaSectors, copyFrom}
 
 -- the limit is whole sectors

@@ -1,12 +1,12 @@
 -- The stores of groups by their number. Assumes nothing.
-use Prim.Native.Nat.{ℕ, zero, suc, _+_, _-_, _≤_, _<_}
-use mathlib.Core.Path.{_≡_, refl, sym, ap, ap₂, _∙_}
+use Prim.Native.Nat.{ℕ, zero, suc, _+_, _-_, _<_}
+use mathlib.Core.Path.{_≡_, refl, sym, ap, _∙_}
 use mathlib.Core.List.{List, [], _∷_, _++_, map}
 use native.Mathlib.Decide.{ℕ-discrete}
 use native.Mathlib.Nat.{not-suc-le-zero, add-zero}
 use native.Mathlib.Omega.{arith}
 use lib.ListN.{length, take, getD, length-append}
-use Rattle.device.specs.Device.{Store, Groups, stores, storeIn, groupStart, storesFrom}
+use Rattle.device.specs.Device.{Store, Groups, stores, groupStart, storesFrom}
 
 module _ {A : Type 0} (d : A) where
   -- a part of a list by its places

@@ -25,26 +25,24 @@ use Rattle.layout.proofs.Laws.{length-facts}
 use Rattle.block.specs.declared.Time.{Time}
 use Rattle.block.specs.declared.BlockFields.{BlockFields}
 use Rattle.block.specs.declared.Reading.{Reading}
-use Rattle.block.specs.Entry.{sameTime, timeOf}
 use Rattle.block.specs.Block.{reading}
 use Rattle.block.specs.Writing.{blockOf}
 use Rattle.block.proofs.Written.{length-blockOf}
 use Rattle.block.proofs.RoundTrip.{read-back}
-use Rattle.block.proofs.Times.{same-test}
 use Rattle.discovery.specs.declared.Other.the-variants.{Both}
 use Rattle.discovery.specs.declared.Answer.the-variants.{Found}
 use Rattle.discovery.specs.Copy.{blockIn, newest}
-use Rattle.discovery.specs.Discovery.{recordAt, sized, sameDevice, discovery, inStep}
+use Rattle.discovery.specs.Discovery.{recordAt, sized, sameDevice, discovery}
 use Rattle.device.specs.Device.{areaSectors}
 use Rattle.device.proofs.Copies.{limit-sectors}
 use Rattle.update.specs.Update.{deviceIn, sectorsOf, holdingFor}
 use Rattle.update.specs.Plan.{layTests, laid}
 use Rattle.update.proofs.Holding.{Holds}
-use Rattle.update.proofs.Discovering.{gives, both-found}
-use Rattle.update.proofs.InStep.{verdict-facts, same-device-test, held-in-step}
+use Rattle.update.proofs.InStep.{verdict-facts, same-device-test}
 use Rattle.update.proofs.Padding.{sectors-most, sectors-enough}
 use Rattle.update.proofs.OneCopy.{area-fits}
-use Rattle.update.proofs.Facts.{its-record, same-time-refl}
+use Rattle.update.specs.Demand.{Gives, InStepOn}
+use Rattle.update.proofs.Agreeing.{found-front, agree-gives, agree-in-step}
 use Rattle.format.specs.Format.{formatTests, formatNumber, firstFields, formattedCopy}
 use Rattle.format.specs.Demand.{Lowest, Formatting, Zero}
 use Rattle.format.proofs.Checking.{format-ascending, Taken, taken}
@@ -141,7 +139,7 @@ module _ {f b : List ℕ} {v : Device} {p u : List ℕ} {t : Time} {r : List ℕ
           long = refl;
         }
 
--- a time is the same as itself
+-- both copies hold it
 module _ {f b : List ℕ} {v : Device} {p u : List ℕ} {t : Time} {r : List ℕ} (k : Taken f b v p u t r) (ts : t .seconds < 2 ^ 64) (vs : v .sectors < 2 ^ 64) where
   both-sized : sized (formattedCopy v p u t r) (formattedCopy v p u t r) ≡ true
   both-sized =
@@ -152,11 +150,13 @@ module _ {f b : List ℕ} {v : Device} {p u : List ℕ} {t : Time} {r : List ℕ
   one-device = same-device-test (firstFields v t r) (firstFields v t r) refl
 
   pub format-found : discovery (formattedCopy v p u t r) (formattedCopy v p u t r) ≡ Found (recordAt Front A (holdingFor t r)) Both
-  format-found =
-      both-found (formattedCopy v p u t r) (formattedCopy v p u t r) both-sized (holds k ts vs) (holds k ts vs) one-device (same-time-refl t) refl
+  format-found = found-front (holds k ts vs) (holds k ts vs) both-sized one-device t refl refl
 
-  pub format-in-step : inStep (formattedCopy v p u t r) (formattedCopy v p u t r) ≡ true
-  format-in-step = held-in-step (holds k ts vs) (holds k ts vs) both-sized one-device (same-time-refl t)
+  pub format-in-step : InStepOn (formattedCopy v p u t r) (formattedCopy v p u t r) t r
+  format-in-step = agree-in-step (holds k ts vs) (holds k ts vs) both-sized one-device t refl refl
+
+  format-gives : Gives (formattedCopy v p u t r) (formattedCopy v p u t r) t r
+  format-gives = agree-gives (holds k ts vs) (holds k ts vs) both-sized one-device t refl refl
 
   pub format-device : deviceIn (formattedCopy v p u t r) ≡ v
   format-device =
@@ -167,10 +167,7 @@ module _ {f b : List ℕ} {v : Device} {p u : List ℕ} {t : Time} {r : List ℕ
 pub formatting : Formatting
 formatting f b v p u t r ts vs e =
     let k : Taken f b v p u t r = taken f b v p u t r e in
-    let h : Holds (formattedCopy v p u t r) (firstFields v t r) p u A (holdingFor t r) r = holds k ts vs in (
-      gives (formattedCopy v p u t r) (formattedCopy v p u t r) Front A (holdingFor t r) Both t r (format-found k ts vs) (h .bytes) refl refl,
-      (format-in-step k ts vs, (its-record h .0, (ap timeOf (its-record h .1), (format-device k ts vs, h .reads)))),
-    )
+    (format-gives k ts vs, (format-in-step k ts vs, (format-device k ts vs, holds k ts vs .reads)))
 
 -- zeros are zero, and so is what lies past them
 zeros-zero : (n i : ℕ) → getD (zeros n) i 0 ≡ 0

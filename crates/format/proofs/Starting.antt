@@ -13,7 +13,7 @@ use Rattle.refusal.proofs.Order.{first-zero, first-all}
 use Rattle.layout.specs.declared.Device.{Device}
 use Rattle.layout.specs.declared.Side.{Side}
 use Rattle.layout.specs.declared.Side.the-variants.{Front, Back}
-use Rattle.layout.specs.Limits.{sizeAllowed, metadataAllowed, deviceTests, recordLimit, lengthAllowed}
+use Rattle.layout.specs.Limits.{deviceTests, recordLimit, lengthAllowed}
 use Rattle.layout.specs.Places.{copyBytes}
 use Rattle.layout.proofs.Laws.{length-test}
 use Rattle.block.specs.declared.Time.{Time}
@@ -47,7 +47,7 @@ module _ {f b : List ℕ} {v : Device} {p u : List ℕ} {t : Time} {r : List ℕ
   not-refused =
       ap (λ (a : Answer). numberAfter a (formattedCopy v p u t r) (formattedCopy v p u t r) t' r') (format-found k ts vs)
       ∙ first-all (updateTests (formattedCopy v p u t r) (formattedCopy v p u t r) t t' r')
-      (format-in-step k ts vs, (ns, (later, subst (λ (w : Device). AllHold (contentTests w r')) (sym (format-device k ts vs)) content)))
+      (format-in-step k ts vs .0, (ns, (later, subst (λ (w : Device). AllHold (contentTests w r')) (sym (format-device k ts vs)) content)))
 
 pub starting : Starting
 starting f b v p u t r ts vs e t' r' fits ns later content =
@@ -59,7 +59,7 @@ starting f b v p u t r ts vs e t' r' fits ns later content =
     record {
       sound = sound-device v (sizes-allowed v (k .size) (k .metadata)) (formattedCopy v p u t r) (formattedCopy v p u t r) n n;
       placed = ap deviceIn (on Front) ∙ format-device k ts vs;
-      in-step = ap₂ inStep (on Front) (on Back) ∙ format-in-step k ts vs;
+      in-step = ap₂ inStep (on Front) (on Back) ∙ format-in-step k ts vs .0;
       fits = fits;
       not-refused = ap₂ (λ (x y : List ℕ). updateNumber x y t' r') (on Front) (on Back) ∙ not-refused k ts vs t' r' ns later content;
     }

@@ -14,13 +14,13 @@ use Rattle.layout.specs.Limits.{deviceTests}
 use Rattle.layout.specs.Places.{areaOffset, copyBytes}
 use Rattle.block.specs.declared.Time.{Time}
 use Rattle.block.specs.declared.Verdict.the-variants as Verdict
-use Rattle.block.specs.Entry.{laterThan, timeOf}
+use Rattle.block.specs.Entry.{laterThan}
 use Rattle.record.specs.Accept.{contentTests}
 use Rattle.discovery.specs.Copy.{readingIn}
-use Rattle.discovery.specs.Discovery.{inStep, copyOn}
+use Rattle.discovery.specs.Discovery.{copyOn}
 use Rattle.device.specs.Device.{Sectors, Sound, copyFrom}
 use Rattle.update.specs.Update.{deviceIn}
-use Rattle.update.specs.Demand.{Gives, heldIn, recordIn, Start}
+use Rattle.update.specs.Demand.{Gives, InStepOn, Start}
 use Rattle.format.specs.Format.{formatTests, formatNumber, firstFields, formattedCopy}
 use Rattle.format.specs.Placed.{onDevice}
 
@@ -38,11 +38,9 @@ Formatting =
     (f b : List ℕ) (v : Device) (p u : List ℕ) (t : Time) (r : List ℕ) → t .seconds < 2 ^ 64 → v .sectors < 2 ^ 64
     → formatNumber f b v p u t r ≡ 0
     → Gives (formattedCopy v p u t r) (formattedCopy v p u t r) t r
-    × ((inStep (formattedCopy v p u t r) (formattedCopy v p u t r) ≡ true)
-    × ((recordIn (formattedCopy v p u t r) ≡ r)
-    × ((timeOf (heldIn (formattedCopy v p u t r)) ≡ t)
+    × (InStepOn (formattedCopy v p u t r) (formattedCopy v p u t r) t r
     × ((deviceIn (formattedCopy v p u t r) ≡ v)
-    × (readingIn (formattedCopy v p u t r) ≡ record { verdict = Verdict.Accepted (firstFields v t r); pool = p; device = u })))))
+    × (readingIn (formattedCopy v p u t r) ≡ record { verdict = Verdict.Accepted (firstFields v t r); pool = p; device = u })))
 
 -- Everything not named is zero: each byte outside the signature block and outside the record.
 abbrev pub Zero : Type 0

@@ -1,7 +1,7 @@
 -- The blocks that a mend stores: each is accepted, and the writer takes it. Assumes nothing.
 use Prim.Native.Nat.{ℕ}
-use mathlib.Core.Path.{_≡_, refl, sym, ap, _∙_}
-use mathlib.Core.Bool.{Bool, true, false, cond, _&&_}
+use mathlib.Core.Path.{_≡_, refl, ap}
+use mathlib.Core.Bool.{true, cond}
 use mathlib.Core.List.{List}
 use lib.ListN.{length}
 use Rattle.endian.proofs.Tests.{and-both}
@@ -14,15 +14,15 @@ use Rattle.block.specs.declared.Entry.the-variants.{Unused, Used}
 use Rattle.block.specs.declared.BlockFields.{BlockFields}
 use Rattle.block.specs.declared.Reading.{Reading}
 use Rattle.block.specs.declared.Verdict.the-variants as Verdict
-use Rattle.block.specs.Entry.{entryAllowed, differentTimes, entriesAllowed}
-use Rattle.block.specs.Block.{deviceOf, poolOf, uuidOf, fieldsOf, readTests, reading}
+use Rattle.block.specs.Entry.{entryAllowed, entriesAllowed}
+use Rattle.block.specs.Block.{poolOf, uuidOf, fieldsOf, readTests, reading}
 use Rattle.block.specs.Writing.{writeTests, written}
 use Rattle.block.specs.Demand.{EntryFits}
 use Rattle.block.proofs.Readings.{accepted-length}
 use Rattle.discovery.specs.Copy.{blockIn, entryIn, otherArea, newer, newest}
 use Rattle.update.specs.Update.{deviceIn, withEntry}
 use Rattle.update.proofs.InStep.{verdict-facts}
-use Rattle.update.proofs.NewBlock.{entry-allowed, entry-in-fits, device-kept, again-reads, again-writes, again-written}
+use Rattle.update.proofs.NewBlock.{entry-allowed, entry-in-fits, again-reads, again-writes, again-written}
 use Rattle.mend.specs.Mend.{blockLike, emptied, refilled, blanked}
 
 -- numbers that may stand in a block of a copy's device

@@ -5,14 +5,12 @@ use mathlib.Core.Bool.{Bool, true, false, cond}
 use mathlib.Core.List.{List}
 use native.Mathlib.Omega.{arith}
 use borrow.Author.Tests.{lt-ltb, le-ltb, le-leb, lt-leb, eq-eqb, ne-eqb}
-use lib.Dec.{leb, ltb, eqb}
+use lib.Dec.{leb, eqb}
 use lib.ListN.{length}
 use Rattle.endian.specs.Bytes.{window}
 use Rattle.layout.specs.declared.Side.{Side}
-use Rattle.layout.specs.declared.Side.the-variants.{Front, Back}
 use Rattle.layout.specs.Places.{areaOffset}
 use Rattle.block.specs.declared.BlockFields.{BlockFields}
-use Rattle.discovery.specs.Copy.{areaBytes}
 use Rattle.discovery.specs.Discovery.{copyOn}
 use Rattle.update.specs.declared.Given.{Given}
 use Rattle.update.specs.declared.Given.the-variants as Given

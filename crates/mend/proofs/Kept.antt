@@ -1,7 +1,7 @@
 -- What discovery's answer says of the copy that mending keeps. Assumes nothing.
 use Prim.Native.Nat.{ℕ, _+_, _≤_}
-use mathlib.Core.Path.{_≡_, refl, sym, ap, ap₂, subst, _∙_}
-use mathlib.Core.Bool.{Bool, true, false, cond, _&&_}
+use mathlib.Core.Path.{_≡_, refl, sym, ap, _∙_}
+use mathlib.Core.Bool.{Bool, true, false}
 use mathlib.Core.List.{List}
 use native.Mathlib.Omega.{arith}
 use borrow.Author.Tests.{eqb-true}
@@ -17,19 +17,15 @@ use Rattle.layout.specs.declared.Side.the-variants.{Front, Back}
 use Rattle.layout.specs.declared.Area.{Area}
 use Rattle.layout.specs.Limits.{recordLimit}
 use Rattle.layout.specs.Places.{areaOffset, copyBytes}
-use Rattle.block.specs.declared.Time.{Time}
 use Rattle.block.specs.declared.Holding.{Holding}
-use Rattle.block.specs.declared.Entry.{Entry}
 use Rattle.block.specs.declared.Entry.the-variants.{Used}
 use Rattle.block.specs.declared.BlockFields.{BlockFields}
 use Rattle.block.specs.Entry.{timeOf}
 use Rattle.block.specs.Block.{fieldsOf, readTests}
 use Rattle.block.specs.Writing.{holdingOf}
-use Rattle.discovery.specs.declared.Present.{Present}
 use Rattle.discovery.specs.declared.Present.the-variants.{At}
 use Rattle.discovery.specs.declared.Record.{Record}
 use Rattle.discovery.specs.declared.Other.{Other}
-use Rattle.discovery.specs.declared.Answer.{Answer}
 use Rattle.discovery.specs.declared.Answer.the-variants.{Found, Refused}
 use Rattle.discovery.specs.Copy.{blockIn, areaBytes, entryIn, otherArea, wholeEntry, whole, newest, present}
 use Rattle.discovery.specs.Discovery.{recordAt, sized, discovery, copyOn, recordBytes}

@@ -4,3 +4,4 @@ pub mod Planning
 pub mod Kept
 pub mod Stores
 pub mod Blocks
+pub mod Landing

@@ -1,6 +1,6 @@
 -- What is to be stored, from what the code has worked out. Assumes nothing.
 use Prim.Native.Nat.{ℕ}
-use mathlib.Core.Path.{_≡_, refl, sym, ap, ap₂, _∙_}
+use mathlib.Core.Path.{_≡_, sym, ap, ap₂, _∙_}
 use mathlib.Core.Bool.{Bool, true, false, cond}
 use mathlib.Core.List.{List}
 use Rattle.endian.specs.Bytes.{window}
@@ -25,7 +25,7 @@ use Rattle.mend.specs.declared.Last.the-variants as Last
 use Rattle.mend.specs.declared.Rewrite.{Rewrite}
 use Rattle.mend.specs.declared.Mending.{Mending}
 use Rattle.mend.specs.declared.Mending.the-variants as Mending
-use Rattle.mend.specs.Mend.{emptied, refilled, blanked, laterWhole}
+use Rattle.mend.specs.Mend.{blanked, laterWhole}
 use Rattle.mend.specs.Plan.{lastOf, rewriteOf, mendingAfter, mending}
 
 module _ (w : Side) (c s : List ℕ) (x : BlockFields) (y : Area) (t : Bool) (es : s ≡ window c 512 512) (ex : x ≡ fieldsOf s) (ey : y ≡ newest x)

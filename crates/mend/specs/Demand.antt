@@ -3,27 +3,23 @@
 use Prim.Native.Nat.{ℕ, suc, _+_, _≤_, _<_}
 use mathlib.Core.Path.{_≡_}
 use mathlib.Core.Logic.{_⊎_}
-use mathlib.Core.Bool.{true}
 use mathlib.Core.List.{List}
 use lib.ListN.{length}
 use Rattle.refusal.specs.Numbers.{noStore}
 use Rattle.layout.specs.declared.Device.{Device}
-use Rattle.layout.specs.declared.Side.{Side}
 use Rattle.layout.specs.declared.Side.the-variants.{Front, Back}
 use Rattle.layout.specs.declared.Area.the-variants.{A}
 use Rattle.layout.specs.Places.{blockSector, areaSector}
-use Rattle.block.specs.Entry.{timeOf}
 use Rattle.discovery.specs.declared.Record.{Record}
 use Rattle.discovery.specs.declared.Other.{Other}
 use Rattle.discovery.specs.declared.Answer.the-variants.{Found}
 use Rattle.discovery.specs.Copy.{otherSide}
-use Rattle.discovery.specs.Discovery.{discovery, inStep, recordBytes}
+use Rattle.discovery.specs.Discovery.{discovery, recordBytes}
 use Rattle.discovery.specs.Newest.{timeAt}
 use Rattle.device.specs.Device.{Sectors, Sound, stores, storeIn, groupStart, allLanded, copyFrom}
 use Rattle.update.specs.declared.Given.the-variants.{At, Refused}
 use Rattle.update.specs.Update.{deviceIn, sectorsOf}
-use Rattle.update.specs.Demand.{Gives, heldIn, recordIn}
-use Rattle.mend.specs.declared.Mending.{Mending}
+use Rattle.update.specs.Demand.{Gives, InStepOn}
 use Rattle.mend.specs.Mend.{mendGroups}
 use Rattle.mend.specs.Plan.{mending, storesIn, groupOf, storeAnswer, storeBytes}
 
@@ -47,8 +43,7 @@ abbrev pub Landing : Type 0
 Landing =
     (v : Device) (d : Sectors) (q : Record) → State v d q
     → Gives (copyFrom Front v (after v d)) (copyFrom Back v (after v d)) (timeAt q) (foundIn v d q)
-    × ((inStep (copyFrom Front v (after v d)) (copyFrom Back v (after v d)) ≡ true)
-    × ((s : Side) → (recordIn (copyFrom s v (after v d)) ≡ foundIn v d q) × (timeOf (heldIn (copyFrom s v (after v d))) ≡ timeAt q)))
+    × InStepOn (copyFrom Front v (after v d)) (copyFrom Back v (after v d)) (timeAt q) (foundIn v d q)
 
 -- Store i goes to the other copy's signature block, or to a sector of its area a that the record fills; the last one, with
 -- number k + 2, goes to the kept block.

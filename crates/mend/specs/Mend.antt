@@ -12,7 +12,6 @@ use Rattle.block.specs.declared.Entry.the-variants.{Unused}
 use Rattle.block.specs.declared.BlockFields.{BlockFields}
 use Rattle.block.specs.Block.{poolOf, uuidOf, fieldsOf}
 use Rattle.block.specs.Writing.{blockOf}
-use Rattle.discovery.specs.declared.Record.{Record}
 use Rattle.discovery.specs.declared.Answer.{Answer}
 use Rattle.discovery.specs.declared.Answer.the-variants as Answer
 use Rattle.discovery.specs.Copy.{blockIn, entryIn, otherSide, whole, newest}

@@ -2,7 +2,7 @@
 -- a caller makes up; `Demand.Giving` says that the stores of what `work_out` answers are those of `Mend.mendGroups`.
 -- Assumes nothing.
 use Prim.Native.Nat.{ℕ, _+_, _-_}
-use mathlib.Core.Bool.{Bool, cond}
+use mathlib.Core.Bool.{cond}
 use mathlib.Core.List.{List}
 use lib.Dec.{leb, ltb, eqb}
 use lib.ListN.{length}
@@ -10,7 +10,6 @@ use Rattle.refusal.specs.Numbers.{sliceSize, noStore}
 use Rattle.layout.specs.declared.Side.{Side}
 use Rattle.layout.specs.declared.Area.the-variants.{A}
 use Rattle.layout.specs.Places.{blockSector, areaSector}
-use Rattle.block.specs.declared.BlockFields.{BlockFields}
 use Rattle.block.specs.Block.{fieldsOf}
 use Rattle.discovery.specs.declared.Record.{Record}
 use Rattle.discovery.specs.declared.Answer.{Answer}

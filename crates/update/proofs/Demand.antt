@@ -1,5 +1,5 @@
 -- Demand 3, proved: one claim over every start, update and cut. Assumes nothing.
-use Prim.Native.Nat.{ℕ, zero, suc, _+_, _-_, _*_, _%_, _^_, _≤_, _<_}
+use Prim.Native.Nat.{ℕ, zero, suc, _+_, _-_, _*_, _^_, _≤_, _<_}
 use mathlib.Core.Path.{_≡_, refl, sym, ap, subst, _∙_}
 use mathlib.Core.Bool.{Bool, true, cond}
 use mathlib.Core.Logic.{_⊎_, inl, inr}
@@ -26,15 +26,12 @@ use Rattle.block.specs.declared.Reading.{Reading}
 use Rattle.block.specs.declared.Verdict.the-variants as Verdict
 use Rattle.block.specs.Entry.{laterThan, timeOf}
 use Rattle.block.specs.Block.{poolOf, uuidOf, fieldsOf, readTests, reading}
-use Rattle.block.specs.Accepted.{Accepted}
-use Rattle.block.specs.Writing.{writeTests, written}
 use Rattle.block.proofs.Readings.{accepted-length}
-use Rattle.block.proofs.Exactly.{obeys}
 use Rattle.discovery.specs.declared.Other.the-variants.{Both}
 use Rattle.discovery.specs.declared.Answer.{Answer}
 use Rattle.discovery.specs.declared.Answer.the-variants.{Found}
 use Rattle.discovery.specs.Copy.{blockIn, entryIn, whole, newest, readingIn}
-use Rattle.discovery.specs.Discovery.{recordAt, sameDevice, discovery, inStep}
+use Rattle.discovery.specs.Discovery.{recordAt, sameDevice, sized, discovery}
 use Rattle.device.specs.Device.{Sectors, Sound, Store, Cut, Groups, stores, storeIn, groupStart, CutIn, areaSectors, copyFrom}
 use Rattle.device.proofs.Landing.{landed-size}
 use Rattle.device.proofs.Copies.{limit-sectors, limit-small}
@@ -44,17 +41,18 @@ use Rattle.update.specs.declared.Plan.{Plan}
 use Rattle.update.specs.declared.Given.{Given}
 use Rattle.update.specs.declared.Given.the-variants as Given
 use Rattle.update.specs.declared.Planned.the-variants as Planned
-use Rattle.update.specs.Plan.{partOf, storesIn, sectorIn, partAnswer, partBytes, storeAnswer, storeBytes}
-use Rattle.update.specs.Demand.{Gives, heldIn, recordIn, Start, Excused, groupsOn, planOn, Cutting, after, Landing, Giving}
+use Rattle.update.specs.Plan.{partOf, storesIn, partAnswer, partBytes, storeAnswer, storeBytes}
+use Rattle.update.specs.Demand.{Gives, heldIn, recordIn, InStepOn, Start, Excused, groupsOn, planOn, Cutting, after, Landing, Giving}
 use Rattle.update.proofs.NewBlock.{number-fits, device-kept, new-reads, new-writes, new-written}
 use Rattle.update.proofs.Holding.{Holds, newest-changed}
 use Rattle.update.proofs.Discovering.{gives, back-found, front-found, both-found, later-found}
 use Rattle.update.proofs.Padding.{sectors-most}
 use Rattle.update.proofs.OneSide as OneSide
 use Rattle.update.proofs.Choosing.{block-given, area-given, part-given, front-store, back-store}
-use Rattle.update.proofs.InStep.{Stepped, verdict-facts, in-step-facts, same-device-test, held-in-step}
+use Rattle.update.proofs.InStep.{Stepped, verdict-facts, in-step-facts, same-device-test}
 use Rattle.update.proofs.OneCopy.{used, old-held, new-held, block-of}
-use Rattle.update.proofs.Facts.{other-differs, renamed, same-time-is, same-time-refl, sized-copies, refused-differs, stands-as, its-record}
+use Rattle.update.proofs.Facts.{other-differs, renamed, same-time-is, sized-copies, refused-differs, stands-as}
+use Rattle.update.proofs.Agreeing.{agree-gives, agree-in-step}
 use Rattle.update.proofs.Places.{Sizes, sizes-accepted, near, area-near, area-below, block-apart, areas-apart}
 use Rattle.update.proofs.Stores.{starting, begin, count, which, stored-size, side, group-starts, grouped}
 
@@ -242,9 +240,7 @@ module _ (v : Device) (d : Sectors) (t : Time) (r : List ℕ) (s : Start v d t r
           (later-found (copyFrom Front v e) (copyFrom Back v e) (sized-copies v e e se se) m n new-old (its-later Back)) (m .bytes) (m .long) refl
 
       gives-both : NewHeld Back e → GivesNew e
-      gives-both n =
-          gives (copyFrom Front v e) (copyFrom Back v e) Front (spare (copy Front)) (holdingFor t r) Both t r
-          (both-found (copyFrom Front v e) (copyFrom Back v e) (sized-copies v e e se se) m n new-new (same-time-refl t) refl) (m .bytes) (m .long) refl
+      gives-both n = agree-gives m n (sized-copies v e e se se) new-new t refl refl
 
       gives-front : IsRefused Back e → GivesNew e
       gives-front a =
@@ -355,16 +351,11 @@ module _ (v : Device) (d : Sectors) (t : Time) (r : List ℕ) (s : Start v d t r
       holds-new w (after v d t r) after-sound (OneSide.block-landed (laid w) d (length (stores groups)) (omega arith) (omega arith))
       (λ i y. OneSide.area-landed (laid w) d i (length (stores groups)) y (omega arith) (omega arith))
 
-  all-landed : GivesNew (after v d t r)
-      × ((inStep (copyFrom Front v (after v d t r)) (copyFrom Back v (after v d t r)) ≡ true)
-      × ((w : Side) → (recordIn (copyFrom w v (after v d t r)) ≡ r) × (timeOf (heldIn (copyFrom w v (after v d t r))) ≡ t)))
-  all-landed = (
-    gives-both (after v d t r) after-sound (has-landed Front) (has-landed Back),
-    (
-      held-in-step (has-landed Front) (has-landed Back) (sized-copies v (after v d t r) (after v d t r) after-sound after-sound) new-new (same-time-refl t),
-      λ w. (its-record (has-landed w) .0, ap timeOf (its-record (has-landed w) .1)),
-    ),
-  )
+  all-landed : GivesNew (after v d t r) × InStepOn (copyFrom Front v (after v d t r)) (copyFrom Back v (after v d t r)) t r
+  all-landed =
+      let z : sized (copyFrom Front v (after v d t r)) (copyFrom Back v (after v d t r)) ≡ true =
+      sized-copies v (after v d t r) (after v d t r) after-sound after-sound in
+      (agree-gives (has-landed Front) (has-landed Back) z new-new t refl refl, agree-in-step (has-landed Front) (has-landed Back) z new-new t refl refl)
 
   -- the stores that the plan gives
   sectors-fit : v .sectors < 256 ^ 8

@@ -1,8 +1,8 @@
 -- What discovery gives where a copy holds a record and the other does, or is refused. Assumes nothing.
-use Prim.Native.Nat.{ℕ, _+_, _≤_}
+use Prim.Native.Nat.{ℕ, _+_}
 use mathlib.Core.Path.{_≡_, refl, sym, ap, ap₂, _∙_}
-use mathlib.Core.Bool.{Bool, true, false, cond, _&&_}
-use mathlib.Core.List.{List, _++_}
+use mathlib.Core.Bool.{Bool, true, cond}
+use mathlib.Core.List.{List}
 use native.Mathlib.Omega.{arith}
 use lib.ListN.{length, take, drop}
 use lib.Seq.{take-at}
@@ -21,14 +21,13 @@ use Rattle.block.specs.declared.Verdict.the-variants as Verdict
 use Rattle.block.specs.Entry.{laterThan, sameTime, timeOf}
 use Rattle.block.proofs.Times.{later-asym, later-differs}
 use Rattle.discovery.specs.declared.Present.{Present}
-use Rattle.discovery.specs.declared.Record.{Record}
 use Rattle.discovery.specs.declared.Other.{Other}
 use Rattle.discovery.specs.declared.Other.the-variants.{Both, One}
 use Rattle.discovery.specs.declared.Answer.{Answer}
 use Rattle.discovery.specs.declared.Answer.the-variants.{Found, Refused}
-use Rattle.discovery.specs.Copy.{areaBytes, present, readingIn}
-use Rattle.discovery.specs.Discovery.{recordAt, aloneOf, newestOf, togetherOf, sameDevice, sameUuids, decide, sized, discovery, copyOn, recordBytes, readAnswer, readBytes}
-use Rattle.discovery.proofs.Deciding.{decide-back, decide-front, decide-same, discovery-sized}
+use Rattle.discovery.specs.Copy.{areaBytes, readingIn}
+use Rattle.discovery.specs.Discovery.{recordAt, aloneOf, newestOf, togetherOf, sameDevice, sameUuids, decide, sized, discovery, copyOn, readBytes}
+use Rattle.discovery.proofs.Deciding.{decide-same, discovery-sized}
 use Rattle.discovery.proofs.Found.{with-room}
 use Rattle.update.specs.Demand.{Gives}
 use Rattle.update.proofs.Holding.{Holds, its-present}

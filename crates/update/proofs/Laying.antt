@@ -1,6 +1,6 @@
 -- A record laid into a lent copy. Assumes nothing.
-use Prim.Native.Nat.{ℕ, _+_, _-_, _*_, _/_, _≤_, _<_}
-use mathlib.Core.Path.{_≡_, refl, sym, ap, ap₂, _∙_}
+use Prim.Native.Nat.{ℕ, _+_, _-_, _*_, _/_, _≤_}
+use mathlib.Core.Path.{_≡_, sym, ap, ap₂, _∙_}
 use mathlib.Core.Bool.{Bool, true, false, cond, not}
 use mathlib.Core.List.{List, _++_}
 use native.Mathlib.Omega.{arith}
@@ -17,10 +17,10 @@ use Rattle.layout.specs.Limits.{recordLimit, lengthAllowed}
 use Rattle.layout.specs.Places.{areaOffset, copyBytes}
 use Rattle.layout.proofs.Laws.{length-facts}
 use Rattle.device.specs.Device.{areaSectors}
-use Rattle.device.proofs.Copies.{limit-sectors, limit-small}
+use Rattle.device.proofs.Copies.{limit-sectors}
 use Rattle.update.specs.Update.{sectorsOf}
 use Rattle.update.specs.Plan.{layTests, laid}
-use Rattle.update.proofs.Padding.{sectors-most, sectors-enough, zeros-begun}
+use Rattle.update.proofs.Padding.{sectors-most, zeros-begun}
 use Rattle.update.proofs.OneCopy.{area-fits}
 
 -- a refused record changes nothing

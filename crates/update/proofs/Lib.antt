@@ -14,3 +14,4 @@ pub mod Number
 pub mod Choosing
 pub mod Planning
 pub mod Laying
+pub mod Agreeing

@@ -1,17 +1,16 @@
 -- A block that is written again with other entries is accepted; and so is the new block of a copy. Assumes nothing.
-use Prim.Native.Nat.{ℕ, _+_, _^_, _≤_, _<_}
-use mathlib.Core.Path.{_≡_, refl, sym, ap, ap₂, subst, _∙_}
+use Prim.Native.Nat.{ℕ, _+_, _^_, _<_}
+use mathlib.Core.Path.{_≡_, refl, sym, ap, subst, _∙_}
 use mathlib.Core.Bool.{Bool, true, false, cond, not, _&&_}
 use mathlib.Core.List.{List}
 use native.Mathlib.Omega.{arith}
-use borrow.Author.Tests.{le-leb, leb-true, eq-eqb}
+use borrow.Author.Tests.{eq-eqb}
 use lib.Dec.{leb, eqb}
 use lib.ListN.{length}
-use Rattle.endian.specs.Bytes.{le, window, all}
+use Rattle.endian.specs.Bytes.{window}
 use Rattle.endian.proofs.Numbers.{le-bound}
 use Rattle.endian.proofs.Parts.{length-window, length-window-fits}
 use Rattle.endian.proofs.Tests.{and-left, and-right, and-both}
-use Rattle.checksum.specs.Crc as Crc
 use Rattle.checksum.proofs.Laws.{checksum-below}
 use Rattle.refusal.specs.Tests.{first, AllHold}
 use Rattle.refusal.proofs.Order.{first-zero, first-all}
@@ -24,15 +23,14 @@ use Rattle.block.specs.declared.Holding.{Holding}
 use Rattle.block.specs.declared.Entry.{Entry}
 use Rattle.block.specs.declared.Entry.the-variants.{Unused, Used}
 use Rattle.block.specs.declared.BlockFields.{BlockFields}
-use Rattle.block.specs.declared.Reading.{Reading}
 use Rattle.block.specs.declared.Verdict.the-variants as Verdict
-use Rattle.block.specs.Entry.{laterThan, sameTime, timeOf, entryOf, entryAllowed, differentTimes, entriesAllowed}
+use Rattle.block.specs.Entry.{laterThan, timeOf, entryOf, entryAllowed, differentTimes, entriesAllowed}
 use Rattle.block.specs.Block.{number, deviceOf, poolOf, uuidOf, entryAt, fieldsOf, limitTests, readTests, reading}
-use Rattle.block.specs.Writing.{holdingOf, blockOf, writeTests, written}
+use Rattle.block.specs.Writing.{blockOf, writeTests, written}
 use Rattle.block.specs.Demand.{EntryFits}
 use Rattle.block.proofs.Readings.{ascending, accepted-length}
 use Rattle.block.proofs.Written.{written-accepted}
-use Rattle.block.proofs.RoundTrip.{read-back, read-fields}
+use Rattle.block.proofs.RoundTrip.{read-back}
 use Rattle.block.proofs.Times.{later-differs, later-differs-back}
 use Rattle.discovery.specs.Copy.{blockIn, entryIn, otherArea, newest}
 use Rattle.update.specs.Update.{holdingFor, withEntry, spare, newBlock}

@@ -1,19 +1,17 @@
 -- One copy of a device after a cut: it holds the old record where its block is old, the new one where its block is new and
 -- the area has landed. Assumes nothing.
 use Prim.Native.Nat.{ℕ, suc, _+_, _-_, _*_, _^_, _≤_, _<_}
-use mathlib.Core.Path.{_≡_, refl, sym, ap, ap₂, _∙_}
-use mathlib.Core.Bool.{Bool, true}
+use mathlib.Core.Path.{_≡_, refl, sym, ap, _∙_}
+use mathlib.Core.Bool.{true}
 use mathlib.Core.List.{List}
 use native.Mathlib.Omega.{arith}
-use borrow.Author.Tests.{eqb-true, leb-true}
-use lib.Dec.{leb, eqb}
+use borrow.Author.Tests.{eqb-true}
+use lib.Dec.{leb}
 use lib.ListN.{length, take}
-use Rattle.endian.specs.Bytes.{window}
 use Rattle.endian.proofs.Parts.{length-window-fits}
-use Rattle.endian.proofs.Tests.{and-left, and-right}
+use Rattle.endian.proofs.Tests.{and-left}
 use Rattle.checksum.specs.Crc as Crc
-use Rattle.refusal.specs.Tests.{first, AllHold}
-use Rattle.refusal.proofs.Order.{first-zero}
+use Rattle.refusal.specs.Tests.{first}
 use Rattle.layout.specs.declared.Device.{Device}
 use Rattle.layout.specs.declared.Side.{Side}
 use Rattle.layout.specs.declared.Side.the-variants.{Front, Back}
@@ -25,14 +23,13 @@ use Rattle.layout.proofs.Laws.{length-facts}
 use Rattle.block.specs.declared.Time.{Time}
 use Rattle.block.specs.declared.Holding.{Holding}
 use Rattle.block.specs.declared.Entry.{Entry}
-use Rattle.block.specs.declared.Entry.the-variants.{Unused, Used}
+use Rattle.block.specs.declared.Entry.the-variants.{Used}
 use Rattle.block.specs.declared.BlockFields.{BlockFields}
 use Rattle.block.specs.declared.Verdict.the-variants as Verdict
-use Rattle.block.specs.Entry.{laterThan, timeOf, entryAllowed, differentTimes}
+use Rattle.block.specs.Entry.{laterThan, timeOf, entryAllowed}
 use Rattle.block.specs.Block.{poolOf, uuidOf, fieldsOf, readTests, reading}
-use Rattle.block.specs.Writing.{holdingOf}
-use Rattle.block.proofs.Readings.{ascending, accepted-reading}
-use Rattle.discovery.specs.Copy.{blockIn, areaBytes, entryIn, otherArea, wholeEntry, whole, newest, readingIn}
+use Rattle.block.proofs.Readings.{accepted-reading}
+use Rattle.discovery.specs.Copy.{blockIn, entryIn, wholeEntry, whole, newest}
 use Rattle.device.specs.Device.{Sectors, Sound, gather, areaSectors, copyFrom}
 use Rattle.device.proofs.Copies.{limit-sectors, length-copy, copy-block, copy-area, gather-same}
 use Rattle.update.specs.Update.{sectorsOf, sectorOf, holdingFor, withEntry, spare, newBlock}

@@ -1,14 +1,14 @@
 -- A record's sectors, one after the other, begin with the record. Assumes nothing.
-use Prim.Native.Nat.{ℕ, zero, suc, _+_, _-_, _*_, _/_, _≤_, _<_}
+use Prim.Native.Nat.{ℕ, zero, suc, _+_, _-_, _*_, _≤_, _<_}
 use mathlib.Core.Path.{_≡_, refl, sym, ap, ap₂, _∙_}
-use mathlib.Core.List.{List, [], _++_, append-assoc}
+use mathlib.Core.List.{List, _++_, append-assoc}
 use native.Mathlib.Decide.{decLe}
-use native.Mathlib.Nat.{add-zero, add-suc, suc-add, le-refl}
+use native.Mathlib.Nat.{add-zero, add-suc, suc-add}
 use native.Mathlib.Omega.{arith}
 use lib.ListN.{length, take, drop, length-append, drop-of-length-le, take-append-drop}
-use lib.Seq.{take-at, take-all, take-append-add, drop-drop, drop-at}
+use lib.Seq.{take-at, take-append-add, drop-drop, drop-at}
 use Rattle.endian.specs.Bytes.{window, zeros, splice}
-use Rattle.endian.proofs.Parts.{window-rest, length-window-fits, length-window, splice-fits}
+use Rattle.endian.proofs.Parts.{window-rest, length-window, splice-fits}
 use Rattle.endian.proofs.Tests.{length-zeros}
 use Rattle.device.specs.Device.{Sectors, gather}
 use Rattle.update.specs.Update.{sectorsOf, sectorOf}

@@ -17,7 +17,7 @@ use Rattle.discovery.specs.declared.Record.{Record}
 use Rattle.discovery.specs.declared.Other.{Other}
 use Rattle.discovery.specs.declared.Answer.the-variants.{Found}
 use Rattle.discovery.specs.Copy.{blockIn, areaBytes, entryIn, newest}
-use Rattle.discovery.specs.Discovery.{discovery, inStep, recordBytes, readAnswer, readBytes}
+use Rattle.discovery.specs.Discovery.{discovery, inStep, copyOn, recordBytes, readAnswer, readBytes}
 use Rattle.device.specs.Device.{Sectors, Sound, Groups, stores, storeIn, groupStart, CutIn, allLanded, copyFrom}
 use Rattle.update.specs.declared.Plan.{Plan}
 use Rattle.update.specs.declared.Planned.the-variants.{Ready}
@@ -44,6 +44,10 @@ heldIn c = holdingOf (entryIn (fieldsOf (blockIn c)) (newest (fieldsOf (blockIn 
 
 abbrev pub recordIn : List ℕ → List ℕ
 recordIn c = areaBytes c (newest (fieldsOf (blockIn c))) (heldIn c .bytes)
+
+-- In step on a record: in step, and it is the present record of both.
+abbrev pub InStepOn : List ℕ → List ℕ → Time → List ℕ → Type 0
+InStepOn f b t r = (inStep f b ≡ true) × ((s : Side) → (recordIn (copyOn s f b) ≡ r) × (timeOf (heldIn (copyOn s f b)) ≡ t))
 
 -- any two copies in step, read from the device where their own S and L place them, and any update that is not refused
 pub record Start (v : Device) (d : Sectors) (t : Time) (r : List ℕ) : Type 0 where
@@ -88,8 +92,7 @@ abbrev pub Landing : Type 0
 Landing =
     (v : Device) (d : Sectors) (t : Time) (r : List ℕ) → Start v d t r
     → Gives (copyFrom Front v (after v d t r)) (copyFrom Back v (after v d t r)) t r
-    × ((inStep (copyFrom Front v (after v d t r)) (copyFrom Back v (after v d t r)) ≡ true)
-    × ((s : Side) → (recordIn (copyFrom s v (after v d t r)) ≡ r) × (timeOf (heldIn (copyFrom s v (after v d t r))) ≡ t)))
+    × InStepOn (copyFrom Front v (after v d t r)) (copyFrom Back v (after v d t r)) t r
 
 -- The stores of the plan that `work_out` gives are those that a cut and a landing speak of: the plan is not refused, it has
 -- as many stores, 2k + 2, each is in its group, and each is given with its sector and its 512 bytes.

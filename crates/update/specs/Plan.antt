@@ -1,5 +1,5 @@
 -- What the calls of an update answer: a plan worked out once, and its stores by their number. A plan may be anything a
--- caller makes up; `Demand.Giving` says that the stores of an update's plan are those of `Update.storeOf`. Assumes nothing.
+-- caller makes up; `Demand.Giving` says that the stores of an update's plan are those of `Update.updateGroups`. Assumes nothing.
 use Prim.Native.Nat.{ℕ, _+_, _-_, _*_}
 use mathlib.Core.Bool.{Bool, cond}
 use mathlib.Core.List.{List, [], _∷_, _++_}
