@@ -6,6 +6,7 @@ use mathlib.Core.List.{List}
 use lib.ListN.{length}
 use Rattle.endian.proofs.Tests.{and-both}
 use Rattle.refusal.specs.Tests.{first}
+use Rattle.layout.specs.declared.Device.{Device}
 use Rattle.layout.specs.declared.Area.{Area}
 use Rattle.layout.specs.declared.Area.the-variants.{A, B}
 use Rattle.block.specs.declared.Holding.{Holding}
@@ -79,7 +80,7 @@ module _ (c : List ℕ) (ok : first (readTests (blockIn c)) ≡ 0) where
       like-written = again-written (blockIn c) ok g (k .same) (k .allowed) (k .fits-a) (k .fits-b) out room
 
 -- which entry is the newest where one is unused
-pub newest-filled : (v : Rattle.layout.specs.declared.Device.Device) (e : Entry) → newest (refilled v e) ≡ A
+pub newest-filled : (v : Device) (e : Entry) → newest (refilled v e) ≡ A
 unfolding newest
 newest-filled v e = refl
 

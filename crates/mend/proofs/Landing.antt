@@ -4,6 +4,7 @@ use mathlib.Core.Path.{_≡_, refl, sym, ap, subst, _∙_}
 use mathlib.Core.Bool.{Bool, true, false, true≢false}
 use mathlib.Core.Logic.{_⊎_, inl, inr}
 use mathlib.Core.List.{List}
+use native.Mathlib.Decide.{decLe}
 use native.Mathlib.Nat.{zero-add}
 use native.Mathlib.Omega.{arith}
 use lib.ListN.{length, take}
@@ -167,7 +168,7 @@ module _ (w : Side) (v : Device) (d : Sectors) (sd : Sound d) (placed : deviceIn
       go : (j : ℕ) → near (otherSide w) v (st (suc j) .sector) ⊎ ((suc j ≡ suc (suc k)) × ((laterWhole c ≡ false) × (st (suc j) .sector ≡ blockSector w v)))
           → near (otherSide w) v (st (suc j) .sector) → suc j < all → j ≤ 0 + k
       go j (inl p) q l =
-          elim (native.Mathlib.Decide.decLe j (0 + k)) [
+          elim (decLe j (0 + k)) [
             | yes a ↦ a
             | no a ↦ absurd (far j (which w c x r (suc j) l) (omega arith) q)
           ]

@@ -5,3 +5,5 @@ pub mod Kept
 pub mod Stores
 pub mod Blocks
 pub mod Landing
+pub mod Giving
+pub mod Demand

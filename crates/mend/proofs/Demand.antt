@@ -1,0 +1,209 @@
+-- What mending promises of the device, proved. Assumes nothing.
+use Prim.Native.Nat.{ℕ, suc, _+_, _≤_, _<_}
+use mathlib.Core.Path.{_≡_, refl, sym, ap, subst, _∙_}
+use mathlib.Core.Bool.{Bool, true, false, cond}
+use mathlib.Core.Logic.{_⊎_, inl, inr}
+use mathlib.Core.List.{List, []}
+use native.Mathlib.Nat.{not-suc-le-zero}
+use native.Mathlib.Omega.{arith}
+use lib.ListN.{length}
+use Rattle.layout.specs.declared.Device.{Device}
+use Rattle.layout.specs.declared.Side.{Side}
+use Rattle.layout.specs.declared.Side.the-variants.{Front, Back}
+use Rattle.layout.specs.declared.Area.{Area}
+use Rattle.layout.specs.declared.Area.the-variants.{A}
+use Rattle.layout.specs.Places.{blockSector, areaSector}
+use Rattle.block.specs.declared.Time.{Time}
+use Rattle.block.specs.declared.Holding.{Holding}
+use Rattle.block.specs.declared.Entry.the-variants.{Unused}
+use Rattle.block.specs.declared.BlockFields.{BlockFields}
+use Rattle.block.specs.Entry.{timeOf}
+use Rattle.block.specs.Block.{poolOf, uuidOf, fieldsOf}
+use Rattle.discovery.specs.declared.Record.{Record}
+use Rattle.discovery.specs.declared.Other.{Other}
+use Rattle.discovery.specs.declared.Other.the-variants.{Both}
+use Rattle.discovery.specs.declared.Answer.{Answer}
+use Rattle.discovery.specs.declared.Answer.the-variants.{Found}
+use Rattle.discovery.specs.Copy.{blockIn, otherSide, newest}
+use Rattle.discovery.specs.Discovery.{recordAt, sameDevice, inStep, copyOn, recordBytes}
+use Rattle.discovery.specs.Newest.{timeAt}
+use Rattle.device.specs.Device.{Sectors, Sound, Store, Groups, stores, storeIn, landed, allLanded, copyFrom}
+use Rattle.update.specs.Update.{sectorsOf}
+use Rattle.update.specs.Demand.{Gives, InStepOn, heldIn, recordIn}
+use Rattle.update.proofs.Holding.{Holds}
+use Rattle.update.proofs.NewBlock.{device-kept}
+use Rattle.update.proofs.InStep.{Stepped, in-step-facts, same-device-test}
+use Rattle.update.proofs.OneCopy.{old-held}
+use Rattle.update.proofs.Places.{Sizes, sizes-accepted}
+use Rattle.update.proofs.Facts.{renamed, same-time-is, sized-copies}
+use Rattle.update.proofs.Agreeing.{found-front, agree-gives, agree-in-step}
+use Rattle.mend.specs.Mend.{laterWhole, rewriting, groupsAfter, mendGroups}
+use Rattle.mend.specs.Demand.{State, after, foundIn, Landing, Touching}
+use Rattle.mend.proofs.Kept.{Kept, held, kept, found-time, found-long}
+use Rattle.mend.proofs.Stores.{which}
+use Rattle.mend.proofs.Landing.{first-at, sector-at, second-at, last-at, end-sound, other-holds, kept-whole, kept-blank}
+
+-- the copy of a side
+side-copy : (v : Device) (d : Sectors) (s : Side) → copyOn s (copyFrom Front v d) (copyFrom Back v d) ≡ copyFrom s v d
+side-copy v d Front = refl
+side-copy v d Back = refl
+
+-- discovery gives a record with its time, and the copies are in step on it
+abbrev Done : Device → Sectors → Time → List ℕ → Type 0
+Done v e t r = Gives (copyFrom Front v e) (copyFrom Back v e) t r × InStepOn (copyFrom Front v e) (copyFrom Back v e) t r
+
+-- both sides hold the record, whichever is called which
+both-hold : (v : Device) (e : Sectors) → Sound e → (w : Side) {g j : BlockFields} {p u : List ℕ} {x y : Area} {h : Holding} {r : List ℕ}
+    → Holds (copyFrom w v e) g p u x h r → Holds (copyFrom (otherSide w) v e) j p u y h r → g .device ≡ j .device → Done v e (timeOf h) r
+both-hold v e se Front {g} {j} {p} {u} {x} {y} {h} m n i = (
+  agree-gives m n (sized-copies v e e se se) (same-device-test g j i) (timeOf h) refl refl,
+  agree-in-step m n (sized-copies v e e se se) (same-device-test g j i) (timeOf h) refl refl,
+)
+both-hold v e se Back {g} {j} {p} {u} {x} {y} {h} m n i = (
+  agree-gives n m (sized-copies v e e se se) (same-device-test j g (sym i)) (timeOf h) refl refl,
+  agree-in-step n m (sized-copies v e e se se) (same-device-test j g (sym i)) (timeOf h) refl refl,
+)
+
+found-same : (q p : Record) (o n : Other) → Found q o ≡ Found p n → q ≡ p
+found-same q p o n e = cc
+
+module _ (v : Device) (d : Sectors) (q : Record) (s : State v d q) where
+  abbrev f : List ℕ
+  f = copyFrom Front v d
+
+  abbrev b : List ℕ
+  b = copyFrom Back v d
+
+  abbrev r : List ℕ
+  r = recordBytes q f b
+
+  abbrev h : Holding
+  h = held f b q (s .other) (s .answers)
+
+  abbrev c : List ℕ
+  c = copyFrom (q .side) v d
+
+  itself : Kept c (q .area) h r
+  itself = subst (λ (z : List ℕ). Kept z (q .area) h r) (side-copy v d (q .side)) (kept f b q (s .other) (s .answers))
+
+  big : 8 ≤ v .sectors
+  big =
+      let z : Sizes v = subst Sizes (s .placed) (sizes-accepted (blockIn c) (itself .accepted)) in
+      let a : 2097152 ≤ v .sectors = z .sectors in
+      omega arith
+
+  -- its groups
+  groups : mendGroups f b ≡ cond (inStep f b) [] (rewriting (q .side) c (q .area) r)
+  unfolding mendGroups
+  groups =
+      ap (λ (a : Answer). groupsAfter a f b) (s .answers)
+      ∙ ap (λ (z : List ℕ). cond (inStep f b) [] (rewriting (q .side) z (q .area) r)) (side-copy v d (q .side))
+
+  -- not in step: the stores have landed
+  rewritten : Done v (allLanded (rewriting (q .side) c (q .area) r) d) (timeAt q) r
+  rewritten =
+      subst (λ (t : Time). Done v (allLanded (rewriting (q .side) c (q .area) r) d) t r) (sym (found-time f b q (s .other) (s .answers)))
+      (go (laterWhole c) refl)
+    where
+      go : (t : Bool) → laterWhole c ≡ t → Done v (allLanded (rewriting (q .side) c (q .area) r) d) (timeOf h) r
+      go true n =
+          both-hold v (allLanded (rewriting (q .side) c (q .area) r) d) (end-sound (q .side) v d (s .sound) (s .placed) (q .area) h r itself) (q .side)
+          (kept-whole (q .side) v d (s .sound) (s .placed) (q .area) h r itself n) (other-holds (q .side) v d (s .sound) (s .placed) (q .area) h r itself) refl
+      go false n =
+          both-hold v (allLanded (rewriting (q .side) c (q .area) r) d) (end-sound (q .side) v d (s .sound) (s .placed) (q .area) h r itself) (q .side)
+          (kept-blank (q .side) v d (s .sound) (s .placed) (q .area) h r itself n) (other-holds (q .side) v d (s .sound) (s .placed) (q .area) h r itself)
+          (device-kept (fieldsOf (blockIn c)) (newest (fieldsOf (blockIn c))) Unused)
+
+  -- in step: nothing is stored
+  module _ (i : inStep f b ≡ true) where
+    stepped : Stepped f b
+    stepped = in-step-facts f b i
+
+    front : Holds f (fieldsOf (blockIn f)) (poolOf (blockIn f)) (uuidOf (blockIn f)) (newest (fieldsOf (blockIn f))) (heldIn f) (recordIn f)
+    front = old-held Front v d (s .sound) big (stepped .front) (stepped .front-whole) d (s .sound) refl (λ n l. refl)
+
+    back : Holds b (fieldsOf (blockIn b)) (poolOf (blockIn f)) (uuidOf (blockIn f)) (newest (fieldsOf (blockIn b))) (heldIn b) (recordIn f)
+    back =
+        subst (λ (z : List ℕ). Holds b (fieldsOf (blockIn b)) (poolOf (blockIn f)) (uuidOf (blockIn f)) (newest (fieldsOf (blockIn b))) (heldIn b) z)
+        (sym (stepped .records))
+        (renamed (sym (stepped .pool)) (sym (stepped .uuid))
+        (old-held Back v d (s .sound) big (stepped .back) (stepped .back-whole) d (s .sound) refl (λ n l. refl)))
+
+    one-time : timeOf (heldIn b) ≡ timeOf (heldIn f)
+    one-time = sym (same-time-is (timeOf (heldIn f)) (timeOf (heldIn b)) (stepped .times))
+
+    -- what discovery found is the front's
+    is-front : q ≡ recordAt Front (newest (fieldsOf (blockIn f))) (heldIn f)
+    is-front =
+        found-same q (recordAt Front (newest (fieldsOf (blockIn f))) (heldIn f)) (s .other) Both
+        (sym (s .answers)
+        ∙ found-front front back (stepped .sizes) (same-device-test (fieldsOf (blockIn f)) (fieldsOf (blockIn b)) (stepped .device)) (timeOf (heldIn f)) refl one-time)
+
+    untouched : Done v d (timeAt q) r
+    untouched =
+        let one : sameDevice (fieldsOf (blockIn f)) (fieldsOf (blockIn b)) ≡ true =
+        same-device-test (fieldsOf (blockIn f)) (fieldsOf (blockIn b)) (stepped .device) in
+        subst (λ (z : Record). Done v d (timeAt z) (recordBytes z f b)) (sym is-front) (
+          agree-gives front back (stepped .sizes) one (timeOf (heldIn f)) refl one-time,
+          agree-in-step front back (stepped .sizes) one (timeOf (heldIn f)) refl one-time,
+        )
+
+  done : (t : Bool) → inStep f b ≡ t → Done v (allLanded (cond t [] (rewriting (q .side) c (q .area) r)) d) (timeAt q) r
+  unfolding stores landed
+  done true i = untouched i
+  done false i = rewritten
+
+  all-done : Done v (after v d) (timeAt q) (foundIn v d q)
+  all-done =
+      subst (λ (g : Groups). Done v (allLanded g d) (timeAt q) r) (sym groups) (done (inStep f b) refl)
+
+  -- where a store of the groups g goes
+  abbrev Goes : Groups → ℕ → Type 0
+  Goes g i =
+      (storeIn g i .sector ≡ blockSector (otherSide (q .side)) v)
+      ⊎ (((j : ℕ) × (j < sectorsOf (q .bytes)) × (storeIn g i .sector ≡ areaSector (otherSide (q .side)) A v + j))
+      ⊎ ((i ≡ sectorsOf (q .bytes) + 2) × (storeIn g i .sector ≡ blockSector (q .side) v)))
+
+  sectors : sectorsOf (q .bytes) ≡ sectorsOf (length r)
+  sectors = ap sectorsOf (found-long f b q (s .other) (s .answers))
+
+  goes : (i : ℕ) → i < length (stores (rewriting (q .side) c (q .area) r)) → Goes (rewriting (q .side) c (q .area) r) i
+  goes i l = go (which (q .side) c (q .area) r i l)
+    where
+      go : (i ≡ 0) ⊎ (((j : ℕ) × (j < sectorsOf (length r)) × (i ≡ suc j)) ⊎ ((i ≡ suc (sectorsOf (length r))) ⊎ ((i ≡ suc (suc (sectorsOf (length r)))) × (laterWhole c ≡ false))))
+          → Goes (rewriting (q .side) c (q .area) r) i
+      go (inl e) =
+          inl (ap (λ (n : ℕ). storeIn (rewriting (q .side) c (q .area) r) n .sector) e
+          ∙ ap (λ (z : Store). z .sector) (first-at (q .side) v d (s .sound) (s .placed) (q .area) h r itself))
+      go (inr (inl (j, m, e))) =
+          let k : sectorsOf (q .bytes) ≡ sectorsOf (length r) = sectors in
+          inr (inl (
+            j,
+            omega arith,
+            ap (λ (n : ℕ). storeIn (rewriting (q .side) c (q .area) r) n .sector) e
+                ∙ ap (λ (z : Store). z .sector) (sector-at (q .side) v d (s .sound) (s .placed) (q .area) h r itself j m),
+          ))
+      go (inr (inr (inl e))) =
+          inl (ap (λ (n : ℕ). storeIn (rewriting (q .side) c (q .area) r) n .sector) e
+          ∙ ap (λ (z : Store). z .sector) (second-at (q .side) v d (s .sound) (s .placed) (q .area) h r itself))
+      go (inr (inr (inr (e, n)))) =
+          let k : sectorsOf (q .bytes) ≡ sectorsOf (length r) = sectors in
+          inr (inr (
+            omega arith,
+            ap (λ (n : ℕ). storeIn (rewriting (q .side) c (q .area) r) n .sector) e
+                ∙ ap (λ (z : Store). z .sector) (last-at (q .side) v d (s .sound) (s .placed) (q .area) h r itself n),
+          ))
+
+  by-step : (t : Bool) (i : ℕ) → i < length (stores (cond t [] (rewriting (q .side) c (q .area) r))) → Goes (cond t [] (rewriting (q .side) c (q .area) r)) i
+  unfolding stores
+  by-step true i l = absurd (not-suc-le-zero l)
+  by-step false i l = goes i l
+
+  touches : (i : ℕ) → i < length (stores (mendGroups f b)) → Goes (mendGroups f b) i
+  touches = subst (λ (g : Groups). (i : ℕ) → i < length (stores g) → Goes g i) (sym groups) (by-step (inStep f b))
+
+pub landing : Landing
+landing v d q s = all-done v d q s
+
+pub touching : Touching
+touching v d q s = touches v d q s

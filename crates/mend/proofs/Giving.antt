@@ -1,0 +1,263 @@
+-- What the calls of a mend give is what its groups have. Assumes nothing.
+use Prim.Native.Nat.{ℕ, zero, suc, _+_, _-_, _*_, _^_, _≤_, _<_}
+use mathlib.Core.Path.{_≡_, refl, sym, ap, ap₂, subst, _∙_}
+use mathlib.Core.Bool.{Bool, true, false, cond}
+use mathlib.Core.Logic.{_⊎_, inl, inr}
+use mathlib.Core.List.{List, [], _∷_, map}
+use native.Mathlib.Nat.{not-suc-le-zero, add-zero}
+use native.Mathlib.Decide.{decLe}
+use native.Mathlib.Omega.{arith}
+use lib.ListN.{length, take}
+use Rattle.refusal.specs.Numbers.{noStore}
+use Rattle.layout.specs.declared.Area.the-variants.{A}
+use Rattle.layout.specs.Limits.{recordLimit}
+use Rattle.layout.specs.Places.{blockSector, areaSector}
+use Rattle.block.specs.declared.BlockFields.{BlockFields}
+use Rattle.block.specs.Block.{fieldsOf}
+use Rattle.discovery.specs.declared.Record.{Record}
+use Rattle.discovery.specs.declared.Other.{Other}
+use Rattle.discovery.specs.declared.Answer.{Answer}
+use Rattle.discovery.specs.declared.Answer.the-variants as Answer
+use Rattle.discovery.specs.Copy.{blockIn, otherSide}
+use Rattle.discovery.specs.Discovery.{discovery, inStep, copyOn, recordBytes}
+use Rattle.device.specs.Device.{Store, Groups, stores, storeIn, groupStart, areaSectors}
+use Rattle.device.proofs.Copies.{limit-sectors, limit-small}
+use Rattle.device.proofs.Groups.{total}
+use Rattle.update.specs.declared.Given.{Given}
+use Rattle.update.specs.declared.Given.the-variants as Given
+use Rattle.update.specs.Update.{deviceIn, sectorsOf}
+use Rattle.update.specs.Plan.{blockAnswer, blockBytes, partAnswer, partBytes}
+use Rattle.update.proofs.NewBlock.{number-fits}
+use Rattle.update.proofs.Padding.{sectors-most}
+use Rattle.update.proofs.Places.{Sizes, sizes-accepted, area-below}
+use Rattle.update.proofs.Choosing.{block-given, area-given, part-given}
+use Rattle.mend.specs.declared.Last.{Last}
+use Rattle.mend.specs.declared.Last.the-variants as Last
+use Rattle.mend.specs.declared.Rewrite.{Rewrite}
+use Rattle.mend.specs.declared.Mending.{Mending}
+use Rattle.mend.specs.declared.Mending.the-variants as Mending
+use Rattle.mend.specs.Mend.{blockLike, blanked, laterWhole, rewriting, groupsAfter, mendGroups}
+use Rattle.mend.specs.Plan.{rewriteOf, mendingAfter, mending, lastCount, storesIn, groupIn, groupOf, lastAnswer, lastBytes, rewriteAnswer, rewriteBytes, mendAnswer, mendBytes, storeAnswer, storeBytes}
+use Rattle.mend.specs.Demand.{Giving}
+use Rattle.mend.proofs.Choosing.{right-size, first-store, part-store, last-stored, no-such, in-first, in-record, in-second, in-last}
+use Rattle.mend.proofs.Kept.{Kept, held, kept, found-long}
+use Rattle.mend.proofs.Stores.{filledBlock, at-first, at-sector, at-second, at-last, last-none, last-one, count-whole, count-blank, group-starts, which}
+use Rattle.mend.proofs.Blocks.{Right, right-empty, right-filled, right-blank, like-writes, like-written}
+
+-- what is given of a mend m is what the groups gs have
+abbrev Agrees : List ℕ → List ℕ → Mending → Groups → Type 0
+Agrees f b m gs =
+    (storesIn m ≡ length (stores gs))
+    × (((g i : ℕ) → g < 4 → groupStart gs g ≤ i → i < groupStart gs (suc g) → groupOf m i ≡ g)
+    × (((i : ℕ) (out : List ℕ) → i < length (stores gs) → length out ≡ 512
+    → (storeAnswer m f b i out ≡ Given.At (storeIn gs i .sector)) × (storeBytes m f b i out ≡ storeIn gs i .content))
+    × ((i : ℕ) (out : List ℕ) → length (stores gs) ≤ i → length out ≡ 512
+    → (storeAnswer m f b i out ≡ Given.Refused noStore) × (storeBytes m f b i out ≡ out))))
+
+-- nothing to store
+starts-none : (g : ℕ) → groupStart [] g ≡ 0
+unfolding groupStart stores
+starts-none zero = refl
+starts-none (suc g) = refl
+
+nothing : (f b : List ℕ) (m : Mending) → storesIn m ≡ 0 → ((i : ℕ) (out : List ℕ) → (mendAnswer m f b i out ≡ Given.Refused noStore) × (mendBytes m f b i out ≡ out))
+    → Agrees f b m []
+unfolding stores
+nothing f b m e h = (
+  e,
+  (
+    λ g i l p q. absurd (not-suc-le-zero (subst (λ (n : ℕ). i < n) (starts-none (suc g)) q)),
+    (
+      λ i out l room. absurd (not-suc-le-zero l),
+      λ i out l room.
+          let a : (mendAnswer m f b i out ≡ storeAnswer m f b i out) × (mendBytes m f b i out ≡ storeBytes m f b i out) =
+          right-size m f b i out room _ _ m refl refl refl in
+          (sym (a .0) ∙ h i out .0, sym (a .1) ∙ h i out .1),
+    ),
+  ),
+)
+
+-- a copy is kept
+module _ (f b : List ℕ) (q : Record) (o : Other) (e : discovery f b ≡ Answer.Found q o) where
+  abbrev c : List ℕ
+  c = copyOn (q .side) f b
+
+  abbrev fields : BlockFields
+  fields = fieldsOf (blockIn c)
+
+  abbrev r : List ℕ
+  r = recordBytes q f b
+
+  abbrev k : ℕ
+  k = sectorsOf (length r)
+
+  abbrev p : Rewrite
+  p = rewriteOf c q
+
+  abbrev gs : Groups
+  gs = rewriting (q .side) c (q .area) r
+
+  itself : Kept c (q .area) (held f b q o e) r
+  itself = kept f b q o e
+
+  -- as many sectors as the plan says
+  filled : p .sectors ≡ k
+  filled = ap sectorsOf (found-long f b q o e)
+
+  sizes : Sizes (deviceIn c)
+  sizes = sizes-accepted (blockIn c) (itself .accepted)
+
+  tiny : k ≤ 1020
+  tiny =
+      let l : held f b q o e .bytes ≤ recordLimit = itself .small in
+      let n : held f b q o e .bytes ≡ length r = itself .long in
+      let m : areaSectors * 512 ≡ recordLimit = limit-sectors in
+      let a : areaSectors ≤ 1020 = limit-small in
+      let s : k ≤ areaSectors = sectors-most (length r) areaSectors (omega arith) in
+      omega arith
+
+  last-absent : laterWhole c ≡ true → p .last ≡ Last.Absent
+  last-absent h = ap (λ (t : Bool). cond t Last.Absent (Last.Blank (blockSector (q .side) (deviceIn c)) (blanked fields))) h
+
+  last-there : laterWhole c ≡ false → p .last ≡ Last.Blank (blockSector (q .side) (deviceIn c)) (blanked fields)
+  last-there h = ap (λ (t : Bool). cond t Last.Absent (Last.Blank (blockSector (q .side) (deviceIn c)) (blanked fields))) h
+
+  counted : storesIn (Mending.Needed p) ≡ length (stores gs)
+  counted = go (laterWhole c) refl
+    where
+      go : (t : Bool) → laterWhole c ≡ t → storesIn (Mending.Needed p) ≡ length (stores gs)
+      go true h =
+          ap₂ (λ (n : ℕ) (l : Last). n + 2 + lastCount l) filled (last-absent h)
+          ∙ (add-zero (k + 2) ∙ sym (count-whole (q .side) c (q .area) r h))
+      go false h =
+          ap₂ (λ (n : ℕ) (l : Last). n + 2 + lastCount l) filled (last-there h)
+          ∙ ((let z : k + 2 + 1 ≡ k + 3 = omega arith in z) ∙ sym (count-blank (q .side) c (q .area) r h))
+
+  -- the group of a store
+  grouped : (g i : ℕ) → g < 4 → groupStart gs g ≤ i → i < groupStart gs (suc g) → groupOf (Mending.Needed p) i ≡ g
+  grouped g i l a b =
+      ap₂ (λ (m n : ℕ). groupIn m n i) filled counted
+      ∙ sym (by-last (laterWhole c) refl)
+    where
+      whole-case : (g : ℕ) → length (stores gs) ≡ k + 2 → g < 4 → total (take g (1 ∷ k ∷ 1 ∷ [])) ≤ i → i < total (take (suc g) (1 ∷ k ∷ 1 ∷ [])) → g ≡ groupIn k (length (stores gs)) i
+      whole-case zero n l a b = in-first k (length (stores gs)) i (omega arith) (omega arith)
+      whole-case (suc zero) n l a b = in-record k (length (stores gs)) i (omega arith) (λ z. omega arith) (omega arith)
+      whole-case (suc (suc zero)) n l a b = in-second k (length (stores gs)) i (omega arith) (λ z. omega arith) (omega arith) (omega arith)
+      whole-case (suc (suc (suc g))) n l a b = absurd (let z : _≡_ {A = ℕ} 0 1 = omega arith in omega arith)
+
+      blank-case : (g : ℕ) → length (stores gs) ≡ k + 3 → g < 4 → total (take g (1 ∷ k ∷ 1 ∷ 1 ∷ [])) ≤ i → i < total (take (suc g) (1 ∷ k ∷ 1 ∷ 1 ∷ [])) → g ≡ groupIn k (length (stores gs)) i
+      blank-case zero n l a b = in-first k (length (stores gs)) i (omega arith) (omega arith)
+      blank-case (suc zero) n l a b = in-record k (length (stores gs)) i (omega arith) (λ z. omega arith) (omega arith)
+      blank-case (suc (suc zero)) n l a b = in-second k (length (stores gs)) i (omega arith) (λ z. omega arith) (omega arith) (omega arith)
+      blank-case (suc (suc (suc zero))) n l a b = in-last k (length (stores gs)) i (omega arith) (λ z. omega arith) (omega arith) (omega arith)
+      blank-case (suc (suc (suc (suc g)))) n l a b = absurd (let z : _≡_ {A = ℕ} 0 1 = omega arith in omega arith)
+
+      by-last : (t : Bool) → laterWhole c ≡ t → g ≡ groupIn k (length (stores gs)) i
+      by-last true h =
+          whole-case g (count-whole (q .side) c (q .area) r h) l
+          (subst (λ (n : ℕ). n ≤ i) (group-starts (q .side) c (q .area) r g ∙ ap (λ (z : Groups). total (take g (1 ∷ k ∷ 1 ∷ map length z))) (last-none (q .side) c (q .area) r h)) a)
+          (subst (λ (n : ℕ). i < n) (group-starts (q .side) c (q .area) r (suc g) ∙ ap (λ (z : Groups). total (take (suc g) (1 ∷ k ∷ 1 ∷ map length z))) (last-none (q .side) c (q .area) r h)) b)
+      by-last false h =
+          blank-case g (count-blank (q .side) c (q .area) r h) l
+          (subst (λ (n : ℕ). n ≤ i) (group-starts (q .side) c (q .area) r g ∙ ap (λ (z : Groups). total (take g (1 ∷ k ∷ 1 ∷ map length z))) (last-one (q .side) c (q .area) r h)) a)
+          (subst (λ (n : ℕ). i < n) (group-starts (q .side) c (q .area) r (suc g) ∙ ap (λ (z : Groups). total (take (suc g) (1 ∷ k ∷ 1 ∷ map length z))) (last-one (q .side) c (q .area) r h)) b)
+
+  module _ (out : List ℕ) (room : length out ≡ 512) where
+    -- a block that a mend stores
+    block-of : (s : ℕ) (g : BlockFields) → Right c g → (blockAnswer s g c out ≡ Given.At s) × (blockBytes g c out ≡ blockLike c g)
+    block-of s g h =
+        block-given s g c out (blockLike c g) (like-writes c (itself .accepted) g h out room) (like-written c (itself .accepted) g h out room)
+
+    -- what the plan's answers are at a number
+    answers : (i : ℕ) (g : Given) (w : List ℕ) → (g ≡ rewriteAnswer p c i out) × (w ≡ rewriteBytes p c i out)
+        → (g ≡ storeAnswer (Mending.Needed p) f b i out) × (w ≡ storeBytes (Mending.Needed p) f b i out)
+    answers i g w h = right-size (Mending.Needed p) f b i out room g w (Mending.Needed p) refl (h .0) (h .1)
+
+    joined : (i : ℕ) (g : Given) (w : List ℕ) (s : Store) → (g ≡ rewriteAnswer p c i out) × (w ≡ rewriteBytes p c i out) → (g ≡ Given.At (s .sector)) × (w ≡ s .content)
+        → storeIn gs i ≡ s
+        → (storeAnswer (Mending.Needed p) f b i out ≡ Given.At (storeIn gs i .sector)) × (storeBytes (Mending.Needed p) f b i out ≡ storeIn gs i .content)
+    joined i g w s h a e =
+        let x : (g ≡ storeAnswer (Mending.Needed p) f b i out) × (w ≡ storeBytes (Mending.Needed p) f b i out) = answers i g w h in
+        (sym (x .0) ∙ (a .0 ∙ ap (λ (z : Store). Given.At (z .sector)) (sym e)), sym (x .1) ∙ (a .1 ∙ ap (λ (z : Store). z .content) (sym e)))
+
+    sectors-fit : deviceIn c .sectors < 256 ^ 8
+    sectors-fit = number-fits (blockIn c) 20 8
+
+    given : (i : ℕ) → i < length (stores gs)
+        → (storeAnswer (Mending.Needed p) f b i out ≡ Given.At (storeIn gs i .sector)) × (storeBytes (Mending.Needed p) f b i out ≡ storeIn gs i .content)
+    given i l = go (which (q .side) c (q .area) r i l)
+      where
+        go : (i ≡ 0) ⊎ (((j : ℕ) × (j < k) × (i ≡ suc j)) ⊎ ((i ≡ suc k) ⊎ ((i ≡ suc (suc k)) × (laterWhole c ≡ false))))
+            → (storeAnswer (Mending.Needed p) f b i out ≡ Given.At (storeIn gs i .sector)) × (storeBytes (Mending.Needed p) f b i out ≡ storeIn gs i .content)
+        go (inl z) =
+            joined i _ _ _ (first-store p c i out _ _ z refl refl) (block-of (p .part .block) (p .empty) (right-empty c (itself .accepted)))
+            (ap (storeIn gs) z ∙ at-first (q .side) c (q .area) r)
+        go (inr (inl (j, h, z))) =
+            let n : p .sectors ≡ k = filled in
+            let m : i - 1 ≡ j = omega arith in
+            let s : k ≤ 1020 = tiny in
+            let a : areaSector (otherSide (q .side)) A (deviceIn c) + j < deviceIn c .sectors = area-below (deviceIn c) sizes (otherSide (q .side)) A j (omega arith) in
+            let y : deviceIn c .sectors < 256 ^ 8 = sectors-fit in
+            let t : areaSector (otherSide (q .side)) A (deviceIn c) ≤ 18446744073709551615 - j = omega arith in
+            joined i _ _ _ (part-store p c i out _ _ (λ u. omega arith) (omega arith) _ _ refl refl refl refl) (
+              ap (λ (u : ℕ). partAnswer (p .part) (p .sectors) c u out) m ∙ area-given (p .part) (p .sectors) c r j out (omega arith) t room .0,
+              ap (λ (u : ℕ). partBytes (p .part) (p .sectors) c r u out) m ∙ area-given (p .part) (p .sectors) c r j out (omega arith) t room .1,
+            )
+            (ap (storeIn gs) z ∙ at-sector (q .side) c (q .area) r j h)
+        go (inr (inr (inl z))) =
+            let n : p .sectors ≡ k = filled in
+            joined i _ _ _ (part-store p c i out _ _ (λ u. omega arith) (omega arith) _ _ refl refl refl refl)
+            (part-given (p .part) (p .sectors) c r (i - 1) out (omega arith) (p .part .block) (filledBlock (q .side) c (q .area) r)
+            (block-of (p .part .block) (p .part .fields) (right-filled c (itself .accepted) (q .area))))
+            (ap (storeIn gs) z ∙ at-second (q .side) c (q .area) r)
+        go (inr (inr (inr (z, h)))) =
+            let n : p .sectors ≡ k = filled in
+            joined i _ _ _ (last-stored p c i out _ _ (λ u. omega arith) (omega arith) (omega arith) refl refl) (
+              ap (λ (u : Last). lastAnswer u c out) (last-there h) ∙ block-of (blockSector (q .side) (deviceIn c)) (blanked fields) (right-blank c (itself .accepted)) .0,
+              ap (λ (u : Last). lastBytes u c out) (last-there h) ∙ block-of (blockSector (q .side) (deviceIn c)) (blanked fields) (right-blank c (itself .accepted)) .1,
+            )
+            (ap (storeIn gs) z ∙ at-last (q .side) c (q .area) r h)
+
+    -- past the last
+    past : (i : ℕ) → length (stores gs) ≤ i → (storeAnswer (Mending.Needed p) f b i out ≡ Given.Refused noStore) × (storeBytes (Mending.Needed p) f b i out ≡ out)
+    past i l =
+        elim (decLe i (p .sectors + 2)) [
+          | yes a ↦ go (laterWhole c) refl a
+          | no a ↦
+              let n : p .sectors ≡ k = filled in
+              let x : (Given.Refused noStore ≡ storeAnswer (Mending.Needed p) f b i out) × (out ≡ storeBytes (Mending.Needed p) f b i out) =
+              answers i (Given.Refused noStore) out (no-such p c i out (omega arith)) in
+              (sym (x .0), sym (x .1))
+        ]
+      where
+        go : (t : Bool) → laterWhole c ≡ t → i ≤ p .sectors + 2
+            → (storeAnswer (Mending.Needed p) f b i out ≡ Given.Refused noStore) × (storeBytes (Mending.Needed p) f b i out ≡ out)
+        go true h a =
+            let n : p .sectors ≡ k = filled in
+            let m : length (stores gs) ≡ k + 2 = count-whole (q .side) c (q .area) r h in
+            let x : (Given.Refused noStore ≡ storeAnswer (Mending.Needed p) f b i out) × (out ≡ storeBytes (Mending.Needed p) f b i out) =
+            answers i (Given.Refused noStore) out
+            (last-stored p c i out _ _ (λ u. omega arith) (omega arith) a (ap (λ (u : Last). lastAnswer u c out) (sym (last-absent h)))
+            (ap (λ (u : Last). lastBytes u c out) (sym (last-absent h)))) in
+            (sym (x .0), sym (x .1))
+        go false h a =
+            let n : p .sectors ≡ k = filled in
+            let m : length (stores gs) ≡ k + 3 = count-blank (q .side) c (q .area) r h in
+            absurd (let z : _≡_ {A = ℕ} 0 1 = omega arith in omega arith)
+
+  needed : Agrees f b (Mending.Needed p) gs
+  needed = (counted, (grouped, (λ i out l room. given out room i l, λ i out l room. past out room i l)))
+
+module _ (f b : List ℕ) where
+  by-answer : (a : Answer) → discovery f b ≡ a → Agrees f b (mendingAfter a f b) (groupsAfter a f b)
+  by-answer (Answer.Refused n) e = nothing f b (Mending.Refused n) refl (λ i out. (refl, refl))
+  by-answer (Answer.Found q o) e = go (inStep f b)
+    where
+      go : (t : Bool) → Agrees f b (cond t Mending.InStep (Mending.Needed (rewriteOf (copyOn (q .side) f b) q)))
+          (cond t [] (rewriting (q .side) (copyOn (q .side) f b) (q .area) (recordBytes q f b)))
+      go true = nothing f b Mending.InStep refl (λ i out. (refl, refl))
+      go false = needed f b q o e
+
+pub giving : Giving
+unfolding mending mendGroups
+giving f b = by-answer f b (discovery f b) refl
