@@ -1,7 +1,7 @@
 -- The stores of a mend: which number goes to which sector. Assumes nothing.
 use Prim.Native.Nat.{ℕ, suc, _+_, _-_, _<_}
 use mathlib.Core.Path.{_≡_, refl, sym, ap, _∙_}
-use mathlib.Core.Bool.{Bool, true, false, cond}
+use mathlib.Core.Bool.{Bool, true, false}
 use mathlib.Core.Logic.{_⊎_, inl, inr}
 use mathlib.Core.List.{List, [], _∷_, _++_, map}
 use native.Mathlib.Decide.{decLe, ℕ-discrete}
@@ -93,7 +93,7 @@ module _ (w : Side) (c : List ℕ) (x : Area) (r : List ℕ) where
   module _ (h : laterWhole c ≡ true) where
     pub last-none : lastGroup w c ≡ []
     unfolding lastGroup
-    last-none = ap (λ (b : Bool). cond b [] (blockStore w (deviceIn c) blankBlock ∷ [])) h
+    last-none = rw h
 
     pub count-whole : length (stores groups) ≡ k + 2
     unfolding stores
@@ -103,7 +103,7 @@ module _ (w : Side) (c : List ℕ) (x : Area) (r : List ℕ) where
   module _ (h : laterWhole c ≡ false) where
     pub last-one : lastGroup w c ≡ blockStore w (deviceIn c) blankBlock ∷ []
     unfolding lastGroup
-    last-one = ap (λ (b : Bool). cond b [] (blockStore w (deviceIn c) blankBlock ∷ [])) h
+    last-one = rw h
 
     pub count-blank : length (stores groups) ≡ k + 3
     unfolding stores

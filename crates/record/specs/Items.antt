@@ -37,7 +37,7 @@ isHead Unknown = false
 unfoldable pub kindKnown : ℕ → Bool
 kindKnown k = isSegment (itemOf k)
 
--- the first item's bytes; its kind decides
+-- the bytes of the first item: 8, with the one kind of head that there is
 unfoldable pub headBytes : List ℕ → ℕ
 headBytes s = 8
 
