@@ -15,8 +15,7 @@ use Rattle.endian.proofs.Tests.{and-both}
 use Rattle.block.specs.declared.BlockFields.{BlockFields}
 use Rattle.block.specs.declared.Reading.{Reading}
 use Rattle.block.specs.declared.Verdict.the-variants as Verdict
-use Rattle.block.specs.Block.{poolOf, uuidOf, fieldsOf, readTests, reading, acceptedReading, refusedReading}
-use Rattle.block.specs.Accepted.{Accepted}
+use Rattle.block.specs.Block.{poolOf, uuidOf, fieldsOf, readTests, reading, refusedReading}
 use Rattle.block.specs.Writing.{writeTests}
 use Rattle.block.specs.Demand.{Exactly, Lowest, WriteAfterRead, ReadAfterWrite}
 use Rattle.block.proofs.Readings.{refused-reading, accepted-reading, ascending}

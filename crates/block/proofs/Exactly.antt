@@ -1,28 +1,27 @@
 -- A block is accepted exactly when it obeys the table and the limits, and a refusal is the lowest number that applies.
 -- Assumes nothing.
-use Prim.Native.Nat.{ℕ, _+_, _%_, _≤_, _<_}
+use Prim.Native.Nat.{ℕ, _+_, _%_, _≤_}
 use mathlib.Core.Path.{_≡_, refl, sym, ap, ap₂, _∙_}
 use mathlib.Core.Bool.{Bool, true, false, not, _&&_, _||_, true≢false}
 use mathlib.Core.Logic.{_⊎_, inl, inr}
 use mathlib.Core.List.{List}
 use native.Mathlib.Omega.{arith}
-use borrow.Author.Tests.{leb-true, le-leb, eqb-true, eq-eqb, ne-eqb, not-true}
+use borrow.Author.Tests.{leb-true, le-leb, eqb-true, eq-eqb, not-true}
 use lib.Dec.{leb, eqb}
 use lib.ListN.{length, getD}
-use Rattle.endian.specs.Bytes.{window, same, all, zeros}
+use Rattle.endian.specs.Bytes.{window, all, zeros}
 use Rattle.endian.proofs.Parts.{length-window-fits}
 use Rattle.endian.proofs.Tests.{and-left, and-right, and-both, same-equal, equal-same, all-at, all-of, all-zeros, zeros-all}
 use Rattle.checksum.specs.Crc as Crc
-use Rattle.refusal.specs.Tests.{first, AllHold, Fails}
-use Rattle.refusal.proofs.Order.{first-zero, first-all, first-lowest}
+use Rattle.refusal.specs.Tests.{first, AllHold}
+use Rattle.refusal.proofs.Order.{first-zero, first-all}
 use Rattle.layout.specs.Limits.{lengthAllowed}
 use Rattle.layout.proofs.Laws.{metadata-facts, metadata-test, length-facts, length-test}
-use Rattle.block.specs.declared.Holding.{Holding}
 use Rattle.block.specs.declared.Entry.{Entry}
 use Rattle.block.specs.declared.Entry.the-variants.{Unused, Used}
-use Rattle.block.specs.Entry.{sameTime, timeOf, entryAllowed, differentTimes, entriesAllowed}
+use Rattle.block.specs.Entry.{sameTime, entryAllowed, differentTimes, entriesAllowed}
 use Rattle.block.specs.Block.{signatureBytes, number, poolOf, uuidOf, entryAt, isHex, allZero, zeroFields, readTests}
-use Rattle.block.specs.Accepted.{Hex, HexBytes, Within, Apart, Accepted}
+use Rattle.block.specs.Accepted.{Hex, Within, Apart, Accepted}
 use Rattle.block.proofs.Readings.{ascending}
 
 or-cases : (a b : Bool) → a || b ≡ true → (a ≡ true) ⊎ (b ≡ true)

@@ -9,7 +9,7 @@ use lib.Dec.{leb, eqb, lit<, lit≤}
 use native.Mathlib.Nat.{le-of-eq}
 use lib.ListN.{length, getD, take}
 use lib.Seq.{take-all, drop-at}
-use Rattle.endian.specs.Bytes.{le, toLe, window, zeros, Bytes}
+use Rattle.endian.specs.Bytes.{le, toLe, window, Bytes}
 use Rattle.endian.proofs.Numbers.{le-toLe, toLe-le, length-toLe}
 use Rattle.endian.proofs.Parts.{length-window-fits, bytes-window, window-append, window-rest}
 use Rattle.endian.proofs.Tests.{and-left, and-right, and-both, equal-same, length-zeros}
@@ -32,7 +32,7 @@ use Rattle.block.proofs.Written.{length-signature, length-body, length-
 use Rattle.refusal.proofs.Order.{first-all}
 use Rattle.block.proofs.Readings.{accepted-reading}
 use Rattle.block.proofs.Exactly.{zero-test}
-use Rattle.block.proofs.Cuts.{cuts, sum, cons, cuts-join, join-cuts}
+use Rattle.block.proofs.Cuts.{cuts, cons, cuts-join, join-cuts}
 
 -- the widths of the fields from offset 4 on, as the table has them
 abbrev bodyWidths : List ℕ

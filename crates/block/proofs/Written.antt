@@ -1,20 +1,20 @@
 -- Laws of a block that is written: what is stored field by field is the table's bytes. Assumes nothing.
-use Prim.Native.Nat.{ℕ, zero, suc, _+_, _-_, _^_, _≤_, _<_}
+use Prim.Native.Nat.{ℕ, _+_, _-_, _<_}
 use mathlib.Core.Path.{_≡_, refl, sym, ap, ap₂, _∙_}
-use mathlib.Core.Bool.{Bool, true, cond, _&&_}
-use mathlib.Core.List.{List, [], _∷_, _++_, append-assoc, append-nil}
+use mathlib.Core.Bool.{true, _&&_}
+use mathlib.Core.List.{List, [], _++_, append-assoc, append-nil}
 use native.Mathlib.Omega.{arith}
-use borrow.Author.Tests.{eq-eqb, ne-eqb, eqb-true}
+use borrow.Author.Tests.{eqb-true}
 use lib.Dec.{eqb, lit<}
-use lib.ListN.{length, take, drop, length-append, replicate-append-replicate}
+use lib.ListN.{length, take, drop, length-append}
 use lib.Seq.{take-all, take-at, drop-at, drop-append-add}
 use Rattle.endian.specs.Bytes.{toLe, window, splice, zeros}
 use Rattle.endian.proofs.Numbers.{length-toLe}
 use Rattle.endian.proofs.Parts.{splice-fits, length-splice}
-use Rattle.endian.proofs.Tests.{length-zeros, and-left, and-right}
+use Rattle.endian.proofs.Tests.{length-zeros, and-left, and-right, zeros-add}
 use Rattle.checksum.specs.Crc.{checksum}
 use Rattle.refusal.specs.Tests.{first, Ascending}
-use Rattle.refusal.proofs.Order.{first-zero}
+use Rattle.refusal.proofs.Order.{first-zero, answer-no, answer-yes}
 use Rattle.block.specs.declared.Holding.{Holding}
 use Rattle.block.specs.declared.BlockFields.{BlockFields}
 use Rattle.block.specs.Block.{signatureBytes}
@@ -33,10 +33,6 @@ length-bodyLaid n p u f = simp (length-splice, length-entryLaid, length-zeros)
 record Begun (s p : List ℕ) (o m : ℕ) : Type 0 where
   is : s ≡ p ++ zeros m
   long : length p ≡ o
-
-zeros-add : (n m : ℕ) → zeros (n + m) ≡ zeros n ++ zeros m
-unfolding zeros
-zeros-add n m = sym (replicate-append-replicate n m 0)
 
 -- g of the zeros counted with what stands before them
 gap : {s p : List ℕ} {o m : ℕ} (g k : ℕ) → m ≡ g + k → Begun s p o m → Begun s (p ++ zeros g) (o + g) k
@@ -125,11 +121,11 @@ length-blockOf p u f hp hu =
 pub written-refused : (out p u : List ℕ) (f : BlockFields) (n : ℕ) → n ≡ first (writeTests out p u f) → (n ≡ 0 → ⊥) → out ≡ written out p u f
 unfolding written
 written-refused out p u f n e h =
-    sym (ap (λ (x : Bool). cond x (blockOf p u f) out) (ne-eqb n 0 h)) ∙ ap (λ (m : ℕ). cond (eqb m 0) (blockOf p u f) out) e
+    answer-no (blockOf p u f) (λ (m : ℕ). out) n (first (writeTests out p u f)) e h
 
 pub written-accepted : (out p u : List ℕ) (f : BlockFields) → first (writeTests out p u f) ≡ 0 → blockOf p u f ≡ written out p u f
 unfolding written
-written-accepted out p u f e = sym (ap (λ (x : Bool). cond x (blockOf p u f) out) (eq-eqb (first (writeTests out p u f)) 0 e))
+written-accepted out p u f e = answer-yes (blockOf p u f) (λ (m : ℕ). out) (first (writeTests out p u f)) (first (writeTests out p u f)) refl e
 
 pub write-ascending : (out p u : List ℕ) (f : BlockFields) → Ascending 0 (writeTests out p u f)
 write-ascending out p u f = (lit< tt, (lit< tt, (lit< tt, (lit< tt, (lit< tt, (lit< tt, tt))))))

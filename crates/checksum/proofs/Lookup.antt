@@ -4,18 +4,16 @@ use mathlib.Core.Path.{_≡_, refl, sym, ap, ap₂, _∙_}
 use mathlib.Core.List.{List, [], _∷_, _++_, map}
 use native.Mathlib.Nat.{mod-lt, mod-eq-of-lt, div-div-eq-div-mul, not-suc-le-zero, zero-add, mul-zero, mul-one, mul-suc, add-assoc}
 use native.Mathlib.Omega.{arith}
-use lib.Dec.{lit<}
 use lib.ListN.{length, getD, take, drop, List·getD-append, List·getD-map}
 use lib.Seq.{getD-append-add, getD-take, getD-drop}
 use lib.Pow.{split, pow-pos}
-use lib.Bits.{bitXor, xor-comm, xor-zero-r, xor-block, xor-lt, xor-zero-l}
+use lib.Bits.{bitXor, xor-comm, xor-block, xor-lt, xor-zero-l}
 use Rattle.endian.specs.Bytes.{le, window}
 use Rattle.endian.proofs.Numbers.{le-append, le-bound}
 use Rattle.endian.proofs.Parts.{window-append, length-window, length-window-fits, window-rest}
 use Rattle.checksum.specs.Crc.{shifts, absorb, register}
 use Rattle.checksum.specs.Table.{Table}
-use Rattle.checksum.proofs.Xor.{xor-assoc}
-use Rattle.checksum.proofs.Shifts.{shifts-xor, shifts-add, shifts-scaled, shifts-zero, shifts-split}
+use Rattle.checksum.proofs.Shifts.{shifts-add, shifts-zero, shifts-split}
 use Rattle.checksum.proofs.Laws.{register-le, absorb-shifts, shifts-none}
 
 -- k, k + 1, and so on, n of them

@@ -2,10 +2,9 @@
 use Prim.Native.Nat.{ℕ, zero, suc, _+_, _*_, _/_, _%_, _^_, _<_}
 use mathlib.Core.Path.{_≡_, refl, sym, ap, ap₂, _∙_}
 use mathlib.Core.Bool.{Bool, true, false, cond}
-use native.Mathlib.Nat.{mod-lt, not-suc-le-zero, le-of-suc-le-suc, zero-add, suc-add, pow-zero, pow-suc, mul-one, mul-assoc}
+use native.Mathlib.Nat.{mod-lt, not-suc-le-zero, le-of-suc-le-suc, zero-add, suc-add, pow-suc, mul-one, mul-assoc}
 use native.Mathlib.Omega.{arith}
 use lib.Dec.{eqb, lit<}
-use lib.Pow.{pow-pos}
 use lib.Bits.{bitXor, differ, xor-comm, xor-zero-l, xor-zero-r, xor-self, xor-lt, xor-shifted}
 use Rattle.checksum.specs.Crc.{polynomial, shift, shifts}
 use Rattle.checksum.proofs.Xor.{xor-half, xor-odd, xor-assoc}

@@ -4,12 +4,11 @@ use mathlib.Core.Path.{_≡_, refl, sym, ap, ap₂, _∙_}
 use mathlib.Core.Bool.{Bool, true, false, cond, _&&_}
 use mathlib.Core.List.{List, []}
 use Rattle.refusal.specs.Numbers.{identity, sliceSize}
-use Rattle.layout.specs.declared.Side.the-variants.{Front, Back}
+use Rattle.layout.specs.declared.Side.the-variants.{Front}
 use Rattle.block.specs.declared.BlockFields.{BlockFields}
 use Rattle.block.specs.declared.Verdict.{Verdict}
 use Rattle.block.specs.declared.Verdict.the-variants as Verdict
-use Rattle.discovery.specs.declared.Answer.{Answer}
-use Rattle.discovery.specs.declared.Answer.the-variants.{Found, Refused}
+use Rattle.discovery.specs.declared.Answer.the-variants.{Refused}
 use Rattle.discovery.specs.Copy.{present, readingIn}
 use Rattle.discovery.specs.Discovery.{aloneOf, togetherOf, sameDevice, sameUuids, numberOf, decide, sized, discovery}
 

@@ -10,7 +10,6 @@ use Rattle.layout.specs.declared.Side.{Side}
 use Rattle.layout.specs.declared.Side.the-variants.{Front, Back}
 use Rattle.layout.specs.declared.Area.{Area}
 use Rattle.layout.specs.declared.Area.the-variants.{A, B}
-use Rattle.block.specs.declared.Time.{Time}
 use Rattle.block.specs.declared.Holding.{Holding}
 use Rattle.block.specs.declared.Entry.{Entry}
 use Rattle.block.specs.declared.Entry.the-variants.{Unused, Used}
@@ -29,7 +28,7 @@ use Rattle.discovery.specs.declared.Answer.{Answer}
 use Rattle.discovery.specs.declared.Answer.the-variants.{Found, Refused}
 use Rattle.discovery.specs.Copy.{areaBytes, entryIn, otherArea, otherSide, wholeEntry, whole, newer, newest, presentFrom, present, readingIn}
 use Rattle.discovery.specs.Discovery.{recordAt, aloneOf, newestOf, togetherOf, sameDevice, sameUuids, decide, sized, discovery, copyOn}
-use Rattle.discovery.specs.Newest.{timeAt, Newest}
+use Rattle.discovery.specs.Newest.{Newest}
 
 -- the latest whole area of a copy
 pub record Latest (c : List ℕ) (f : BlockFields) (x : Area) (h : Holding) : Type 0 where
@@ -128,6 +127,13 @@ module _ (c : List ℕ) (f : BlockFields) where
   unfolding present
   present-nothing = none-from (newest f)
 
+-- an answer is one of the two, and says one record
+pub refused-found : (r : Record) (o : Other) (n : ℕ) → Refused n ≡ Found r o → ⊥
+refused-found r o n e = let z : _≡_ {A = ℕ} 0 1 = cc in omega arith
+
+pub found-same : (r : Record) (o : Other) (q : Record) (p : Other) → Found q p ≡ Found r o → q ≡ r
+found-same r o q p e = cc
+
 module _ (f b : List ℕ) (r : Record) (o : Other) where
   -- a copy's present record, no whole area of the other copy later, is the newest
   build : (s : Side) (g : BlockFields) (x : Area) (h : Holding) → readingIn (copyOn s f b) .verdict ≡ Verdict.Accepted g → Latest (copyOn s f b) g x h
@@ -161,12 +167,6 @@ module _ (f b : List ℕ) (r : Record) (o : Other) where
       go Back g a l n Front e y p w = n e y p w
       go Back g a l n Back e y p w = inside b g e y a l p w
 
-  refused-found : (n : ℕ) → Refused n ≡ Found r o → ⊥
-  refused-found n e = let z : _≡_ {A = ℕ} 0 1 = cc in omega arith
-
-  found-same : (q : Record) (p : Other) → Found q p ≡ Found r o → q ≡ r
-  found-same q p e = cc
-
   refused-accepted : (c : List ℕ) (n : ℕ) (e : BlockFields) → readingIn c .verdict ≡ Verdict.Refused n → readingIn c .verdict ≡ Verdict.Accepted e → ⊥
   refused-accepted c n e p q =
       let v : Verdict.Refused n ≡ Verdict.Accepted e = sym p ∙ q in
@@ -179,10 +179,10 @@ module _ (f b : List ℕ) (r : Record) (o : Other) where
   -- one copy alone
   alone-found : (s : Side) (g : BlockFields) (n m : ℕ) → readingIn (copyOn s f b) .verdict ≡ Verdict.Accepted g
       → readingIn (copyOn (otherSide s) f b) .verdict ≡ Verdict.Refused n → (p : Present) → present (copyOn s f b) g ≡ p → aloneOf s p m ≡ Found r o → Newest f b r
-  alone-found s g n m a d Nothing p e = absurd (refused-found noRecord e)
+  alone-found s g n m a d Nothing p e = absurd (refused-found r o noRecord e)
   alone-found s g n m a d (At x h) p e =
       build s g x h a (present-latest (copyOn s f b) g x h p) (λ i y q w. absurd (refused-accepted (copyOn (otherSide s) f b) n i d q))
-      (found-same (recordAt s x h) (One m) e)
+      (found-same r o (recordAt s x h) (One m) e)
 
   module _ (x y : BlockFields) (ax : readingIn f .verdict ≡ Verdict.Accepted x) (ay : readingIn b .verdict ≡ Verdict.Accepted y) where
     -- no whole area of the other copy is later than h, where its present record is not
@@ -211,27 +211,27 @@ module _ (f b : List ℕ) (r : Record) (o : Other) where
 
         front : laterThan (timeOf k) (timeOf h) ≡ false → Found (recordAt Front u h) Both ≡ Found r o → Newest f b r
         front n d =
-            build Front x u h ax (present-latest f x u h p) (carried b y v k h ay (present-latest b y v k q) n) (found-same (recordAt Front u h) Both d)
+            build Front x u h ax (present-latest f x u h p) (carried b y v k h ay (present-latest b y v k q) n) (found-same r o (recordAt Front u h) Both d)
 
         go : (s : Bool) → sameTime (timeOf h) (timeOf k) ≡ s → (t : Bool) → same (areaBytes f u (h .bytes)) (areaBytes b v (k .bytes)) ≡ t
             → (l : Bool) → laterThan (timeOf k) (timeOf h) ≡ l → Newest f b r
         go true i true j l m = front (same-not-later (timeOf h) (timeOf k) i) (sym (ap₂ (λ (s t : Bool). pick s t (laterThan (timeOf k) (timeOf h))) i j) ∙ e)
-        go true i false j l m = absurd (refused-found twoRecords (sym (ap₂ (λ (s t : Bool). pick s t (laterThan (timeOf k) (timeOf h))) i j) ∙ e))
+        go true i false j l m = absurd (refused-found r o twoRecords (sym (ap₂ (λ (s t : Bool). pick s t (laterThan (timeOf k) (timeOf h))) i j) ∙ e))
         go false i t j true m =
             build Back y v k ay (present-latest b y v k q) (carried f x u h k ax (present-latest f x u h p) (later-asym (timeOf k) (timeOf h) m))
-            (found-same (recordAt Back v k) Both (sym (ap₂ (λ (s l : Bool). pick s (same (areaBytes f u (h .bytes)) (areaBytes b v (k .bytes))) l) i m) ∙ e))
+            (found-same r o (recordAt Back v k) Both (sym (ap₂ (λ (s l : Bool). pick s (same (areaBytes f u (h .bytes)) (areaBytes b v (k .bytes))) l) i m) ∙ e))
         go false i t j false m = front m (sym (ap₂ (λ (s l : Bool). pick s (same (areaBytes f u (h .bytes)) (areaBytes b v (k .bytes))) l) i m) ∙ e)
 
     together-found : (p q : Present) → present f x ≡ p → present b y ≡ q → togetherOf f b p q ≡ Found r o → Newest f b r
-    together-found Nothing Nothing p q e = absurd (refused-found noRecord e)
+    together-found Nothing Nothing p q e = absurd (refused-found r o noRecord e)
     together-found Nothing (At v k) p q e =
-        build Back y v k ay (present-latest b y v k q) (front-none k p) (found-same (recordAt Back v k) Both e)
+        build Back y v k ay (present-latest b y v k q) (front-none k p) (found-same r o (recordAt Back v k) Both e)
     together-found (At u h) Nothing p q e =
-        build Front x u h ax (present-latest f x u h p) (back-none h q) (found-same (recordAt Front u h) Both e)
+        build Front x u h ax (present-latest f x u h p) (back-none h q) (found-same r o (recordAt Front u h) Both e)
     together-found (At u h) (At v k) p q e = both-found u h v k p q e
 
   decided : (u : Bool) (v w : Verdict) → readingIn f .verdict ≡ v → readingIn b .verdict ≡ w → decide v w u f b ≡ Found r o → Newest f b r
-  decided u (Verdict.Refused m) (Verdict.Refused n) p q e = absurd (refused-found Rattle.refusal.specs.Numbers.noBlock e)
+  decided u (Verdict.Refused m) (Verdict.Refused n) p q e = absurd (refused-found r o Rattle.refusal.specs.Numbers.noBlock e)
   decided u (Verdict.Refused m) (Verdict.Accepted y) p q e = alone-found Back y m m q p (present b y) refl e
   decided u (Verdict.Accepted x) (Verdict.Refused n) p q e = alone-found Front x n n p q (present f x) refl e
   decided u (Verdict.Accepted x) (Verdict.Accepted y) p q e = go (sameDevice x y && u) refl
@@ -240,7 +240,7 @@ module _ (f b : List ℕ) (r : Record) (o : Other) where
       go true k =
           together-found x y p q (present f x) (present b y) refl refl
           (sym (ap (λ (t : Bool). cond t (togetherOf f b (present f x) (present b y)) (Refused identity)) k) ∙ e)
-      go false k = absurd (refused-found identity (sym (ap (λ (t : Bool). cond t (togetherOf f b (present f x) (present b y)) (Refused identity)) k) ∙ e))
+      go false k = absurd (refused-found r o identity (sym (ap (λ (t : Bool). cond t (togetherOf f b (present f x) (present b y)) (Refused identity)) k) ∙ e))
 
 -- what discovery finds is whole, and no whole record is later
 pub newest-found : (f b : List ℕ) (r : Record) (o : Other) → discovery f b ≡ Found r o → Newest f b r
@@ -254,4 +254,4 @@ newest-found f b r o e = go (sized f b) refl
     go true p =
         decided f b r o (sameUuids (readingIn f) (readingIn b)) (readingIn f .verdict) (readingIn b .verdict) refl refl
         (sym (ap (λ (t : Bool). cond t inner (Refused sliceSize)) p) ∙ e)
-    go false p = absurd (refused-found f b r o sliceSize (sym (ap (λ (t : Bool). cond t inner (Refused sliceSize)) p) ∙ e))
+    go false p = absurd (refused-found r o sliceSize (sym (ap (λ (t : Bool). cond t inner (Refused sliceSize)) p) ∙ e))

@@ -1,6 +1,6 @@
 -- A copy's present record, by which areas are whole. Assumes nothing.
 use Prim.Native.Nat.{ℕ}
-use mathlib.Core.Path.{_≡_, refl, sym, ap, ap₂, _∙_}
+use mathlib.Core.Path.{_≡_, refl, sym, ap, _∙_}
 use mathlib.Core.Bool.{Bool, true, false, cond, true≢false}
 use mathlib.Core.List.{List}
 use Rattle.layout.specs.declared.Area.{Area}
@@ -8,7 +8,6 @@ use Rattle.layout.specs.declared.Area.the-variants.{A, B}
 use Rattle.block.specs.declared.Holding.{Holding}
 use Rattle.block.specs.declared.BlockFields.{BlockFields}
 use Rattle.block.specs.Writing.{holdingOf}
-use Rattle.discovery.specs.declared.Present.{Present}
 use Rattle.discovery.specs.declared.Present.the-variants.{Nothing, At}
 use Rattle.discovery.specs.Copy.{entryIn, otherArea, whole, newest, presentFrom, present}
 

@@ -2,10 +2,10 @@
 use Prim.Native.Nat.{ℕ, zero, suc, _+_, _*_, _/_, _%_, _^_, _≤_, _<_}
 use mathlib.Core.Path.{_≡_, refl, sym, ap, _∙_}
 use mathlib.Core.List.{List, [], _∷_, _++_}
-use native.Mathlib.Nat.{mod-lt, mod-eq-of-lt, mod-mod, pow-suc, pow-zero, pow-le-pow-right, lt-of-lt-of-le, mul-le-mul-left, mul-comm, mul-assoc, mul-left-comm, mod-add-div, mul-one, one-mul, add-assoc, mul-add, zero-mod, div-div-eq-div-mul, zero-add}
+use native.Mathlib.Nat.{mod-lt, mod-eq-of-lt, mod-mod, pow-suc, pow-le-pow-right, lt-of-lt-of-le, mul-comm, mul-assoc}
 use native.Mathlib.Omega.{arith}
 use lib.Dec.{lit<}
-use lib.ListN.{length, getD, drop, length-append}
+use lib.ListN.{length, getD, drop}
 use lib.Seq.{drop-cons}
 use lib.Arith.{mod-mul}
 use Rattle.endian.specs.Bytes.{le, toLe, Bytes}

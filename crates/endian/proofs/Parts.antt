@@ -1,16 +1,14 @@
 -- Laws of a part of a list and of a list laid over another. Assumes nothing.
 use Prim.Native.Nat.{ℕ, zero, suc, _+_, _-_, _≤_, _<_}
 use mathlib.Core.Path.{_≡_, refl, sym, ap, _∙_}
-use mathlib.Core.Bool.{Bool, true, false, cond}
-use mathlib.Core.Logic.{⊎-elim}
 use mathlib.Core.List.{List, [], _∷_, _++_, append-assoc, append-nil}
 use native.Mathlib.Decide.{decLe}
 use native.Mathlib.Nat.{not-suc-le-zero}
 use native.Mathlib.Omega.{arith}
 use lib.Dec.{lit<}
 use borrow.Author.Tests.{le-leb, lt-leb}
-use lib.ListN.{length, getD, take, drop, length-append, length-take, length-drop, take-append-drop, drop-of-length-le, List·getD-append}
-use lib.Seq.{take-all, take-nil, drop-drop, take-take, take-add, take-at, drop-at, take-append-le, drop-append-le, getD-take, getD-drop, getD-append-add, length-take-le}
+use lib.ListN.{length, take, drop, length-append, length-take, length-drop, take-append-drop, drop-of-length-le}
+use lib.Seq.{take-all, take-nil, drop-drop, take-take, take-add, take-at, drop-at, take-append-le, drop-append-le, getD-drop, length-take-le}
 use Rattle.endian.specs.Bytes.{window, fits, splice, room, Bytes}
 
 pub length-window : (s : List ℕ) (at n : ℕ) → length (window s at n) ≤ n
@@ -181,3 +179,27 @@ unstored s at n v e h = (sym (room-short s at n h), sym (splice-short s at v (om
 pub stored : (s : List ℕ) (at n : ℕ) (v w : List ℕ) → length v ≡ n → w ≡ v → at + n ≤ length s
     → (0 ≡ room s at n) × (take at s ++ (w ++ drop (at + n - at) (drop at s)) ≡ splice s at v)
 stored s at n v w e k h = (sym (room-fits s at n h), splice-part s at n w h (ap length k ∙ e) ∙ ap (splice s at) k)
+
+-- v written right after u
+pub splice-next : (s : List ℕ) (at : ℕ) (u v : List ℕ) (k : ℕ) → k ≡ at + length u → k + length v ≤ length s
+    → splice (splice s at u) k v ≡ splice s at (u ++ v)
+splice-next s at u v k e h =
+    let f : at + length u ≤ length s = omega arith in
+    let g : at + length (u ++ v) ≤ length s = rw length-append (omega arith) in
+    let l : length (take at s) ≡ at = length-take-le at s (omega arith) in
+    let p : length (take at s ++ u) ≡ k = rw (length-append, l) (sym e) in
+    let t : splice s at u ≡ (take at s ++ u) ++ drop k s =
+    splice-fits s at u f
+    ∙ (sym (append-assoc (take at s) u (drop (at + length u) s)) ∙ ap (λ (z : ℕ). (take at s ++ u) ++ drop z s) (sym e)) in
+    let n : k + length v ≤ length (splice s at u) = rw (length-splice s at u) h in
+    splice-fits (splice s at u) k v n
+    ∙ (ap (λ (z : List ℕ). take k z ++ (v ++ drop (k + length v) z)) t
+    ∙ (ap (λ (z : List ℕ). z ++ (v ++ drop (k + length v) ((take at s ++ u) ++ drop k s))) (take-at (take at s ++ u) (drop k s) k p)
+    ∙ (ap (λ (z : List ℕ). (take at s ++ u) ++ (v ++ z))
+    (sym (drop-drop (length v) k ((take at s ++ u) ++ drop k s))
+    ∙ (ap (drop (length v)) (drop-at (take at s ++ u) (drop k s) k p) ∙ drop-drop (length v) k s))
+    ∙ (append-assoc (take at s) u (v ++ drop (k + length v) s)
+    ∙ (ap (λ (z : List ℕ). take at s ++ z) (sym (append-assoc u v (drop (k + length v) s)))
+    ∙ (ap (λ (z : ℕ). take at s ++ ((u ++ v) ++ drop z s))
+    (let q : k + length v ≡ at + length (u ++ v) = rw length-append (omega arith) in q)
+    ∙ sym (splice-fits s at (u ++ v) g)))))))

@@ -1,5 +1,5 @@
 -- Laws of the tests of lists. Assumes nothing.
-use Prim.Native.Nat.{ℕ, zero, suc, _+_, _-_, _≤_, _<_}
+use Prim.Native.Nat.{ℕ, zero, suc, _+_, _-_, _<_}
 use mathlib.Core.Path.{_≡_, refl, sym, ap, ap₂, _∙_}
 use mathlib.Core.Bool.{Bool, true, false, _&&_, true≢false}
 use mathlib.Core.List.{List, [], _∷_, _++_}
@@ -8,9 +8,9 @@ use native.Mathlib.Numerals.{add-one}
 use native.Mathlib.Omega.{arith}
 use borrow.Author.Tests.{eqb-true, eq-eqb, ne-eqb}
 use lib.Dec.{eqb}
-use lib.ListN.{length, getD, take, drop, replicate, length-replicate}
+use lib.ListN.{length, getD, drop, length-replicate, replicate-append-replicate}
 use lib.Seq.{drop-cons}
-use Rattle.endian.specs.Bytes.{same, all, zeros, Bytes}
+use Rattle.endian.specs.Bytes.{same, all, zeros}
 
 pub and-left : (a b : Bool) → a && b ≡ true → a ≡ true
 and-left true b h = refl
@@ -121,3 +121,8 @@ pub zeros-all : (n : ℕ) → all (λ (b : ℕ). eqb b 0) (zeros n) ≡ true
 unfolding all zeros
 zeros-all zero = refl
 zeros-all (suc n) = zeros-all n
+
+-- zeros, and then zeros
+pub zeros-add : (n m : ℕ) → zeros (n + m) ≡ zeros n ++ zeros m
+unfolding zeros
+zeros-add n m = sym (replicate-append-replicate n m 0)

@@ -1,11 +1,11 @@
 -- A copy as the code fills it, and both copies as formatting leaves them. Assumes nothing.
 use Prim.Native.Nat.{ℕ, _-_, _≤_, _<_}
 use mathlib.Core.Path.{_≡_, refl, sym, ap, _∙_}
-use mathlib.Core.Bool.{Bool, true, cond}
+use mathlib.Core.Bool.{true}
 use mathlib.Core.List.{List, _++_}
 use native.Mathlib.Decide.{ℕ-discrete}
 use native.Mathlib.Omega.{arith}
-use borrow.Author.Tests.{eq-eqb, ne-eqb}
+use borrow.Author.Tests.{eq-eqb}
 use lib.Dec.{leb, eqb}
 use lib.ListN.{length, take, drop}
 use Rattle.endian.specs.Bytes.{window, splice, zeros}
@@ -13,7 +13,7 @@ use Rattle.endian.proofs.Parts.{length-window-fits, window-part, splice-part}
 use Rattle.endian.proofs.Tests.{and-both, length-zeros}
 use Rattle.checksum.specs.Crc as Crc
 use Rattle.refusal.specs.Tests.{first, AllHold}
-use Rattle.refusal.proofs.Order.{first-all}
+use Rattle.refusal.proofs.Order.{first-all, answer-no, answer-yes}
 use Rattle.layout.specs.declared.Device.{Device}
 use Rattle.layout.specs.declared.Area.the-variants.{A}
 use Rattle.layout.specs.Limits.{recordLimit, lengthAllowed}
@@ -126,13 +126,11 @@ module _ {f b : List ℕ} {v : Device} {p u : List ℕ} {t : Time} {r : List ℕ
 module _ (f b : List ℕ) (v : Device) (p u : List ℕ) (t : Time) (r : List ℕ) (n : ℕ) (e : n ≡ formatNumber f b v p u t r) where
   kept : (n ≡ 0 → ⊥) → (c : List ℕ) → c ≡ formatted c f b v p u t r
   unfolding formatted
-  kept h c =
-      sym (ap (λ (x : Bool). cond x (formattedCopy v p u t r) c) (ne-eqb n 0 h))
-      ∙ ap (λ (m : ℕ). cond (eqb m 0) (formattedCopy v p u t r) c) e
+  kept h c = answer-no (formattedCopy v p u t r) (λ (m : ℕ). c) n (formatNumber f b v p u t r) e h
 
   anew : n ≡ 0 → (c : List ℕ) → formattedCopy v p u t r ≡ formatted c f b v p u t r
   unfolding formatted
-  anew h c = sym (ap (λ (x : Bool). cond x (formattedCopy v p u t r) c) (eq-eqb (formatNumber f b v p u t r) 0 (sym e ∙ h)))
+  anew h c = answer-yes (formattedCopy v p u t r) (λ (m : ℕ). c) n (formatNumber f b v p u t r) e h
 
   pub format-refused : (n ≡ 0 → ⊥)
       → (n ≡ formatNumber f b v p u t r) × ((f ≡ formatted f f b v p u t r) × (b ≡ formatted b f b v p u t r))

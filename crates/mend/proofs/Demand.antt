@@ -20,13 +20,12 @@ use Rattle.block.specs.declared.BlockFields.{BlockFields}
 use Rattle.block.specs.Entry.{timeOf}
 use Rattle.block.specs.Block.{poolOf, uuidOf, fieldsOf}
 use Rattle.discovery.specs.declared.Record.{Record}
-use Rattle.discovery.specs.declared.Other.{Other}
 use Rattle.discovery.specs.declared.Other.the-variants.{Both}
 use Rattle.discovery.specs.declared.Answer.{Answer}
-use Rattle.discovery.specs.declared.Answer.the-variants.{Found}
 use Rattle.discovery.specs.Copy.{blockIn, otherSide, newest}
 use Rattle.discovery.specs.Discovery.{recordAt, sameDevice, inStep, copyOn, recordBytes}
 use Rattle.discovery.specs.Newest.{timeAt}
+use Rattle.discovery.proofs.Latest.{found-same}
 use Rattle.device.specs.Device.{Sectors, Sound, Store, Groups, stores, storeIn, landed, allLanded, copyFrom}
 use Rattle.update.specs.Update.{sectorsOf}
 use Rattle.update.specs.Demand.{Gives, InStepOn, heldIn, recordIn}
@@ -63,9 +62,6 @@ both-hold v e se Back {g} {j} {p} {u} {x} {y} {h} m n i = (
   agree-gives n m (sized-copies v e e se se) (same-device-test j g (sym i)) (timeOf h) refl refl,
   agree-in-step n m (sized-copies v e e se se) (same-device-test j g (sym i)) (timeOf h) refl refl,
 )
-
-found-same : (q p : Record) (o n : Other) → Found q o ≡ Found p n → q ≡ p
-found-same q p o n e = cc
 
 module _ (v : Device) (d : Sectors) (q : Record) (s : State v d q) where
   abbrev f : List ℕ
@@ -135,7 +131,7 @@ module _ (v : Device) (d : Sectors) (q : Record) (s : State v d q) where
     -- what discovery found is the front's
     is-front : q ≡ recordAt Front (newest (fieldsOf (blockIn f))) (heldIn f)
     is-front =
-        found-same q (recordAt Front (newest (fieldsOf (blockIn f))) (heldIn f)) (s .other) Both
+        found-same (recordAt Front (newest (fieldsOf (blockIn f))) (heldIn f)) Both q (s .other)
         (sym (s .answers)
         ∙ found-front front back (stepped .sizes) (same-device-test (fieldsOf (blockIn f)) (fieldsOf (blockIn b)) (stepped .device)) (timeOf (heldIn f)) refl one-time)
 

@@ -26,11 +26,11 @@ use Rattle.block.specs.Writing.{holdingOf}
 use Rattle.discovery.specs.declared.Present.the-variants.{At}
 use Rattle.discovery.specs.declared.Record.{Record}
 use Rattle.discovery.specs.declared.Other.{Other}
-use Rattle.discovery.specs.declared.Answer.the-variants.{Found, Refused}
+use Rattle.discovery.specs.declared.Answer.the-variants.{Found}
 use Rattle.discovery.specs.Copy.{blockIn, areaBytes, entryIn, otherArea, wholeEntry, whole, newest, present}
 use Rattle.discovery.specs.Discovery.{recordAt, sized, discovery, copyOn, recordBytes}
 use Rattle.discovery.specs.Newest.{timeAt, Newest}
-use Rattle.discovery.proofs.Latest.{newest-found}
+use Rattle.discovery.proofs.Latest.{refused-found, newest-found}
 use Rattle.discovery.proofs.Presence.{present-at-newest, present-at-other}
 use Rattle.discovery.proofs.Deciding.{discovery-unsized}
 use Rattle.update.proofs.Holding.{whole-used}
@@ -51,16 +51,13 @@ pub record Kept (c : List ℕ) (x : Area) (h : Holding) (r : List ℕ) : Type 0 
   pub in-newest : laterWhole c ≡ true → newest (fieldsOf (blockIn c)) ≡ x
   pub in-other : laterWhole c ≡ false → otherArea (newest (fieldsOf (blockIn c))) ≡ x
 
-refused-found : (n : ℕ) (q : Record) (o : Other) → Refused n ≡ Found q o → ⊥
-refused-found n q o e = let z : _≡_ {A = ℕ} 0 1 = cc in omega arith
-
 module _ (f b : List ℕ) (q : Record) (o : Other) (e : discovery f b ≡ Found q o) where
   pub found-sized : sized f b ≡ true
   found-sized = go (sized f b) refl
     where
       go : (t : Bool) → sized f b ≡ t → sized f b ≡ true
       go true h = h
-      go false h = absurd (refused-found sliceSize q o (discovery-unsized f b h ∙ e))
+      go false h = absurd (refused-found q o sliceSize (discovery-unsized f b h ∙ e))
 
   its-length : (s : Side) → length (copyOn s f b) ≡ copyBytes
   its-length Front = eqb-true (length f) copyBytes (and-left (eqb (length f) copyBytes) (eqb (length b) copyBytes) found-sized)

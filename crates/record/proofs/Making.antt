@@ -2,13 +2,12 @@
 use Prim.Native.Nat.{ℕ, _+_, _-_, _≤_, _<_, min}
 use mathlib.Core.Path.{_≡_, sym, ap, _∙_}
 use mathlib.Core.Bool.{Bool, true, false, not}
-use mathlib.Core.List.{List, [], _∷_, _++_, append-assoc}
+use mathlib.Core.List.{List, [], _∷_, _++_}
 use native.Mathlib.Omega.{arith}
-use lib.ListN.{length, take, drop, length-append}
-use lib.Seq.{take-at, drop-at, drop-drop, length-take-le}
+use lib.ListN.{length, length-append}
 use Rattle.endian.specs.Bytes.{toLe, splice, fits, room}
 use Rattle.endian.proofs.Numbers.{length-toLe}
-use Rattle.endian.proofs.Parts.{splice-fits, splice-short, length-splice, room-fits, room-short}
+use Rattle.endian.proofs.Parts.{splice-next, splice-short, room-fits, room-short}
 use Rattle.record.specs.declared.Segment.{Segment}
 use Rattle.record.specs.Items.{blockSizeAllowed, itemBytes, place}
 use Rattle.record.specs.Making.{headOf, segmentBytes, beginTests, unless, begun}
@@ -16,30 +15,6 @@ use Rattle.refusal.specs.Numbers.{sliceSize}
 use Rattle.refusal.specs.Tests.{_or_, first}
 use Rattle.refusal.proofs.Order.{refused, passed, first-pass, first-fail, first-nil}
 use borrow.Author.Tests.{le-leb, lt-leb}
-
--- v written right after u
-pub splice-next : (s : List ℕ) (at : ℕ) (u v : List ℕ) (k : ℕ) → k ≡ at + length u → k + length v ≤ length s
-    → splice (splice s at u) k v ≡ splice s at (u ++ v)
-splice-next s at u v k e h =
-    let f : at + length u ≤ length s = omega arith in
-    let g : at + length (u ++ v) ≤ length s = rw length-append (omega arith) in
-    let l : length (take at s) ≡ at = length-take-le at s (omega arith) in
-    let p : length (take at s ++ u) ≡ k = rw (length-append, l) (sym e) in
-    let t : splice s at u ≡ (take at s ++ u) ++ drop k s =
-    splice-fits s at u f
-    ∙ (sym (append-assoc (take at s) u (drop (at + length u) s)) ∙ ap (λ (z : ℕ). (take at s ++ u) ++ drop z s) (sym e)) in
-    let n : k + length v ≤ length (splice s at u) = rw (length-splice s at u) h in
-    splice-fits (splice s at u) k v n
-    ∙ (ap (λ (z : List ℕ). take k z ++ (v ++ drop (k + length v) z)) t
-    ∙ (ap (λ (z : List ℕ). z ++ (v ++ drop (k + length v) ((take at s ++ u) ++ drop k s))) (take-at (take at s ++ u) (drop k s) k p)
-    ∙ (ap (λ (z : List ℕ). (take at s ++ u) ++ (v ++ z))
-    (sym (drop-drop (length v) k ((take at s ++ u) ++ drop k s))
-    ∙ (ap (drop (length v)) (drop-at (take at s ++ u) (drop k s) k p) ∙ drop-drop (length v) k s))
-    ∙ (append-assoc (take at s) u (v ++ drop (k + length v) s)
-    ∙ (ap (λ (z : List ℕ). take at s ++ z) (sym (append-assoc u v (drop (k + length v) s)))
-    ∙ (ap (λ (z : ℕ). take at s ++ ((u ++ v) ++ drop z s))
-    (let q : k + length v ≡ at + length (u ++ v) = rw length-append (omega arith) in q)
-    ∙ sym (splice-fits s at (u ++ v) g)))))))
 
 pub length-head : (b : ℕ) → length (headOf b) ≡ 8
 unfolding headOf

@@ -4,8 +4,9 @@ use mathlib.Core.Path.{_≡_, refl, sym, ap, _∙_}
 use mathlib.Core.Bool.{Bool, true, false, cond, not, true≢false}
 use mathlib.Core.List.{List, [], _∷_, _++_}
 use native.Mathlib.Omega.{arith}
-use borrow.Author.Tests.{not-true, not-false}
-use mathlib.Core.Logic.{_⊎_, inl, inr}
+use borrow.Author.Tests.{eq-eqb, ne-eqb, not-true, not-false}
+use lib.Dec.{eqb}
+use mathlib.Core.Logic.{inl, inr}
 use Rattle.refusal.specs.Tests.{Test, _or_, first, AllHold, Fails, Ascending}
 
 pub first-nil : first [] ≡ 0
@@ -40,7 +41,7 @@ first-holds (t ∷ ts) a e = go (first-holds ts (a .1)) (t .holds) refl
         absurd (omega arith)
 
 -- numbers that ascend are numbers
-ascending-numbered : (m : ℕ) (ts : List Test) → Ascending m ts → Numbered ts
+pub ascending-numbered : (m : ℕ) (ts : List Test) → Ascending m ts → Numbered ts
 ascending-numbered m [] a = tt
 ascending-numbered m (t ∷ ts) a = (let l : m < t .otherwise = a .0 in omega arith, ascending-numbered (t .otherwise) ts (a .1))
 
@@ -89,6 +90,43 @@ first-lowest m (t ∷ ts) a p = go (first-lowest (t .otherwise) ts (a .1)) (t .h
         let n : first (t ∷ ts) ≡ first ts = first-pass (t .holds) (t .otherwise) ts e in
         let r : Fails ts (first ts) × ((k : ℕ) → Fails ts k → first ts ≤ k) = h (rw n at p) in
         (inr (rw n (r .0)), later e (r .1))
+
+-- tests that follow other tests: those before them hold
+pub first-after : (ts us : List Test) → AllHold ts → first (ts ++ us) ≡ first us
+first-after [] us h = refl
+first-after (t ∷ ts) us h = first-pass (t .holds) (t .otherwise) (ts ++ us) (h .0) ∙ first-after ts us (h .1)
+
+-- a test before them fails
+pub first-before : (m : ℕ) (ts us : List Test) → Ascending m ts → (first ts ≡ 0 → ⊥) → first (ts ++ us) ≡ first ts
+first-before m [] us a h = absurd (h first-nil)
+first-before m (t ∷ ts) us a h = go (first-before (t .otherwise) ts us (a .1)) (t .holds) refl
+  where
+    go : ((first ts ≡ 0 → ⊥) → first (ts ++ us) ≡ first ts) → (b : Bool) → t .holds ≡ b → first ((t ∷ ts) ++ us) ≡ first (t ∷ ts)
+    go r true e =
+        first-pass (t .holds) (t .otherwise) (ts ++ us) e
+        ∙ (r (λ z. h (first-pass (t .holds) (t .otherwise) ts e ∙ z)) ∙ sym (first-pass (t .holds) (t .otherwise) ts e))
+    go r false e = first-fail (t .holds) (t .otherwise) (ts ++ us) e ∙ sym (first-fail (t .holds) (t .otherwise) ts e)
+
+-- what a call answers that hands the number r of its tests on, or else its values
+pub answer-no : {A : Type 0} (value : A) (number : ℕ → A) (r n : ℕ) → r ≡ n → (r ≡ 0 → ⊥) → number r ≡ cond (eqb n 0) value (number n)
+answer-no value number r n e h = ap number e ∙ ap (λ (b : Bool). cond b value (number n)) (sym (ne-eqb n 0 (λ z. h (e ∙ z))))
+
+pub answer-yes : {A : Type 0} (value : A) (number : ℕ → A) (r n : ℕ) → r ≡ n → r ≡ 0 → value ≡ cond (eqb n 0) value (number n)
+answer-yes value number r n e h = ap (λ (b : Bool). cond b value (number n)) (sym (eq-eqb n 0 (sym e ∙ h)))
+
+-- then 0 means that the tests hold, and those that follow
+pub first-split : (ts us : List Test) → Numbered ts → first (ts ++ us) ≡ 0 → (first ts ≡ 0) × (first us ≡ 0)
+first-split [] us n h = (first-nil, h)
+first-split (t ∷ ts) us n h = go (first-split ts us (n .1)) (t .holds) refl
+  where
+    go : (first (ts ++ us) ≡ 0 → (first ts ≡ 0) × (first us ≡ 0)) → (b : Bool) → t .holds ≡ b → (first (t ∷ ts) ≡ 0) × (first us ≡ 0)
+    go r true e =
+        let q : (first ts ≡ 0) × (first us ≡ 0) = r (sym (first-pass (t .holds) (t .otherwise) (ts ++ us) e) ∙ h) in
+        (first-pass (t .holds) (t .otherwise) ts e ∙ q .0, q .1)
+    go r false e =
+        let z : t .otherwise ≡ 0 = sym (first-fail (t .holds) (t .otherwise) (ts ++ us) e) ∙ h in
+        let l : 0 < t .otherwise = n .0 in
+        absurd (omega arith)
 
 -- As code has it, `if !f(x) { return n; }`, with f's answer r: the number is given.
 pub refused : (r b : Bool) (n : ℕ) (ts : List Test) → r ≡ b → not r ≡ true → n ≡ first ((b or n) ∷ ts)

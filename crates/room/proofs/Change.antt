@@ -1,7 +1,7 @@
 -- Laws of allocation and release: what their tests give, and the bytes that they leave. Assumes nothing.
 use Prim.Native.Nat.{ℕ, _+_, _-_, _≤_, _<_}
 use mathlib.Core.Path.{_≡_, sym, ap, _∙_}
-use mathlib.Core.Bool.{Bool, true, false, cond, not}
+use mathlib.Core.Bool.{Bool, true, false, cond}
 use mathlib.Core.List.{List, [], _∷_, _++_}
 use native.Mathlib.Decide.{ℕ-discrete}
 use native.Mathlib.Omega.{arith}
@@ -11,16 +11,17 @@ use lib.ListN.{length, take, drop, length-drop}
 use lib.Seq.{length-take-le}
 use Rattle.refusal.specs.Numbers.{sliceSize, recordForm, segmentPlace, noRoom, recordFull, noSegment}
 use Rattle.refusal.specs.Tests.{Test, _or_, first, AllHold}
-use Rattle.refusal.proofs.Order.{first-nil, first-pass, first-fail}
+use Rattle.refusal.proofs.Order.{first-nil, first-pass, first-fail, Numbered, first-split, first-holds}
 use Rattle.endian.specs.Bytes.{splice}
 use Rattle.layout.specs.declared.Device.{Device}
 use Rattle.record.specs.Items.{headBytes, itemBytes, kindKnown, count, place}
 use Rattle.record.specs.Accept.{recordTests, mostSegments}
 use Rattle.record.specs.Answers.{positionTests}
 use Rattle.record.specs.Making.{segmentBytes, unless, appended, removed}
-use Rattle.record.proofs.Order.{NotZero, first-split, first-holds, record-not-zero}
+use Rattle.record.proofs.Order.{record-numbered}
 use Rattle.record.proofs.Meaning.{Accepted, accepted}
-use Rattle.record.proofs.Making.{splice-next, length-segment}
+use Rattle.endian.proofs.Parts.{splice-next}
+use Rattle.record.proofs.Making.{length-segment}
 use Rattle.record.proofs.Change.{place-end, place-inside, place-over}
 use Rattle.room.specs.declared.Allocation.{Allocation}
 use Rattle.room.specs.declared.Allocation.the-variants.{Placed, Refused as AllocationRefused}
@@ -112,7 +113,7 @@ release-number n a =
       | no e ↦ rw (ne-eqb n 0 e)
     ]
 
-own-not-zero : (d : Device) (s : List ℕ) (k m w : ℕ) → NotZero (ownTests d s k m w)
+own-not-zero : (d : Device) (s : List ℕ) (k m w : ℕ) → Numbered (ownTests d s k m w)
 own-not-zero d s k m w = (lit< tt, (lit< tt, (lit< tt, (lit< tt, (lit< tt, tt)))))
 
 -- an allocation that is not refused
@@ -126,7 +127,7 @@ pub record Allowed (d : Device) (s : List ℕ) (k m w : ℕ) : Type 0 where
 
 pub allowed : (d : Device) (s : List ℕ) (k m w : ℕ) → first (allocateTests d s k m w) ≡ 0 → Allowed d s k m w
 allowed d s k m w h =
-    let q : (first (recordTests d s) ≡ 0) × (first (ownTests d s k m w) ≡ 0) = first-split (recordTests d s) (ownTests d s k m w) (record-not-zero d s) h in
+    let q : (first (recordTests d s) ≡ 0) × (first (ownTests d s k m w) ≡ 0) = first-split (recordTests d s) (ownTests d s k m w) (record-numbered d s) h in
     let a : AllHold (ownTests d s k m w) = first-holds (ownTests d s k m w) (own-not-zero d s k m w) (q .1) in
     record {
       record-accepted = accepted d s (q .0);
@@ -145,7 +146,7 @@ pub record Releasable (d : Device) (s : List ℕ) (p w : ℕ) : Type 0 where
 
 pub releasable : (d : Device) (s : List ℕ) (p w : ℕ) → first (releaseTests d s p w) ≡ 0 → Releasable d s p w
 releasable d s p w h =
-    let q : (first (recordTests d s) ≡ 0) × (first (positionTests s p ++ roomTests s w) ≡ 0) = first-split (recordTests d s) (positionTests s p ++ roomTests s w) (record-not-zero d s) h in
+    let q : (first (recordTests d s) ≡ 0) × (first (positionTests s p ++ roomTests s w) ≡ 0) = first-split (recordTests d s) (positionTests s p ++ roomTests s w) (record-numbered d s) h in
     let a : AllHold (positionTests s p ++ roomTests s w) = first-holds (positionTests s p ++ roomTests s w) (lit< tt, (lit< tt, tt)) (q .1) in
     record { record-accepted = accepted d s (q .0); there = ltb-true p (count s) (a .0); wide = leb-true (length s - itemBytes) w (a .1 .0) }
 

@@ -1,16 +1,13 @@
 -- Document 01's marked examples 9, 10 and 11, as theorems. Assumes nothing.
-use Prim.Native.Nat.{ℕ, _+_, _-_, _*_, _≤_, _<_, max}
+use Prim.Native.Nat.{ℕ, _+_, _-_, _*_, _≤_, _<_}
 use mathlib.Core.Path.{_≡_, refl, sym, ap, _∙_}
-use mathlib.Core.Bool.{Bool, true, false}
-use mathlib.Core.List.{List, [], _∷_, _++_}
+use mathlib.Core.List.{List, [], _∷_}
 use native.Mathlib.Omega.{arith}
-use lib.ListN.{length}
 use Rattle.refusal.specs.Tests.{first}
 use Rattle.endian.specs.Bytes.{le, toLe, window}
 use Rattle.layout.specs.declared.Device.{Device}
 use Rattle.layout.specs.Limits.{lengthAllowed, recordLimit}
-use Rattle.layout.specs.Places.{dataStart, dataEnd}
-use Rattle.record.specs.declared.Segment.{Segment}
+use Rattle.layout.specs.Places.{dataEnd}
 use Rattle.record.specs.Search.{every, least, total}
 use Rattle.record.specs.Items.{itemOf, kindKnown, headBytes, blockSize, headRight, count, place, sizeAt, kindAt, startAt, sectorsAt, segmentAt}
 use Rattle.record.specs.Accept.{itemRight, wellFormed, inRange, allInRange, meets, clashesAt, laterOf, earlierOf, apart, recordTests}
@@ -24,7 +21,7 @@ use Rattle.record.proofs.Partition.{counted, holds-in}
 use Rattle.room.specs.declared.Run.{Run}
 use Rattle.room.specs.Runs.{runFrom, runAt, noRun, runCount, longEnough, fitAt, holderOf, lowestStart}
 use Rattle.room.specs.Change.{given}
-use Rattle.room.proofs.Runs.{HeldUpTo, held-none, next-free-here, next-free-end, run-some, run-none, AtRun, OnRun, at-first, on-run, run-is, count-more, count-done}
+use Rattle.room.proofs.Runs.{HeldUpTo, held-none, next-free-here, next-free-end, run-some, run-none, OnRun, at-first, on-run, run-is, count-more, count-done}
 
 -- S = 2,097,152, L = 2,040, R = 0
 abbrev pub device : Device

@@ -19,7 +19,7 @@ use Rattle.record.specs.Making.{appended, removed}
 use Rattle.record.specs.Sectors.{holds, isFree}
 use Rattle.record.proofs.Items.{kind-small}
 use Rattle.record.proofs.RoundTrip.{Fit}
-use Rattle.record.proofs.Meaning.{InRange, Apart, meets-not, meets-holds, apart-holds, Accepted, accepted, accepted-back}
+use Rattle.record.proofs.Meaning.{InRange, Apart, meets-not, meets-holds, apart-holds, Accepted, accepted-back}
 use Rattle.record.proofs.Change.{count-appended, appended-old, appended-new, accepted-appended, count-removed, removed-before, removed-after, removed-is, oldOf, accepted-removed, segments-appended, segments-removed}
 use Rattle.room.specs.Runs.{runAt, fitAt}
 use Rattle.room.specs.Change.{allocateTests, given, releaseTests}

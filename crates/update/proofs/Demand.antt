@@ -1,17 +1,16 @@
 -- Demand 3, proved: one claim over every start, update and cut. Assumes nothing.
 use Prim.Native.Nat.{ℕ, zero, suc, _+_, _-_, _*_, _^_, _≤_, _<_}
 use mathlib.Core.Path.{_≡_, refl, sym, ap, subst, _∙_}
-use mathlib.Core.Bool.{Bool, true, cond}
+use mathlib.Core.Bool.{true}
 use mathlib.Core.Logic.{_⊎_, inl, inr}
 use mathlib.Core.List.{List}
 use native.Mathlib.Decide.{ℕ-discrete}
 use native.Mathlib.Nat.{le-refl}
 use native.Mathlib.Omega.{arith}
-use borrow.Author.Tests.{eq-eqb}
 use lib.Dec.{leb, lit<}
 use lib.ListN.{length}
 use Rattle.refusal.specs.Tests.{first, AllHold}
-use Rattle.refusal.proofs.Order.{first-holds}
+use Rattle.refusal.proofs.Order.{first-holds, answer-yes}
 use Rattle.layout.specs.declared.Device.{Device}
 use Rattle.layout.specs.declared.Side.{Side}
 use Rattle.layout.specs.declared.Side.the-variants.{Front, Back}
@@ -49,9 +48,9 @@ use Rattle.update.proofs.Discovering.{gives, back-found, front-found, b
 use Rattle.update.proofs.Padding.{sectors-most}
 use Rattle.update.proofs.OneSide as OneSide
 use Rattle.update.proofs.Choosing.{block-given, area-given, part-given, front-store, back-store}
-use Rattle.update.proofs.InStep.{Stepped, verdict-facts, in-step-facts, same-device-test}
+use Rattle.update.proofs.InStep.{refused-differs, Stepped, verdict-facts, in-step-facts, same-device-test}
 use Rattle.update.proofs.OneCopy.{used, old-held, new-held, block-of}
-use Rattle.update.proofs.Facts.{other-differs, renamed, same-time-is, sized-copies, refused-differs, stands-as}
+use Rattle.update.proofs.Facts.{other-differs, renamed, same-time-is, sized-copies, stands-as}
 use Rattle.update.proofs.Agreeing.{agree-gives, agree-in-step}
 use Rattle.update.proofs.Places.{Sizes, sizes-accepted, near, area-near, area-below, block-apart, areas-apart}
 use Rattle.update.proofs.Stores.{starting, begin, count, which, stored-size, side, group-starts, grouped}
@@ -445,8 +444,7 @@ landing v d t r s = all-landed v d t r s
 
 pub giving : Giving
 giving v d t r s = (
-  ap (λ (b : Bool). cond b (Planned.Ready (planOn v d t r)) (Planned.Refused (updateNumber (copyFrom Front v d) (copyFrom Back v d) t r)))
-      (eq-eqb (updateNumber (copyFrom Front v d) (copyFrom Back v d) t r) 0 (s .not-refused)),
+  sym (answer-yes (Planned.Ready (planOn v d t r)) Planned.Refused 0 (updateNumber (copyFrom Front v d) (copyFrom Back v d) t r) (sym (s .not-refused)) refl),
   (
     (let e : 2 * sectorsOf (length r) + 2 ≡ sectorsOf (length r) + 1 + sectorsOf (length r) + 1 = omega arith in e) ∙ sym (stores-count v d t r s),
     (

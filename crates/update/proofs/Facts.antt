@@ -72,9 +72,6 @@ pub split : (a b : List ℕ) (x : Bool) → same a b ≡ x → (a ≡ b) ⊎ (a 
 split a b true e = inl (same-equal a b e)
 split a b false e = inr (λ q. true≢false (sym (equal-same a b q) ∙ e))
 
-pub refused-differs : (n : ℕ) (f : BlockFields) → Verdict.Refused n ≡ Verdict.Accepted f → ⊥
-refused-differs n f v = let o : _≡_ {A = ℕ} 0 1 = cc in omega arith
-
 -- a block that is accepted only in one of two versions stands in one of them, or is refused
 pub stands-as : (b o n : List ℕ) → ((b ≡ o → ⊥) → (b ≡ n → ⊥) → first (readTests b) ≡ 0 → ⊥)
     → (b ≡ o) ⊎ ((b ≡ n) ⊎ ((m : ℕ) × (reading b .verdict ≡ Verdict.Refused m)))

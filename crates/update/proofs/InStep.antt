@@ -27,21 +27,21 @@ use Rattle.block.specs.declared.Entry.the-variants.{Used}
 use Rattle.update.specs.Demand.{heldIn, recordIn}
 use Rattle.update.proofs.Holding.{Holds, its-whole}
 
+pub refused-differs : (n : ℕ) (f : BlockFields) → Verdict.Refused n ≡ Verdict.Accepted f → ⊥
+refused-differs n f v = let o : _≡_ {A = ℕ} 0 1 = cc in omega arith
+
 -- a verdict of acceptance says that no test refuses, and gives the block's numbers
 pub verdict-facts : (b : List ℕ) (f : BlockFields) → reading b .verdict ≡ Verdict.Accepted f → (first (readTests b) ≡ 0) × (f ≡ fieldsOf b)
 verdict-facts b f e =
     elim (ℕ-discrete (first (readTests b)) 0) [
       | yes z ↦ (z, same-fields z)
-      | no h ↦ absurd (clash (ap (λ (r : Reading). r .verdict) (refused-reading b (first (readTests b)) refl h) ∙ e))
+      | no h ↦ absurd (refused-differs (first (readTests b)) f (ap (λ (r : Reading). r .verdict) (refused-reading b (first (readTests b)) refl h) ∙ e))
     ]
   where
     same-fields : first (readTests b) ≡ 0 → f ≡ fieldsOf b
     same-fields z =
         let v : Verdict.Accepted (fieldsOf b) ≡ Verdict.Accepted f = ap (λ (r : Reading). r .verdict) (accepted-reading b z) ∙ e in
         cc
-
-    clash : Verdict.Refused (first (readTests b)) ≡ Verdict.Accepted f → ⊥
-    clash v = let o : _≡_ {A = ℕ} 0 1 = cc in omega arith
 
 pub record Stepped (f b : List ℕ) : Type 0 where
   pub sizes : sized f b ≡ true

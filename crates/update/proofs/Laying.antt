@@ -4,14 +4,14 @@ use mathlib.Core.Path.{_≡_, sym, ap, ap₂, _∙_}
 use mathlib.Core.Bool.{Bool, true, false, cond, not}
 use mathlib.Core.List.{List, _++_}
 use native.Mathlib.Omega.{arith}
-use borrow.Author.Tests.{eqb-true, eq-eqb, ne-eqb, not-false}
+use borrow.Author.Tests.{eqb-true, eq-eqb, not-false}
 use lib.Dec.{eqb}
 use lib.ListN.{length, take, drop, length-append, length-take, length-drop}
 use Rattle.endian.specs.Bytes.{zeros, splice}
 use Rattle.endian.proofs.Parts.{splice-part}
 use Rattle.endian.proofs.Tests.{length-zeros}
 use Rattle.refusal.specs.Tests.{first}
-use Rattle.refusal.proofs.Order.{first-all}
+use Rattle.refusal.proofs.Order.{first-all, answer-no}
 use Rattle.layout.specs.declared.Area.{Area}
 use Rattle.layout.specs.Limits.{recordLimit, lengthAllowed}
 use Rattle.layout.specs.Places.{areaOffset, copyBytes}
@@ -27,8 +27,7 @@ use Rattle.update.proofs.OneCopy.{area-fits}
 pub lay-refused : (c : List ℕ) (x : Area) (r : List ℕ) (n : ℕ) → n ≡ first (layTests c r) → (n ≡ 0 → ⊥) → c ≡ laid c x r
 unfolding laid
 lay-refused c x r n e h =
-    sym (ap (λ (q : Bool). cond q (splice c (areaOffset x) (r ++ zeros (sectorsOf (length r) * 512 - length r))) c) (ne-eqb n 0 h))
-    ∙ ap (λ (k : ℕ). cond (eqb k 0) (splice c (areaOffset x) (r ++ zeros (sectorsOf (length r) * 512 - length r))) c) e
+    answer-no (splice c (areaOffset x) (r ++ zeros (sectorsOf (length r) * 512 - length r))) (λ (k : ℕ). c) n (first (layTests c r)) e h
 
 module _ (c : List ℕ) (x : Area) (r : List ℕ) (m : ℕ) (em : m ≡ copyBytes) (sized : not (eqb (length c) m) ≡ false)
     (v : Bool) (ev : v ≡ lengthAllowed (length r)) (allowed : not v ≡ false) (at : ℕ) (ea : at ≡ areaOffset x) where

@@ -9,7 +9,7 @@ use lib.ListN.{length, take, drop, length-append, drop-of-length-le, take-append
 use lib.Seq.{take-at, take-append-add, drop-drop, drop-at}
 use Rattle.endian.specs.Bytes.{window, zeros, splice}
 use Rattle.endian.proofs.Parts.{window-rest, length-window, splice-fits}
-use Rattle.endian.proofs.Tests.{length-zeros}
+use Rattle.endian.proofs.Tests.{length-zeros, zeros-add}
 use Rattle.device.specs.Device.{Sectors, gather}
 use Rattle.update.specs.Update.{sectorsOf, sectorOf}
 use Rattle.update.specs.Plan.{sectorIn}
@@ -95,10 +95,6 @@ gather-record d r s m l h =
     let b : length r ≤ 512 * k = sectors-enough (length r) in
     ap₂ take (let z : length r ≡ length r - 512 * 0 = omega arith in z) (ap (gather d s) e ∙ gather-split d s k (m - k))
     ∙ from d r k s 0 (λ i w. h i w ∙ ap (sectorOf r) (sym (native.Mathlib.Nat.zero-add i))) (let z : 0 + sectorsOf (length r) ≡ sectorsOf (length r) = omega arith in omega arith) (gather d (s + k) (m - k))
-
-zeros-add : (a b : ℕ) → zeros (a + b) ≡ zeros a ++ zeros b
-unfolding zeros
-zeros-add a b = sym (lib.ListN.replicate-append-replicate a b 0)
 
 -- zeros that begin with a list
 pub zeros-begun : (n : ℕ) (v : List ℕ) → length v ≤ n → splice (zeros n) 0 v ≡ v ++ zeros (n - length v)

@@ -4,12 +4,11 @@ use mathlib.Core.Path.{_≡_, sym, ap, ap₂, _∙_}
 use mathlib.Core.Bool.{Bool, true, false, cond}
 use mathlib.Core.List.{List}
 use native.Mathlib.Omega.{arith}
-use borrow.Author.Tests.{eq-eqb, ne-eqb}
-use lib.Dec.{eqb, lit<}
+use lib.Dec.{lit<}
 use lib.ListN.{length}
 use Rattle.endian.specs.Bytes.{same, window}
 use Rattle.checksum.specs.Crc as Crc
-use Rattle.refusal.proofs.Order.{first-holds}
+use Rattle.refusal.proofs.Order.{first-holds, answer-no, answer-yes}
 use Rattle.layout.specs.declared.Device.{Device}
 use Rattle.layout.specs.declared.Side.{Side}
 use Rattle.layout.specs.declared.Side.the-variants.{Front, Back}
@@ -109,9 +108,7 @@ module _ (f b : List ℕ) (t : Time) (r : List ℕ) where
       omega arith
 
   pub plan-refused : (n : ℕ) → n ≡ updateNumber f b t r → (n ≡ 0 → ⊥) → Planned.Refused n ≡ planned f b t r
-  plan-refused n e z =
-      sym (ap (λ (c : Bool). cond c (Planned.Ready (planOf f b t r)) (Planned.Refused n)) (ne-eqb n 0 z))
-      ∙ ap (λ (m : ℕ). cond (eqb m 0) (Planned.Ready (planOf f b t r)) (Planned.Refused m)) e
+  plan-refused n e z = answer-no (Planned.Ready (planOf f b t r)) Planned.Refused n (updateNumber f b t r) e z
 
   pub plan-ready : (n : ℕ) → n ≡ updateNumber f b t r → n ≡ 0 → (x : BlockFields) (s : List ℕ) → s ≡ window f 512 512 → x ≡ fieldsOf s
       → (q k : ℕ) → q ≡ Crc.checksum r → k ≡ sectorsOf (length r) → (y w : Part)
@@ -125,5 +122,4 @@ module _ (f b : List ℕ) (t : Time) (r : List ℕ) where
       let fy : y ≡ partOf Front (deviceIn f) f (holdingFor t r) = ey ∙ ap₂ (λ (v : Device) (g : Holding). partOf Front v f g) d h in
       let fw : w ≡ partOf Back (deviceIn f) b (holdingFor t r) = ew ∙ ap₂ (λ (v : Device) (g : Holding). partOf Back v b g) d h in
       let p : _≡_ {A = Plan} (record { sectors = k; front = y; back = w }) (planOf f b t r) = λ i. record { sectors = ek i; front = fy i; back = fw i } in
-      ap Planned.Ready p
-      ∙ sym (ap (λ (c : Bool). cond c (Planned.Ready (planOf f b t r)) (Planned.Refused (updateNumber f b t r))) (eq-eqb (updateNumber f b t r) 0 (sym e ∙ z)))
+      ap Planned.Ready p ∙ answer-yes (Planned.Ready (planOf f b t r)) Planned.Refused n (updateNumber f b t r) e z

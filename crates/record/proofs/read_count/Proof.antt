@@ -1,5 +1,5 @@
 -- `record::read_count` meets its contract. Assumes nothing.
-use Rattle.record.proofs.Order.{answer-no, answer-yes}
+use Rattle.refusal.proofs.Order.{answer-no, answer-yes}
 use Rattle.record.specs.Accept.{recordTests}
 use Rattle.record.specs.Items.{count}
 use Rattle.record.specs.declared.Counted.the-variants.{Segments, Refused}

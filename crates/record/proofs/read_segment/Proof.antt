@@ -1,6 +1,7 @@
 use Rattle.record.proofs.Order.{position-past, position-there}
 -- `record::read_segment` meets its contract. Assumes nothing.
-use Rattle.record.proofs.Order.{answer-no, answer-yes, more-no, more-yes}
+use Rattle.refusal.proofs.Order.{answer-no, answer-yes}
+use Rattle.record.proofs.Order.{more-no, more-yes}
 use Rattle.record.specs.Answers.{positionTests}
 use Rattle.record.specs.Accept.{recordTests}
 use Rattle.record.specs.Items.{count, segmentAt}

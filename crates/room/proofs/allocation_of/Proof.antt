@@ -5,7 +5,8 @@ use Rattle.room.specs.Change.{given, ownTests, allocateTests}
 use Rattle.room.specs.Runs.{runAt, fitAt, fitting}
 use Rattle.room.specs.declared.Allocation.the-variants.{Placed, Refused}
 use Rattle.room.specs.declared.Run.{Run}
-use Rattle.record.proofs.Order.{answer-no, answer-yes, more-no, more-yes}
+use Rattle.refusal.proofs.Order.{answer-no, answer-yes}
+use Rattle.record.proofs.Order.{more-no, more-yes}
 use Rattle.record.specs.Accept.{mostSegments}
 use Rattle.record.specs.Items.{headBytes, count, kindKnown}
 use Rattle.layout.specs.declared.Device.{Device}

@@ -1,7 +1,7 @@
 -- `room::count_runs` meets its contract. Assumes nothing.
 use Rattle.room.specs.Runs.{runCount}
 use Rattle.room.specs.declared.RunNumber.the-variants.{Runs, Refused}
-use Rattle.record.proofs.Order.{answer-no, answer-yes}
+use Rattle.refusal.proofs.Order.{answer-no, answer-yes}
 use Rattle.record.specs.Accept.{recordTests}
 use Rattle.layout.specs.declared.Device.{Device}
 use Rattle.refusal.specs.Tests.{first}

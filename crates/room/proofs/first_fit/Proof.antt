@@ -3,7 +3,8 @@ use Rattle.room.proofs.Answers.{fit-yes, fit-no, fit-zero, fit-refused,
 use Rattle.room.specs.Answers.{fitTests}
 use Rattle.room.specs.Runs.{runAt, fitAt}
 use Rattle.room.specs.declared.RunFound.the-variants.{At, Refused}
-use Rattle.record.proofs.Order.{answer-no, answer-yes, more-no, more-yes}
+use Rattle.refusal.proofs.Order.{answer-no, answer-yes}
+use Rattle.record.proofs.Order.{more-no, more-yes}
 use Rattle.record.specs.Accept.{recordTests}
 use Rattle.layout.specs.declared.Device.{Device}
 use Rattle.refusal.specs.Tests.{first}

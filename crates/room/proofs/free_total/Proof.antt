@@ -3,7 +3,7 @@ use Rattle.room.proofs.Answers.{Totals, totals}
 use Rattle.room.specs.declared.FreeTotal.the-variants.{Sectors, Refused}
 use Rattle.record.specs.Sectors.{allocated, freeSectors}
 use Rattle.layout.specs.Places.{dataStart, dataEnd}
-use Rattle.record.proofs.Order.{answer-no, answer-yes}
+use Rattle.refusal.proofs.Order.{answer-no, answer-yes}
 use Rattle.record.specs.Accept.{recordTests}
 use Rattle.layout.specs.declared.Device.{Device}
 use Rattle.refusal.specs.Tests.{first}

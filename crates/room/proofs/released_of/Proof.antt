@@ -4,7 +4,8 @@ use Rattle.room.specs.Change.{roomTests, releaseTests}
 use Rattle.room.specs.declared.Released.the-variants.{Length, Refused}
 use Rattle.record.proofs.Change.{place-inside}
 use Rattle.record.proofs.Meaning.{Accepted, accepted}
-use Rattle.record.proofs.Order.{answer-no, answer-yes, more-no, more-yes}
+use Rattle.refusal.proofs.Order.{answer-no, answer-yes}
+use Rattle.record.proofs.Order.{more-no, more-yes}
 use Rattle.record.specs.Answers.{positionTests}
 use Rattle.record.specs.Items.{count, place}
 use Rattle.layout.specs.declared.Device.{Device}

@@ -2,7 +2,7 @@
 use Rattle.room.specs.Answers.{orNone}
 use Rattle.room.specs.Runs.{runAt}
 use Rattle.room.specs.declared.RunFound.the-variants.{At, Refused}
-use Rattle.record.proofs.Order.{answer-no, answer-yes}
+use Rattle.refusal.proofs.Order.{answer-no, answer-yes}
 use Rattle.record.specs.Accept.{recordTests}
 use Rattle.layout.specs.declared.Device.{Device}
 use Rattle.refusal.specs.Tests.{first}
