@@ -122,30 +122,33 @@ fn kept_device(m: Mending, f: &[u8], b: &[u8]) -> Device {
     }
 }
 
-// Stores 512 bytes at a sector of the pair e, or says that the pair does not have that sector.
-fn apply(e: &mut [u8], d: Device, sector: u64, out: &[u8]) {
-    if endian::put(e, place(sector, d), out) != 0 {
-        say(b" nowhere");
+// Prints the sector of a store, or what it is refused with, and answers where it lies in a pair.
+fn print_given(g: Given, d: Device) -> usize {
+    match g {
+        Given::Refused(n) => {
+            say(b" refused");
+            number(n as u64);
+            NOWHERE
+        }
+        Given::At(sector) => {
+            number(sector);
+            let at = place(sector, d);
+            if at == NOWHERE {
+                say(b" nowhere");
+            }
+            at
+        }
     }
 }
 
-// Prints store i of a mend of f and b, and applies it to e, on a device with the numbers d.
+// Prints store i of a mend of f and b, and applies it to the pair e, of a device with the numbers d.
 fn run_store(m: Mending, f: &[u8], b: &[u8], i: u64, d: Device, e: &mut [u8]) {
     say(b"store");
     number(i);
     number(mend::group(m, i) as u64);
     let mut out = [0xEEu8; 512];
-    let g = mend::store(m, f, b, i, &mut out);
-    match g {
-        Given::Refused(n) => {
-            say(b" refused");
-            number(n as u64);
-        }
-        Given::At(sector) => {
-            number(sector);
-            apply(e, d, sector, &out);
-        }
-    }
+    let at = print_given(mend::store(m, f, b, i, &mut out), d);
+    endian::put(e, at, &out);
     sum(&out);
     say(b"\n");
 }
@@ -235,23 +238,24 @@ fn samples(s: &[u8], d: &mut [u8], e: &mut [u8])
     }
 }
 
-// Prints what a mend's first store is refused with where n bytes are lent for it.
-fn lend(m: Mending, f: &[u8], b: &[u8], n: usize)
-    requires { ⌜ n ≤ 513 ⌝ }
-{
-    let mut out = [0xEEu8; 513];
-    let g = mend::store(m, f, b, 0, &mut out[..n]);
+// Prints what a mend's first store is refused with where out is lent for it.
+fn lend(m: Mending, f: &[u8], b: &[u8], d: Device, out: &mut [u8]) {
     say(b"lent");
-    number(n as u64);
-    match g {
-        Given::Refused(r) => {
-            say(b" refused");
-            number(r as u64);
-        }
-        Given::At(sector) => number(sector),
-    }
-    sum(&out);
+    number(out.len() as u64);
+    print_given(mend::store(m, f, b, 0, out), d);
+    sum(out);
     say(b"\n");
+}
+
+// The same with 1, 511 and 513 bytes.
+fn lend_odd(m: Mending, f: &[u8], b: &[u8]) {
+    let d = kept_device(m, f, b);
+    let mut one = [0xEEu8; 1];
+    lend(m, f, b, d, &mut one);
+    let mut short = [0xEEu8; 511];
+    lend(m, f, b, d, &mut short);
+    let mut long = [0xEEu8; 513];
+    lend(m, f, b, d, &mut long);
 }
 
 // A plan that keeps the front copy and has a record of 700 bytes in 4 sectors from sector `area` on, then a block with two
@@ -315,10 +319,7 @@ fn run_made_up(area: u64, f: &[u8], b: &[u8], e: &mut [u8]) {
 fn odd_calls(d: &[u8], e: &mut [u8]) {
     let f = endian::window(d, 0, COPY);
     let b = endian::window(d, COPY, COPY);
-    let m = mend::work_out(f, b);
-    lend(m, f, b, 0);
-    lend(m, f, b, 511);
-    lend(m, f, b, 513);
+    lend_odd(mend::work_out(f, b), f, b);
     run_made_up(18446744073709551614, f, b, e);
     run_made_up(18446744073709551615, f, b, e);
     run_made_up(100, f, b, e);
