@@ -124,7 +124,7 @@ def lines_of(m, stores):
     yield f"store {len(stores)} 4 refused 23 {zlib.crc32(LENT * SECTOR):08x}"
 
 
-# The samples: name, front, back, what mending answers.
+# The samples: name, front, back, which copy is kept and what mending answers.
 
 def dense(n):
     """A record of n bytes with no form, none of them zero."""
@@ -141,14 +141,15 @@ def sparse(n):
 
 
 NOISE = bytes(13 * i + 1 for i in range(16))
-# Bytes that no mend may change: in the header, past a record of one sector, in area b.
-AROUND = [(0, NOISE), (2 * SECTOR, NOISE), (8 * SECTOR - 16, NOISE), (OFFSETS["a"] + SECTOR, NOISE),
-          (OFFSETS["b"] - 16, NOISE), (OFFSETS["b"] + SECTOR, NOISE), (COPY - 16, NOISE)]
+# Bytes around records of 28 bytes: in the header, in a record's own sector, past it and at the end of the copy. No mend
+# changes them but for those in the sector that it stores, which become zeros, and no mend stores them elsewhere.
+AROUND = [(0, NOISE), (2 * SECTOR, NOISE), (8 * SECTOR - 16, NOISE), (OFFSETS["a"] + 28, NOISE),
+          (OFFSETS["a"] + SECTOR, NOISE), (OFFSETS["b"] - 16, NOISE), (OFFSETS["b"] + 28, NOISE), (COPY - 16, NOISE)]
 
 
 def both_ways(name, one, two, said):
-    yield f"{name}, back mended", one, two, said
-    yield f"{name}, front mended", two, one, said
+    yield f"{name}, back mended", one, two, f"keep front, {said}"
+    yield f"{name}, front mended", two, one, f"keep back, {said}"
 
 
 def in_step_already():
@@ -168,13 +169,14 @@ def in_step_already():
 
 def other_refused():
     """One copy's block is refused, by each number from 2 to 9."""
-    good = copy(a=held(10, 5), after=AROUND)
+    good = copy(a=held(9, 5), after=AROUND)
     seen = set()
     for n, name, odd in WAYS:
         if n in seen and name not in ("no block at all", "two entries of one time"):
             continue
         seen.add(n)
-        bad = copy(**{"a": held(11, 5, OTHER), **odd})
+        bad = copy(**{"a": held(10, 5, OTHER), **odd})
+        assert read(bad[SECTOR:2 * SECTOR])[0] == n, name
         yield from both_ways(f"block refused by {n}, {name}", good, bad, "stores 3")
     assert seen == set(range(2, 10))
     # Nothing of the refused block is taken over, and other sectors of its copy stay.
@@ -204,13 +206,13 @@ def later_torn():
     torn = copy(a=held(10, 5), b=broken(11, 0, OTHER))
     mirror = copy(a=broken(10, 6, OTHER), b=held(10, 5), after=AROUND[2:3])
     # One record in both: the front is kept.
-    yield "later entry b not whole in the kept copy", torn, good, "stores 4"
-    yield "later entry a not whole in the kept copy", mirror, good, "stores 4"
-    yield "later entry b not whole in the other copy", good, torn, "stores 3"
-    yield "later entry a not whole in the other copy", good, mirror, "stores 3"
-    yield "later entry b not whole in both", torn, torn, "stores 4"
-    yield "later entry a not whole in both", mirror, mirror, "stores 4"
-    yield "later entry a not whole in one, b in the other", mirror, torn, "stores 4"
+    yield "later entry b not whole in the kept copy", torn, good, "keep front, stores 4"
+    yield "later entry a not whole in the kept copy", mirror, good, "keep front, stores 4"
+    yield "later entry b not whole in the other copy", good, torn, "keep front, stores 3"
+    yield "later entry a not whole in the other copy", good, mirror, "keep front, stores 3"
+    yield "later entry b not whole in both", torn, torn, "keep front, stores 4"
+    yield "later entry a not whole in both", mirror, mirror, "keep front, stores 4"
+    yield "later entry a not whole in one, b in the other", mirror, torn, "keep front, stores 4"
     newer = copy(a=held(10, 5), b=held(11, 0, OTHER))
     yield from both_ways("later entry not whole, whole in the kept copy", newer, torn, "stores 3")
     bad = copy(a=held(12, 0), sealed=False)
@@ -237,14 +239,17 @@ def lengths():
     """Records of no form; the other copy has another record in area a."""
     for n, k in ((1, 1), (511, 1), (512, 1), (513, 2), (1024, 2), (1025, 3)):
         data = dense(n)
-        yield f"{n} bytes in a, back mended", copy(a=held(10, 5, data)), copy(a=held(9, 5)), f"stores {k + 2}"
-        yield f"{n} bytes in b, front mended", copy(a=held(9, 5)), copy(b=held(10, 5, data)), f"stores {k + 2}"
-    for n in (7681, 8191, 8192):
-        data = sparse(n)
-        yield from both_ways(f"{n} bytes in a", copy(a=held(10, 5, data)), copy(sealed=False), "stores 18")
-        torn = copy(a=broken(11, 0), b=held(10, 5, data))
-        yield from both_ways(f"{n} bytes in b, later entry not whole", torn, copy(b=held(9, 0)), "stores 19")
-    yield "8192 dense bytes in b, front mended", copy(a=held(9, 5)), copy(b=held(10, 5, LONG)), "stores 18"
+        said = f"stores {k + 2}"
+        yield f"{n} bytes in a, back mended", copy(a=held(10, 5, data)), copy(a=held(9, 5)), f"keep front, {said}"
+        yield f"{n} bytes in b, front mended", copy(a=held(9, 5)), copy(b=held(10, 5, data)), f"keep back, {said}"
+    # The area has other bytes right after the record: they are not stored.
+    full = copy(a=held(10, 5, sparse(513)), after=[(OFFSETS["a"] + 513, NOISE)])
+    yield from both_ways("513 bytes with others behind", full, copy(), "stores 4")
+    for n, k in ((7680, 15), (7681, 16), (8191, 16), (8192, 16)):
+        yield from both_ways(f"{n} bytes in a", copy(a=held(10, 5, sparse(n))), copy(sealed=False), f"stores {k + 2}")
+    torn = copy(a=broken(11, 0), b=held(10, 5, sparse(8192)))
+    yield from both_ways("8192 bytes in b, later entry not whole", torn, copy(b=held(9, 0)), "stores 19")
+    yield "8192 dense bytes in b, front mended", copy(a=held(9, 5)), copy(b=held(10, 5, LONG)), "keep back, stores 18"
     # A long record in the other copy's area a: only the sectors that the found one fills are rewritten.
     yield from both_ways("one sector over sixteen", copy(b=held(10, 5)), copy(a=held(9, 0, sparse(8192))), "stores 3")
 
@@ -280,7 +285,7 @@ def refused():
 
 def last():
     """The pair with which the calls of `odd_calls` are made: the front has `dense(800)` in area b."""
-    yield "the last pair", copy(b=held(10, 5, dense(800))), copy(a=held(9, 0)), "stores 4"
+    yield "the last pair", copy(b=held(10, 5, dense(800))), copy(a=held(9, 0)), "keep front, stores 4"
 
 
 def samples():
@@ -331,7 +336,7 @@ def main():
         names.add(name)
         stream += packed(name, front, back)
         m, kept, stores = mend(front, back)
-        assert m == stated, (name, m, stated)
+        assert stated == (f"keep {kept[0]}, {m}" if kept else m), (name, stated, m, kept)
         said.add(m)
         lines.append(name)
         lines += lines_of(m, stores)
@@ -347,8 +352,9 @@ def main():
         lines.append(mend(*after)[0])
     assert {"in step", "refused 1", "refused 10", "refused 11", "refused 12", "refused 13", "stores 3", "stores 4",
             "stores 5", "stores 18", "stores 19"} <= said
-    for n in (1, 511, 513):
-        lines.append(f"lent {n} refused 1 {zlib.crc32(LENT * n):08x}")
+    # Stores 0, 1 and 99 of that pair's mend, and store 0 where there is none, with too few and too many bytes.
+    for i in (0, 1, 99, 0, 0):
+        lines += [f"lent {n} for {i} refused 1 {zlib.crc32(LENT * n):08x}" for n in (1, 511, 513)]
     for area in (2 ** 64 - 2, 2 ** 64 - 1, 100):
         lines += made_up(area, front)
     assert len(stream) <= 65536, len(stream)

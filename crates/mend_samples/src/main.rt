@@ -2,7 +2,7 @@
 // stores; each store: its number, its group, its sector and the checksum of its 512 bytes; and what the store after the last
 // is refused with. The stores are applied to the copies. Then it prints the dump program's line for the mended copies,
 // whether they are in step, the checksums of the front and the back, and what `mend::work_out` answers now. At the end
-// the last pair's first store is asked for with too few and too many bytes, and three plans that nobody worked out have their
+// stores of the last pair are asked for with too few and too many bytes, and three plans that nobody worked out have their
 // stores printed. Standard input has the samples, packed by samples/mends.py. What must be printed is the file stdout; that
 // script makes both and shares nothing with the library. That the program is safe and ends is proved; that it prints the
 // right thing is tested. Assumes what `io` and `libc` do.
@@ -238,24 +238,25 @@ fn samples(s: &[u8], d: &mut [u8], e: &mut [u8])
     }
 }
 
-// Prints what a mend's first store is refused with where out is lent for it.
-fn lend(m: Mending, f: &[u8], b: &[u8], d: Device, out: &mut [u8]) {
+// Prints what store i of a mend is refused with where out is lent for it.
+fn lend(m: Mending, f: &[u8], b: &[u8], i: u64, out: &mut [u8]) {
     say(b"lent");
     number(out.len() as u64);
-    print_given(mend::store(m, f, b, 0, out), d);
+    say(b" for");
+    number(i);
+    print_given(mend::store(m, f, b, i, out), device_in(f));
     sum(out);
     say(b"\n");
 }
 
 // The same with 1, 511 and 513 bytes.
-fn lend_odd(m: Mending, f: &[u8], b: &[u8]) {
-    let d = kept_device(m, f, b);
+fn lend_odd(m: Mending, f: &[u8], b: &[u8], i: u64) {
     let mut one = [0xEEu8; 1];
-    lend(m, f, b, d, &mut one);
+    lend(m, f, b, i, &mut one);
     let mut short = [0xEEu8; 511];
-    lend(m, f, b, d, &mut short);
+    lend(m, f, b, i, &mut short);
     let mut long = [0xEEu8; 513];
-    lend(m, f, b, d, &mut long);
+    lend(m, f, b, i, &mut long);
 }
 
 // A plan that keeps the front copy and has a record of 700 bytes in 4 sectors from sector `area` on, then a block with two
@@ -319,7 +320,12 @@ fn run_made_up(area: u64, f: &[u8], b: &[u8], e: &mut [u8]) {
 fn odd_calls(d: &[u8], e: &mut [u8]) {
     let f = endian::window(d, 0, COPY);
     let b = endian::window(d, COPY, COPY);
-    lend_odd(mend::work_out(f, b), f, b);
+    let m = mend::work_out(f, b);
+    lend_odd(m, f, b, 0);
+    lend_odd(m, f, b, 1);
+    lend_odd(m, f, b, 99);
+    lend_odd(Mending::InStep, f, b, 0);
+    lend_odd(Mending::Refused(10), f, b, 0);
     run_made_up(18446744073709551614, f, b, e);
     run_made_up(18446744073709551615, f, b, e);
     run_made_up(100, f, b, e);
