@@ -19,8 +19,8 @@ the patches laid over; the front begins at byte 0, the back at byte 20,480.
 import zlib
 from pathlib import Path
 
-from dumps import (COPY, LONG, OFFSETS, OTHER, RECORD, SECTOR, WAYS, answer, broken, copy, entry, held, number,
-                   patches, present, read)
+from dumps import (COPY, LONG, OFFSETS, OTHER, RECORD, SECTOR, WAYS, answer, broken, copy, held, number, patches,
+                   present, read)
 
 SMALL = {"size": 2097152, "metadata": 2040, "reserved": 0}
 EVEN = {"size": 2097154, "metadata": 2044, "reserved": 3}
