@@ -1,0 +1,48 @@
+-- `mend_samples::samples` meets its contract: each sample ends after it begins. Assumes nothing.
+use Prim.Native.Nat.{_-_}
+use mathlib.Core.Path.{_≡_}
+use lib.ListN.{length}
+use borrow.Author.Needs.{needs}
+use Rattle.mend_samples.proofs.samples.Statement.{statement}
+use Rattle.mend_samples.proofs.samples.Tie as tie
+
+abbrev Inv-loop : tie.InvT-loop
+Inv-loop s d₀ e₀ at₀ d e at = (length d ≡ length d₀) × (length e ≡ length e₀)
+
+abbrev μ-loop : tie.MeasureT-loop
+μ-loop s d₀ e₀ at₀ d e at = length s - at
+
+loop-holds : tie.Need-loop-holds Inv-loop μ-loop
+loop-holds c = search needs
+
+sample-requires : tie.Need-sample-requires Inv-loop μ-loop
+sample-requires c κs = search needs
+
+loop-less : tie.Need-loop-less Inv-loop μ-loop
+loop-less c = search needs
+
+loop-again : tie.Need-loop-again Inv-loop μ-loop
+loop-again c = search needs
+
+same-length : tie.Need-same-length Inv-loop μ-loop
+same-length c = search needs
+
+same-length-2 : tie.Need-same-length-2 Inv-loop μ-loop
+same-length-2 c = search needs
+
+returns : tie.Need-returns Inv-loop μ-loop
+returns c = search needs
+
+pub samples-spec : {M : Type 1} → statement M
+samples-spec =
+    tie.close
+    (tie.spec
+    Inv-loop
+    μ-loop
+    loop-holds
+    sample-requires
+    loop-less
+    loop-again
+    same-length
+    same-length-2
+    returns)

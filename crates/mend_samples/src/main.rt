@@ -1,0 +1,341 @@
+// Mends pairs of copies and prints for each its name; what `mend::work_out` answers: a refusal, in step, or the number of
+// stores; each store: its number, its group, its sector and the checksum of its 512 bytes; and what the store after the last
+// is refused with. The stores are applied to the copies. Then it prints the dump program's line for the mended copies,
+// whether they are in step, the checksums of the front and the back, and what `mend::work_out` answers now. At the end
+// stores of the last pair are asked for with too few and too many bytes, and three plans that nobody worked out have their
+// stores printed. Standard input has the samples, packed by samples/mends.py. What must be printed is the file stdout; that
+// script makes both and shares nothing with the library. That the program is safe and ends is proved; that it prints the
+// right thing is tested. Assumes what `io` and `libc` do.
+ghost use Prim.Native.Nat.{_≤_, _<_};
+ghost use lib.ListN.{length};
+use block::BlockFields;
+use block::Entry;
+use block::Holding;
+use layout::Area;
+use layout::Device;
+use layout::Side;
+use mend::Last;
+use mend::Mending;
+use mend::Rewrite;
+use update::Given;
+use update::Part;
+
+const IN: i32 = 0;
+
+const OUT: i32 = 1;
+
+// The bytes of a copy: in a pair the front is from byte 0 on and the back from here on.
+const COPY: usize = 20480;
+
+// No place of a pair.
+const NOWHERE: usize = 65536;
+
+fn say(s: &[u8]) {
+    io::write_all(OUT, s);
+}
+
+// Prints a space and a number.
+fn number(n: u64) {
+    say(b" ");
+    io::print_decimal(OUT, n);
+}
+
+// Prints a space and the checksum of s.
+fn sum(s: &[u8]) {
+    say(b" ");
+    io::print_hex(OUT, checksum::checksum(s) as u64, 8);
+}
+
+// Prints what there is to do.
+fn print_answer(m: Mending) {
+    match m {
+        Mending::InStep => say(b"in step"),
+        Mending::Needed(_) => {
+            say(b"stores");
+            number(mend::count(m));
+        }
+        Mending::Refused(n) => {
+            say(b"refused");
+            number(n as u64);
+        }
+    }
+    say(b"\n");
+}
+
+// Where a sector lies in a run of n sectors that begins with sector `first` and, in a pair, at byte `at`.
+fn place_in_run(sector: u64, first: u64, n: u64, at: usize) -> usize
+    requires { ⌜ n ≤ 16 ⌝ }
+    requires { ⌜ at ≤ 40960 ⌝ }
+{
+    if sector < first {
+        return NOWHERE;
+    }
+    let i = sector - first;
+    if n <= i {
+        return NOWHERE;
+    }
+    at + 512 * (i as usize)
+}
+
+// Where a sector of a device lies in one copy, which begins at byte `at` of a pair.
+fn place_in_copy(sector: u64, w: Side, d: Device, at: usize) -> usize
+    requires { ⌜ at ≤ 20480 ⌝ }
+{
+    let k = place_in_run(sector, layout::block_sector(w, d), 1, at + 512);
+    if k < NOWHERE {
+        return k;
+    }
+    let a = place_in_run(sector, layout::area_sector(w, Area::A, d), 16, at + 4096);
+    if a < NOWHERE {
+        return a;
+    }
+    place_in_run(sector, layout::area_sector(w, Area::B, d), 16, at + 12288)
+}
+
+// Where a sector of a device lies in a pair.
+fn place(sector: u64, d: Device) -> usize {
+    let k = place_in_copy(sector, Side::Front, d, 0);
+    if k < NOWHERE {
+        return k;
+    }
+    place_in_copy(sector, Side::Back, d, COPY)
+}
+
+// The device numbers in a copy's block.
+fn device_in(c: &[u8]) -> Device {
+    let x = block::fields(endian::window(c, 512, 512));
+    x.device
+}
+
+// The device numbers of the kept copy; those of the front where none is kept.
+fn kept_device(m: Mending, f: &[u8], b: &[u8]) -> Device {
+    match m {
+        Mending::InStep => device_in(f),
+        Mending::Needed(p) => {
+            let side = p.kept;
+            match side {
+                Side::Front => device_in(f),
+                Side::Back => device_in(b),
+            }
+        }
+        Mending::Refused(_) => device_in(f),
+    }
+}
+
+// Prints the sector of a store, or what it is refused with, and answers where it lies in a pair.
+fn print_given(g: Given, d: Device) -> usize {
+    match g {
+        Given::Refused(n) => {
+            say(b" refused");
+            number(n as u64);
+            NOWHERE
+        }
+        Given::At(sector) => {
+            number(sector);
+            let at = place(sector, d);
+            if at == NOWHERE {
+                say(b" nowhere");
+            }
+            at
+        }
+    }
+}
+
+// Prints store i of a mend of f and b, and applies it to the pair e, of a device with the numbers d.
+fn run_store(m: Mending, f: &[u8], b: &[u8], i: u64, d: Device, e: &mut [u8]) {
+    say(b"store");
+    number(i);
+    number(mend::group(m, i) as u64);
+    let mut out = [0xEEu8; 512];
+    let at = print_given(mend::store(m, f, b, i, &mut out), d);
+    endian::put(e, at, &out);
+    sum(&out);
+    say(b"\n");
+}
+
+// Prints all stores of a mend of f and b and applies them to e; then what comes after the last.
+fn run_stores(m: Mending, f: &[u8], b: &[u8], e: &mut [u8]) {
+    let d = kept_device(m, f, b);
+    let n = mend::count(m);
+    let mut i = 0;
+    while i < n {
+        run_store(m, f, b, i, d, e);
+        i += 1;
+    }
+    run_store(m, f, b, n, d, e);
+}
+
+// Prints what a mend has left.
+fn print_copies(f: &[u8], b: &[u8]) {
+    let mut line = [0u8; 128];
+    let k = dump_line::line(f, b, &mut line);
+    say(endian::window(&line, 0, k));
+    if discovery::in_step(f, b) {
+        say(b"copies in step");
+    } else {
+        say(b"copies not in step");
+    }
+    sum(f);
+    sum(b);
+    say(b"\n");
+    print_answer(mend::work_out(f, b));
+}
+
+// Mends the pair d, with a front copy of n and a back copy of k bytes; e begins as the same pair.
+fn mend_pair(d: &[u8], n: usize, k: usize, e: &mut [u8]) {
+    let f = endian::window(d, 0, n);
+    let b = endian::window(d, COPY, k);
+    let m = mend::work_out(f, b);
+    print_answer(m);
+    run_stores(m, f, b, e);
+    print_copies(endian::window(e, 0, n), endian::window(e, COPY, k));
+}
+
+// Lays `count` patches, the first at `from` of s, over d, and answers where they end. A patch is its offset in d, its
+// length and its bytes.
+fn lay(s: &[u8], from: usize, count: usize, d: &mut [u8]) -> usize
+    requires { ⌜ from ≤ 1000000 ⌝ }
+    requires { ⌜ count < 65536 ⌝ }
+    ensures { λ r. ⌜ from ≤ r ⌝ }
+{
+    let mut at = from;
+    let mut left = count;
+    while 0 < left {
+        let n = endian::read_u16(s, at + 2) as usize;
+        let offset = endian::read_u16(s, at) as usize;
+        endian::put(d, offset, endian::window(s, at + 4, n));
+        at = at + 4 + n;
+        left -= 1;
+    }
+    at
+}
+
+// Runs the sample at `from` of s and answers where the sample ends. The pair is made in d and mended in e.
+fn sample(s: &[u8], from: usize, d: &mut [u8], e: &mut [u8]) -> usize
+    requires { ⌜ from ≤ 65536 ⌝ }
+    ensures { λ r. ⌜ from < r ⌝ }
+{
+    let name = endian::read_u16(s, from) as usize;
+    say(endian::window(s, from + 2, name));
+    say(b"\n");
+    let at = from + 2 + name;
+    let n = endian::read_u16(s, at) as usize;
+    let k = endian::read_u16(s, at + 2) as usize;
+    endian::clear(d);
+    let end = lay(s, at + 6, endian::read_u16(s, at + 4) as usize, d);
+    endian::put(e, 0, d);
+    mend_pair(d, n, k, e);
+    end
+}
+
+// Every sample of s.
+fn samples(s: &[u8], d: &mut [u8], e: &mut [u8])
+    requires { ⌜ length (now s) ≤ 65536 ⌝ }
+{
+    let mut at = 0;
+    while at < s.len() {
+        at = sample(s, at, d, e);
+    }
+}
+
+// Prints what store i of a mend is refused with where out is lent for it.
+fn lend(m: Mending, f: &[u8], b: &[u8], i: u64, out: &mut [u8]) {
+    say(b"lent");
+    number(out.len() as u64);
+    say(b" for");
+    number(i);
+    print_given(mend::store(m, f, b, i, out), device_in(f));
+    sum(out);
+    say(b"\n");
+}
+
+// The same with 1, 511 and 513 bytes.
+fn lend_odd(m: Mending, f: &[u8], b: &[u8], i: u64) {
+    let mut one = [0xEEu8; 1];
+    lend(m, f, b, i, &mut one);
+    let mut short = [0xEEu8; 511];
+    lend(m, f, b, i, &mut short);
+    let mut long = [0xEEu8; 513];
+    lend(m, f, b, i, &mut long);
+}
+
+// A plan that keeps the front copy and has a record of 700 bytes in 4 sectors from sector `area` on, then a block with two
+// entries of one time, and a last store of a block with too small a device.
+fn made_up(area: u64) -> Mending {
+    let d = Device {
+        sectors: 2097152,
+        metadata: 2040,
+        reserved: 0,
+    };
+    let held = Entry::Used(Holding {
+        seconds: 7,
+        nanoseconds: 8,
+        bytes: 9,
+        checksum: 10,
+    });
+    let empty = BlockFields {
+        device: d,
+        a: Entry::Unused,
+        b: Entry::Unused,
+    };
+    let twice = BlockFields {
+        device: d,
+        a: held,
+        b: held,
+    };
+    let small = BlockFields {
+        device: Device {
+            sectors: 2097151,
+            metadata: 2041,
+            reserved: 65537,
+        },
+        a: Entry::Unused,
+        b: Entry::Unused,
+    };
+    let part = Part {
+        area: area,
+        block: 18446744073709551615,
+        fields: twice,
+    };
+    let last = Last::Blank(0, small);
+    Mending::Needed(Rewrite {
+        kept: Side::Front,
+        area: Area::B,
+        bytes: 700,
+        sectors: 4,
+        empty: empty,
+        part: part,
+        last: last,
+    })
+}
+
+// Prints the stores of a plan that nobody worked out, and applies them to e.
+fn run_made_up(area: u64, f: &[u8], b: &[u8], e: &mut [u8]) {
+    let m = made_up(area);
+    print_answer(m);
+    run_stores(m, f, b, e);
+}
+
+// The calls that no sample makes, with the pair d; e is written over.
+fn odd_calls(d: &[u8], e: &mut [u8]) {
+    let f = endian::window(d, 0, COPY);
+    let b = endian::window(d, COPY, COPY);
+    let m = mend::work_out(f, b);
+    lend_odd(m, f, b, 0);
+    lend_odd(m, f, b, 1);
+    lend_odd(m, f, b, 99);
+    lend_odd(Mending::InStep, f, b, 0);
+    lend_odd(Mending::Refused(10), f, b, 0);
+    run_made_up(18446744073709551614, f, b, e);
+    run_made_up(18446744073709551615, f, b, e);
+    run_made_up(100, f, b, e);
+}
+
+fn main() {
+    let mut input = io::large_buffer();
+    let n = io::read_full(IN, &mut input);
+    let mut before = io::large_buffer();
+    let mut after = io::large_buffer();
+    samples(&input[..n], &mut before, &mut after);
+    odd_calls(&before, &mut after);
+}
