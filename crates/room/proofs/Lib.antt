@@ -4,4 +4,3 @@ pub mod Answers
 pub mod Change
 pub mod Meaning
 pub mod Grants
-pub mod Examples

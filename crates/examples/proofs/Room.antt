@@ -1,11 +1,9 @@
--- Document 01's marked examples 9, 10 and 11, as theorems. Assumes nothing.
+-- Examples 9 and 11, and the runs of example 10, by the laws of free room. Assumes nothing.
 use Prim.Native.Nat.{ℕ, _+_, _-_, _*_, _≤_, _<_}
-use mathlib.Core.Path.{_≡_, refl, sym, ap, _∙_}
-use mathlib.Core.List.{List, [], _∷_}
+use mathlib.Core.Path.{_≡_, refl, sym, ap}
 use native.Mathlib.Omega.{arith}
 use Rattle.refusal.specs.Tests.{first}
 use Rattle.endian.specs.Bytes.{le, toLe, window}
-use Rattle.layout.specs.declared.Device.{Device}
 use Rattle.layout.specs.Limits.{lengthAllowed, recordLimit}
 use Rattle.layout.specs.Places.{dataEnd}
 use Rattle.record.specs.Search.{every, least, total}
@@ -18,33 +16,21 @@ use lib.Dec.{leb, lit<}
 use Rattle.record.proofs.Search.{least-zero, least-more, least-found}
 use Rattle.record.proofs.Meaning.{accepted}
 use Rattle.record.proofs.Partition.{counted, holds-in}
 use Rattle.room.specs.declared.Run.{Run}
+use Rattle.examples.specs.Examples.{device, pair, nine}
 use Rattle.room.specs.Runs.{runFrom, runAt, noRun, runCount, longEnough, fitAt, holderOf, lowestStart}
-use Rattle.room.specs.Change.{given}
 use Rattle.room.proofs.Runs.{HeldUpTo, held-none, next-free-here, next-free-end, run-some, run-none, OnRun, at-first, on-run, run-is, count-more, count-done}
-
--- S = 2,097,152, L = 2,040, R = 0
-abbrev pub device : Device
-device = record { sectors = 2097152; metadata = 2040; reserved = 0 }
-
--- a record with block size 128 and two data segments
-unfoldable pub pair : ℕ → ℕ → ℕ → ℕ → List ℕ
-pair a m b n = recordOf 128 (record { kind = 2; start = a; sectors = m } ∷ record { kind = 2; start = b; sectors = n } ∷ [])
 
 -- 11. Segments (2,048, 100) and (2,147, 1): 19. With (2,148, 1) instead: accepted.
 pub example-11 : (first (recordTests device (pair 2048 100 2147 1)) ≡ 19) × (first (recordTests device (pair 2048 100 2148 1)) ≡ 0)
 unfolding first pair recordOf headOf allBytes segmentBytes toLe le window lengthAllowed recordLimit wellFormed headBytes headRight blockSize itemOf itemRight sizeAt kindAt kindKnown startAt sectorsAt place count every allInRange inRange apart earlierOf laterOf least clashesAt meets
 example-11 = (refl, refl)
 
--- the record of examples 9 and 10
-abbrev pub nine : List ℕ
-nine = pair 2048 100 3000 50
-
-accepted-nine : first (recordTests device nine) ≡ 0
+pub accepted-nine : first (recordTests device nine) ≡ 0
 unfolding first pair recordOf headOf allBytes segmentBytes toLe le window lengthAllowed recordLimit wellFormed headBytes headRight blockSize itemOf itemRight sizeAt kindAt kindKnown startAt sectorsAt place count every allInRange inRange apart earlierOf laterOf least clashesAt meets
 accepted-nine = refl
 
-two : count nine ≡ 2
+pub two : count nine ≡ 2
 unfolding pair recordOf headOf allBytes segmentBytes toLe le window headBytes startAt sectorsAt place count
 two = refl
 
@@ -142,22 +128,15 @@ example-9 =
       free = omega arith;
     }
 
-fit-852 : fitAt device nine 852 ≡ 0
+pub fit-852 : fitAt device nine 852 ≡ 0
 unfolding fitAt
 fit-852 =
     least-found (longEnough device nine 852) 0 2097152 (least-zero (longEnough device nine 852))
     (ap (λ (r : Run). leb 852 (r .sectors)) (sym run-zero)) (lit< tt)
 
-fit-853 : fitAt device nine 853 ≡ 1
+pub fit-853 : fitAt device nine 853 ≡ 1
 unfolding fitAt
 fit-853 =
     least-found (longEnough device nine 853) 1 2097152
     (least-more (longEnough device nine 853) 0 (least-zero (longEnough device nine 853)) (ap (λ (r : Run). leb 853 (r .sectors)) (sym run-zero)))
     (ap (λ (r : Run). leb 853 (r .sectors)) (sym run-one)) (lit< tt)
-
--- 10. Same record: asking 852 gives 2,148; asking 853 gives 3,050.
-pub example-10 : (k : ℕ) → (given device nine k 852 .start ≡ 2148) × (given device nine k 853 .start ≡ 3050)
-example-10 k = (
-  ap (λ (j : ℕ). runAt device nine j .start) fit-852 ∙ sym (ap (λ (r : Run). r .start) run-zero),
-  ap (λ (j : ℕ). runAt device nine j .start) fit-853 ∙ sym (ap (λ (r : Run). r .start) run-one),
-)

@@ -1,0 +1,3 @@
+-- Document 01's marked examples, proved.
+pub mod Room
+pub mod Examples

@@ -1,0 +1,2 @@
+-- Document 01's marked examples.
+pub mod Examples
