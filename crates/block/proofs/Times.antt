@@ -74,17 +74,27 @@ module _ (t u : Time) where
   unfolding sameTime
   same-test p q = ap₂ (λ (x y : Bool). x && y) (eq-eqb (t .seconds) (u .seconds) p) (eq-eqb (t .nanoseconds) (u .nanoseconds) q)
 
-  -- a later time is another time
-  pub later-differs : laterThan t u ≡ true → sameTime t u ≡ false
-  unfolding sameTime
-  later-differs h = go (later-facts h)
+  -- times that differ in a number
+  not-same : (t .seconds ≡ u .seconds → t .nanoseconds ≡ u .nanoseconds → ⊥) → sameTime t u ≡ false
+  not-same d = go (sameTime t u) refl
     where
-      go : Before u t → (eqb (t .seconds) (u .seconds) && eqb (t .nanoseconds) (u .nanoseconds)) ≡ false
-      go (inl k) = ap (λ (x : Bool). x && eqb (t .nanoseconds) (u .nanoseconds)) (ne-eqb (t .seconds) (u .seconds) (λ e. let d : t .seconds ≡ u .seconds = e in omega arith))
-      go (inr k) =
-          let l : u .nanoseconds < t .nanoseconds = k .1 in
-          ap₂ (λ (x y : Bool). x && y) (eq-eqb (t .seconds) (u .seconds) (sym (k .0)))
-          (ne-eqb (t .nanoseconds) (u .nanoseconds) (λ e. let d : t .nanoseconds ≡ u .nanoseconds = e in omega arith))
+      go : (x : Bool) → sameTime t u ≡ x → sameTime t u ≡ false
+      go true h = absurd (d (same-facts h .0) (same-facts h .1))
+      go false h = h
+
+-- a later time is another time
+apart : (t u : Time) → laterThan t u ≡ true → t .seconds ≡ u .seconds → t .nanoseconds ≡ u .nanoseconds → ⊥
+apart t u h p q = go (later-facts t u h)
+  where
+    go : Before u t → ⊥
+    go (inl k) = omega arith
+    go (inr k) = let l : u .nanoseconds < t .nanoseconds = k .1 in omega arith
+
+pub later-differs : (t u : Time) → laterThan t u ≡ true → sameTime t u ≡ false
+later-differs t u h = not-same t u (apart t u h)
+
+pub later-differs-back : (t u : Time) → laterThan t u ≡ true → sameTime u t ≡ false
+later-differs-back t u h = not-same u t (λ p q. apart t u h (sym p) (sym q))
 
 -- no time is later than itself
 pub never-later : (t : Time) → laterThan t t ≡ false
@@ -115,15 +125,3 @@ same-not-later t u h =
     let s : (t .seconds ≡ u .seconds) × (t .nanoseconds ≡ u .nanoseconds) = same-facts t u h in
     let e : t .nanoseconds ≡ u .nanoseconds = s .1 in
     not-later-test u t (inr (sym (s .0), omega arith))
-
--- and the other way round
-pub later-differs-back : (t u : Time) → laterThan t u ≡ true → sameTime u t ≡ false
-unfolding sameTime
-later-differs-back t u h = go (later-facts t u h)
-  where
-    go : Before u t → (eqb (u .seconds) (t .seconds) && eqb (u .nanoseconds) (t .nanoseconds)) ≡ false
-    go (inl k) = ap (λ (x : Bool). x && eqb (u .nanoseconds) (t .nanoseconds)) (ne-eqb (u .seconds) (t .seconds) (λ e. let d : u .seconds ≡ t .seconds = e in omega arith))
-    go (inr k) =
-        let l : u .nanoseconds < t .nanoseconds = k .1 in
-        ap₂ (λ (x y : Bool). x && y) (eq-eqb (u .seconds) (t .seconds) (k .0))
-        (ne-eqb (u .nanoseconds) (t .nanoseconds) (λ e. let d : u .nanoseconds ≡ t .nanoseconds = e in omega arith))

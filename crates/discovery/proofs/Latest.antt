@@ -4,7 +4,7 @@ use mathlib.Core.Path.{_≡_, refl, sym, ap, ap₂, subst, _∙_}
 use mathlib.Core.Bool.{Bool, true, false, cond, _&&_, true≢false}
 use mathlib.Core.List.{List}
 use native.Mathlib.Omega.{arith}
-use Rattle.refusal.specs.Numbers.{noRecord, twoRecords, identity, sliceSize}
+use Rattle.refusal.specs.Numbers.{noBlock, noRecord, twoRecords, identity, sliceSize}
 use Rattle.endian.specs.Bytes.{same}
 use Rattle.layout.specs.declared.Side.{Side}
 use Rattle.layout.specs.declared.Side.the-variants.{Front, Back}
@@ -186,13 +186,10 @@ module _ (f b : List ℕ) (r : Record) (o : Other) where
 
   module _ (x y : BlockFields) (ax : readingIn f .verdict ≡ Verdict.Accepted x) (ay : readingIn b .verdict ≡ Verdict.Accepted y) where
     -- no whole area of the other copy is later than h, where its present record is not
-    back-none : (h : Holding) → present b y ≡ Nothing → (e : BlockFields) (z : Area) → readingIn b .verdict ≡ Verdict.Accepted e → whole b e z ≡ true
+    none-there : (c : List ℕ) (g : BlockFields) (h : Holding) → readingIn c .verdict ≡ Verdict.Accepted g → present c g ≡ Nothing
+        → (e : BlockFields) (z : Area) → readingIn c .verdict ≡ Verdict.Accepted e → whole c e z ≡ true
         → laterThan (timeOf (holdingOf (entryIn e z))) (timeOf h) ≡ false
-    back-none h p e z q w = absurd (present-nothing b y p z (ap (λ (i : BlockFields). whole b i z) (accepted-same b y e ay q) ∙ w))
-
-    front-none : (h : Holding) → present f x ≡ Nothing → (e : BlockFields) (z : Area) → readingIn f .verdict ≡ Verdict.Accepted e → whole f e z ≡ true
-        → laterThan (timeOf (holdingOf (entryIn e z))) (timeOf h) ≡ false
-    front-none h p e z q w = absurd (present-nothing f x p z (ap (λ (i : BlockFields). whole f i z) (accepted-same f x e ax q) ∙ w))
+    none-there c g h a p e z q w = absurd (present-nothing c g p z (ap (λ (i : BlockFields). whole c i z) (accepted-same c g e a q) ∙ w))
 
     carried : (c : List ℕ) (g : BlockFields) (u : Area) (k h : Holding) → readingIn c .verdict ≡ Verdict.Accepted g → Latest c g u k
         → laterThan (timeOf k) (timeOf h) ≡ false → (e : BlockFields) (z : Area) → readingIn c .verdict ≡ Verdict.Accepted e → whole c e z ≡ true
@@ -225,13 +222,13 @@ module _ (f b : List ℕ) (r : Record) (o : Other) where
     together-found : (p q : Present) → present f x ≡ p → present b y ≡ q → togetherOf f b p q ≡ Found r o → Newest f b r
     together-found Nothing Nothing p q e = absurd (refused-found r o noRecord e)
     together-found Nothing (At v k) p q e =
-        build Back y v k ay (present-latest b y v k q) (front-none k p) (found-same r o (recordAt Back v k) Both e)
+        build Back y v k ay (present-latest b y v k q) (none-there f x k ax p) (found-same r o (recordAt Back v k) Both e)
     together-found (At u h) Nothing p q e =
-        build Front x u h ax (present-latest f x u h p) (back-none h q) (found-same r o (recordAt Front u h) Both e)
+        build Front x u h ax (present-latest f x u h p) (none-there b y h ay q) (found-same r o (recordAt Front u h) Both e)
     together-found (At u h) (At v k) p q e = both-found u h v k p q e
 
   decided : (u : Bool) (v w : Verdict) → readingIn f .verdict ≡ v → readingIn b .verdict ≡ w → decide v w u f b ≡ Found r o → Newest f b r
-  decided u (Verdict.Refused m) (Verdict.Refused n) p q e = absurd (refused-found r o Rattle.refusal.specs.Numbers.noBlock e)
+  decided u (Verdict.Refused m) (Verdict.Refused n) p q e = absurd (refused-found r o noBlock e)
   decided u (Verdict.Refused m) (Verdict.Accepted y) p q e = alone-found Back y m m q p (present b y) refl e
   decided u (Verdict.Accepted x) (Verdict.Refused n) p q e = alone-found Front x n n p q (present f x) refl e
   decided u (Verdict.Accepted x) (Verdict.Accepted y) p q e = go (sameDevice x y && u) refl

@@ -1,6 +1,6 @@
 -- Which case of the answers applies, from what the code has tested. Assumes nothing.
 use Prim.Native.Nat.{ℕ, _+_, _-_, _≤_, _<_}
-use mathlib.Core.Path.{_≡_, refl, sym, ap, ap₂, _∙_}
+use mathlib.Core.Path.{_≡_, refl, sym, ap, _∙_}
 use mathlib.Core.Bool.{Bool, true, false, cond}
 use mathlib.Core.List.{List}
 use native.Mathlib.Omega.{arith}
@@ -8,9 +8,11 @@ use borrow.Author.Tests.{lt-ltb, le-ltb, le-leb, lt-leb, eq-eqb, ne-eqb}
 use lib.Dec.{leb, eqb}
 use lib.ListN.{length}
 use Rattle.endian.specs.Bytes.{window}
+use Rattle.refusal.specs.Numbers.{noStore}
 use Rattle.layout.specs.declared.Side.{Side}
 use Rattle.layout.specs.Places.{areaOffset}
 use Rattle.block.specs.declared.BlockFields.{BlockFields}
+use Rattle.discovery.specs.Copy.{areaBytes}
 use Rattle.discovery.specs.Discovery.{copyOn}
 use Rattle.update.specs.declared.Given.{Given}
 use Rattle.update.specs.declared.Given.the-variants as Given
@@ -66,48 +68,45 @@ module _ (k n i : ℕ) where
         pub in-last : k + 1 < i → 3 ≡ groupIn k n i
         in-last h = rw (lt-ltb i n l, ne-eqb i 0 z, lt-leb i k a, lt-leb i (k + 1) h)
 
--- one of four, by three tests
-four : {A : Type 0} (a b c p q s : Bool) (x y z w : A) → a ≡ p → b ≡ q → c ≡ s → cond a x (cond b y (cond c z w)) ≡ cond p x (cond q y (cond s z w))
-four a b c p q s x y z w e f g = ap₂ (λ (u v : Bool). cond u x (cond v y (cond c z w))) e f ∙ ap (λ (u : Bool). cond p x (cond q y (cond u z w))) g
-
+-- what store i of a plan answers and leaves, by three tests on i
 module _ (p : Rewrite) (c : List ℕ) (i : ℕ) (out : List ℕ) (g : Given) (w : List ℕ) where
+  -- the answer and the bytes, by what the tests say
+  abbrev answerBy : Bool → Bool → Bool → Given
+  answerBy x y z =
+      cond x (blockAnswer (p .part .block) (p .empty) c out)
+      (cond y (partAnswer (p .part) (p .sectors) c (i - 1) out) (cond z (lastAnswer (p .last) c out) (Given.Refused noStore)))
+
+  abbrev bytesBy : Bool → Bool → Bool → List ℕ
+  bytesBy x y z =
+      cond x (blockBytes (p .empty) c out)
+      (cond y (partBytes (p .part) (p .sectors) c (areaBytes c (p .area) (p .bytes)) (i - 1) out) (cond z (lastBytes (p .last) c out) out))
+
+  tested : (x y z : Bool) → eqb i 0 ≡ x → leb i (p .sectors + 1) ≡ y → leb i (p .sectors + 2) ≡ z → g ≡ answerBy x y z → w ≡ bytesBy x y z
+      → (g ≡ rewriteAnswer p c i out) × (w ≡ rewriteBytes p c i out)
+  tested x y z ex ey ez eg ew = (eg ∙ (λ n. answerBy (sym ex n) (sym ey n) (sym ez n)), ew ∙ (λ n. bytesBy (sym ex n) (sym ey n) (sym ez n)))
+
   pub first-store : i ≡ 0 → g ≡ blockAnswer (p .part .block) (p .empty) c out → w ≡ blockBytes (p .empty) c out
       → (g ≡ rewriteAnswer p c i out) × (w ≡ rewriteBytes p c i out)
-  first-store e x y = (
-    x ∙ sym (four (eqb i 0) (leb i (p .sectors + 1)) (leb i (p .sectors + 2)) true _ _ _ _ _ _ (eq-eqb i 0 e) refl refl),
-    y ∙ sym (four (eqb i 0) (leb i (p .sectors + 1)) (leb i (p .sectors + 2)) true _ _ _ _ _ _ (eq-eqb i 0 e) refl refl),
-  )
+  first-store e x y = tested true (leb i (p .sectors + 1)) (leb i (p .sectors + 2)) (eq-eqb i 0 e) refl refl x y
 
   module _ (z : i ≡ 0 → ⊥) where
     pub part-store : i ≤ p .sectors + 1 → (at : ℕ) (r : List ℕ) → at ≡ areaOffset (p .area) → r ≡ window c at (p .bytes)
         → g ≡ partAnswer (p .part) (p .sectors) c (i - 1) out → w ≡ partBytes (p .part) (p .sectors) c r (i - 1) out
         → (g ≡ rewriteAnswer p c i out) × (w ≡ rewriteBytes p c i out)
-    part-store h at r ea er x y = (
-      x ∙ sym (four (eqb i 0) (leb i (p .sectors + 1)) (leb i (p .sectors + 2)) false true _ _ _ _ _ (ne-eqb i 0 z) (le-leb i (p .sectors + 1) h) refl),
-      y
-          ∙ (ap (λ (s : List ℕ). partBytes (p .part) (p .sectors) c s (i - 1) out) (er ∙ ap (λ (n : ℕ). window c n (p .bytes)) ea)
-          ∙ sym (four (eqb i 0) (leb i (p .sectors + 1)) (leb i (p .sectors + 2)) false true _ _ _ _ _ (ne-eqb i 0 z) (le-leb i (p .sectors + 1) h) refl)),
-    )
+    part-store h at r ea er x y =
+        tested false true (leb i (p .sectors + 2)) (ne-eqb i 0 z) (le-leb i (p .sectors + 1) h) refl x
+        (y ∙ ap (λ (s : List ℕ). partBytes (p .part) (p .sectors) c s (i - 1) out) (er ∙ ap (λ (n : ℕ). window c n (p .bytes)) ea))
 
     module _ (a : p .sectors + 1 < i) where
       pub last-stored : i ≤ p .sectors + 2 → g ≡ lastAnswer (p .last) c out → w ≡ lastBytes (p .last) c out
           → (g ≡ rewriteAnswer p c i out) × (w ≡ rewriteBytes p c i out)
-      last-stored h x y = (
-        x
-            ∙ sym
-            (four (eqb i 0) (leb i (p .sectors + 1)) (leb i (p .sectors + 2)) false false true _ _ _ _ (ne-eqb i 0 z) (lt-leb i (p .sectors + 1) a) (le-leb i (p .sectors + 2) h)),
-        y
-            ∙ sym
-            (four (eqb i 0) (leb i (p .sectors + 1)) (leb i (p .sectors + 2)) false false true _ _ _ _ (ne-eqb i 0 z) (lt-leb i (p .sectors + 1) a) (le-leb i (p .sectors + 2) h)),
-      )
+      last-stored h x y = tested false false true (ne-eqb i 0 z) (lt-leb i (p .sectors + 1) a) (le-leb i (p .sectors + 2) h) x y
 
 pub no-such : (p : Rewrite) (c : List ℕ) (i : ℕ) (out : List ℕ) → p .sectors + 2 < i → (Given.Refused 23 ≡ rewriteAnswer p c i out) × (out ≡ rewriteBytes p c i out)
 no-such p c i out h =
     let z : i ≡ 0 → ⊥ = λ e. omega arith in
-    let a : p .sectors + 1 < i = omega arith in (
-      sym (four (eqb i 0) (leb i (p .sectors + 1)) (leb i (p .sectors + 2)) false false false _ _ _ _ (ne-eqb i 0 z) (lt-leb i (p .sectors + 1) a) (lt-leb i (p .sectors + 2) h)),
-      sym (four (eqb i 0) (leb i (p .sectors + 1)) (leb i (p .sectors + 2)) false false false _ _ _ _ (ne-eqb i 0 z) (lt-leb i (p .sectors + 1) a) (lt-leb i (p .sectors + 2) h)),
-    )
+    let a : p .sectors + 1 < i = omega arith in
+    tested p c i out (Given.Refused 23) out false false false (ne-eqb i 0 z) (lt-leb i (p .sectors + 1) a) (lt-leb i (p .sectors + 2) h) refl refl
 
 module _ (m : Mending) (f b : List ℕ) (i : ℕ) (out : List ℕ) where
   pub wrong-size : (length out ≡ 512 → ⊥) → (Given.Refused 1 ≡ storeAnswer m f b i out) × (out ≡ storeBytes m f b i out)

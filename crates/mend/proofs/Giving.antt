@@ -168,6 +168,10 @@ module _ (f b : List ℕ) (q : Record) (o : Other) (e : discovery f b ≡ Answer
     block-of s g h =
         block-given s g c out (blockLike c g) (like-writes c (itself .accepted) g h out room) (like-written c (itself .accepted) g h out room)
 
+    -- store i is given with its sector and its bytes
+    abbrev GivenAt : ℕ → Type 0
+    GivenAt i = (storeAnswer (Mending.Needed p) f b i out ≡ Given.At (storeIn gs i .sector)) × (storeBytes (Mending.Needed p) f b i out ≡ storeIn gs i .content)
+
     -- what the plan's answers are at a number
     answers : (i : ℕ) (g : Given) (w : List ℕ) → (g ≡ rewriteAnswer p c i out) × (w ≡ rewriteBytes p c i out)
         → (g ≡ storeAnswer (Mending.Needed p) f b i out) × (w ≡ storeBytes (Mending.Needed p) f b i out)
@@ -175,7 +179,7 @@ module _ (f b : List ℕ) (q : Record) (o : Other) (e : discovery f b ≡ Answer
 
     joined : (i : ℕ) (g : Given) (w : List ℕ) (s : Store) → (g ≡ rewriteAnswer p c i out) × (w ≡ rewriteBytes p c i out) → (g ≡ Given.At (s .sector)) × (w ≡ s .content)
         → storeIn gs i ≡ s
-        → (storeAnswer (Mending.Needed p) f b i out ≡ Given.At (storeIn gs i .sector)) × (storeBytes (Mending.Needed p) f b i out ≡ storeIn gs i .content)
+        → GivenAt i
     joined i g w s h a e =
         let x : (g ≡ storeAnswer (Mending.Needed p) f b i out) × (w ≡ storeBytes (Mending.Needed p) f b i out) = answers i g w h in
         (sym (x .0) ∙ (a .0 ∙ ap (λ (z : Store). Given.At (z .sector)) (sym e)), sym (x .1) ∙ (a .1 ∙ ap (λ (z : Store). z .content) (sym e)))
@@ -184,11 +188,11 @@ module _ (f b : List ℕ) (q : Record) (o : Other) (e : discovery f b ≡ Answer
     sectors-fit = number-fits (blockIn c) 20 8
 
     given : (i : ℕ) → i < length (stores gs)
-        → (storeAnswer (Mending.Needed p) f b i out ≡ Given.At (storeIn gs i .sector)) × (storeBytes (Mending.Needed p) f b i out ≡ storeIn gs i .content)
+        → GivenAt i
     given i l = go (which (q .side) c (q .area) r i l)
       where
         go : (i ≡ 0) ⊎ (((j : ℕ) × (j < k) × (i ≡ suc j)) ⊎ ((i ≡ suc k) ⊎ ((i ≡ suc (suc k)) × (laterWhole c ≡ false))))
-            → (storeAnswer (Mending.Needed p) f b i out ≡ Given.At (storeIn gs i .sector)) × (storeBytes (Mending.Needed p) f b i out ≡ storeIn gs i .content)
+            → GivenAt i
         go (inl z) =
             joined i _ _ _ (first-store p c i out _ _ z refl refl) (block-of (p .part .block) (p .empty) (right-empty c (itself .accepted)))
             (ap (storeIn gs) z ∙ at-first (q .side) c (q .area) r)
