@@ -15,3 +15,4 @@ pub mod Choosing
 pub mod Planning
 pub mod Laying
 pub mod Agreeing
+pub mod Changing

@@ -1,13 +1,17 @@
--- Demand 3: what a cut in an update leaves. `proofs/Demand.antt` proves `Cutting`, `Landing` and `Giving`. Assumes nothing.
+-- Demand 3: what a cut in an update leaves. `proofs/Demand.antt` proves `Cutting`, `Landing` and `Giving`, and
+-- `proofs/Changing.antt` `Changing`. Assumes nothing.
 use Prim.Native.Nat.{ℕ, suc, _+_, _*_, _^_, _≤_, _<_}
 use mathlib.Core.Path.{_≡_}
 use mathlib.Core.Bool.{true}
 use mathlib.Core.List.{List}
-use lib.ListN.{length, take}
+use lib.ListN.{length, take, getD}
+use Rattle.endian.specs.Bytes.{Bytes}
 use Rattle.refusal.specs.Tests.{first}
 use Rattle.layout.specs.declared.Device.{Device}
 use Rattle.layout.specs.declared.Side.{Side}
 use Rattle.layout.specs.declared.Side.the-variants.{Front, Back}
+use Rattle.layout.specs.declared.Area.{Area}
+use Rattle.layout.specs.declared.Area.the-variants.{A, B}
 use Rattle.block.specs.declared.Time.{Time}
 use Rattle.block.specs.declared.Holding.{Holding}
 use Rattle.block.specs.Entry.{timeOf}
@@ -23,7 +27,7 @@ use Rattle.update.specs.declared.Plan.{Plan}
 use Rattle.update.specs.declared.Planned.the-variants.{Ready}
 use Rattle.update.specs.declared.Given.the-variants.{At}
 use Rattle.update.specs.Plan.{planOf, planned, storesIn, groupOf, storeAnswer, storeBytes}
-use Rattle.update.specs.Update.{deviceIn, updateNumber, sectorsOf, newBlock, updateGroups}
+use Rattle.update.specs.Update.{deviceIn, updateNumber, sectorsOf, spare, newBlock, updateGroups}
 
 -- Discovery gives a record: it answers that length and time, the area it names starts with those bytes, and reading what it
 -- found into a buffer with room copies them to the buffer's start.
@@ -106,3 +110,15 @@ Giving =
     × ((i : ℕ) (out : List ℕ) → i < length (stores (groupsOn v d t r)) → length out ≡ 512
     → (storeAnswer (planOn v d t r) (copyFrom Front v d) (copyFrom Back v d) i out ≡ At (storeIn (groupsOn v d t r) i .sector))
     × (storeBytes (planOn v d t r) (copyFrom Front v d) (copyFrom Back v d) r i out ≡ storeIn (groupsOn v d t r) i .content)))))
+
+-- where an area's entry lies in the block, 20 bytes
+abbrev pub entryPlace : Area → ℕ
+entryPlace A = 96
+entryPlace B = 128
+
+-- The block changes only that area's entry and the CRC: each byte outside them is as it was.
+abbrev pub Changing : Type 0
+Changing =
+    (c : List ℕ) (t : Time) (r : List ℕ) (i : ℕ) → Bytes (blockIn c) → first (readTests (blockIn c)) ≡ 0
+    → 4 ≤ i → (entryPlace (spare c) ≤ i → i < entryPlace (spare c) + 20 → ⊥)
+    → getD (newBlock c t r) i 0 ≡ getD (blockIn c) i 0
