@@ -2,6 +2,8 @@
 pub mod Runs
 pub mod Answers
 pub mod Change
+pub mod Table
+pub mod Walk
 pub mod Meaning
 pub mod Grants
 pub mod Examples
