@@ -3,11 +3,12 @@ use Prim.Native.Nat.{ℕ, zero, suc, _+_, _-_, _≤_, _<_, _^_}
 use mathlib.Core.Path.{_≡_, refl, sym, ap, subst, _∙_}
 use mathlib.Core.Bool.{Bool, true, false, cond}
 use mathlib.Core.List.{List, [], _∷_, _++_}
+use mathlib.Core.Logic.{_⊎_, inl, inr}
 use native.Mathlib.Omega.{arith}
-use native.Mathlib.Nat.{le-of-suc-le-suc, not-suc-le-zero}
+use native.Mathlib.Nat.{zero-add, suc-add, le-of-suc-le-suc, not-suc-le-zero, eq-or-lt-of-le}
 use borrow.Author.Tests.{le-leb, lt-leb, leb-true, eqb-true, eq-eqb}
 use lib.Dec.{leb, eqb, lit<}
-use lib.ListN.{length, drop, set, length-append, length-drop}
+use lib.ListN.{length, getD, drop, set, length-append, length-drop, List·getD-append}
 use Rattle.refusal.specs.Numbers.{sliceSize}
 use Rattle.refusal.specs.Tests.{_or_, first}
 use Rattle.refusal.proofs.Order.{first-nil, first-pass, first-fail}
@@ -139,3 +140,39 @@ filling d s t a n e f = go (eqb (first (tableTests d s (length t))) 0) refl
           within = omega arith;
           left = (ap (λ (k : ℕ). filled d s k t) m ∙ filled-none d s t) ∙ ap (λ (b : Bool). cond b (filled d s (runCount d s) t) t) (sym h);
         }
+
+-- THE TABLE, ENTRY BY ENTRY: the entries below n are the runs by their numbers; the others stay
+get-before : (xs ys : List Run) (k : ℕ) (e : Run) → k < length xs → getD (xs ++ ys) k e ≡ getD xs k e
+get-before xs ys k e h = List·getD-append xs ys e k h
+
+get-after : (xs ys : List Run) (k : ℕ) (e : Run) → getD (xs ++ ys) (length xs + k) e ≡ getD ys k e
+get-after [] ys k e = ap (λ (j : ℕ). getD ys j e) (zero-add k)
+get-after (x ∷ xs) ys k e = ap (λ (j : ℕ). getD ((x ∷ xs) ++ ys) j e) (suc-add (length xs) k) ∙ get-after xs ys k e
+
+get-drop : (n : ℕ) (t : List Run) (k : ℕ) (e : Run) → getD (drop n t) k e ≡ getD t (n + k) e
+get-drop zero t k e = ap (λ (j : ℕ). getD t j e) (sym (zero-add k))
+get-drop (suc n) [] k e = sym (ap (λ (j : ℕ). getD [] j e) (suc-add n k))
+get-drop (suc n) (x ∷ t) k e = get-drop n t k e ∙ sym (ap (λ (j : ℕ). getD (x ∷ t) j e) (suc-add n k))
+
+get-run : (d : Device) (s : List ℕ) (n k : ℕ) (e : Run) → k < n → getD (runsUpTo d s n) k e ≡ runAt d s k
+get-run d s zero k e h = absurd (not-suc-le-zero h)
+get-run d s (suc n) k e h = ap (λ (l : List Run). getD l k e) (up-to-suc d s n) ∙ go (get-run d s n k e) (eq-or-lt-of-le (le-of-suc-le-suc h))
+  where
+    go : (k < n → getD (runsUpTo d s n) k e ≡ runAt d s k) → (k ≡ n) ⊎ (k < n) → getD (runsUpTo d s n ++ (runAt d s n ∷ [])) k e ≡ runAt d s k
+    go r (inl q) =
+        let z : k ≡ length (runsUpTo d s n) + 0 = let w : length (runsUpTo d s n) ≡ n = length-up-to d s n in omega arith in
+        ap (λ (j : ℕ). getD (runsUpTo d s n ++ (runAt d s n ∷ [])) j e) z ∙ (get-after (runsUpTo d s n) (runAt d s n ∷ []) 0 e ∙ ap (runAt d s) (sym q))
+    go r (inr l) = get-before (runsUpTo d s n) (runAt d s n ∷ []) k e (let w : length (runsUpTo d s n) ≡ n = length-up-to d s n in omega arith) ∙ r l
+
+pub entry-run : (d : Device) (s : List ℕ) (n k : ℕ) (t : List Run) (e : Run) → k < n → getD (filled d s n t) k e ≡ runAt d s k
+unfolding filled
+entry-run d s n k t e h =
+    get-before (runsUpTo d s n) (drop n t) k e (let w : length (runsUpTo d s n) ≡ n = length-up-to d s n in omega arith) ∙ get-run d s n k e h
+
+pub entry-stays : (d : Device) (s : List ℕ) (n k : ℕ) (t : List Run) (e : Run) → n ≤ k → getD (filled d s n t) k e ≡ getD t k e
+unfolding filled
+entry-stays d s n k t e h =
+    let w : length (runsUpTo d s n) ≡ n = length-up-to d s n in
+    let q : k ≡ length (runsUpTo d s n) + (k - n) = omega arith in
+    let z : n + (k - n) ≡ k = omega arith in
+    ap (λ (j : ℕ). getD (runsUpTo d s n ++ drop n t) j e) q ∙ (get-after (runsUpTo d s n) (drop n t) (k - n) e ∙ (get-drop n t (k - n) e ∙ ap (λ (j : ℕ). getD t j e) z))

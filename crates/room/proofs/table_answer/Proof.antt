@@ -4,7 +4,6 @@ use Rattle.room.specs.Runs.{runCount}
 use Rattle.room.specs.Table.{tableTests}
 use Rattle.room.specs.declared.RunNumber.the-variants.{Runs, Refused}
 use Rattle.record.proofs.Order.{answer-no, answer-yes, more-no, more-yes}
-use Rattle.record.specs.Accept.{recordTests}
 use Rattle.layout.specs.declared.Device.{Device}
 use Rattle.refusal.specs.Numbers.{sliceSize}
 use Rattle.refusal.specs.Tests.{Test, _or_, first}
@@ -12,7 +11,7 @@ use lib.Dec.{leb}
 use native.Mathlib.Omega.{arith}
 use mathlib.Core.List.{List, [], _∷_}
 use mathlib.Core.Path.{ap, refl, _∙_}
-use Prim.Native.Nat.{ℕ, _-_, _≤_, _<_}
+use Prim.Native.Nat.{ℕ}
 use borrow.Author.Needs.{needs}
 use Rattle.room.proofs.table_answer.Statement.{statement}
 use Rattle.room.proofs.table_answer.Tie as tie
