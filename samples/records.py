@@ -67,9 +67,9 @@ def refusal(data, device=DEVICE):
     return 19 if any(a[1] > b[0] for a, b in zip(taken, taken[1:])) else 0
 
 
-def runs(data):
+def runs(data, device=DEVICE):
     """The free runs, ascending."""
-    at, high = data_range(DEVICE)
+    at, high = data_range(device)
     found = []
     for start, end in sorted((s, s + n) for _, s, n in segments_of(data)):
         if start > at:

@@ -2,5 +2,7 @@
 pub mod Runs
 pub mod Answers
 pub mod Change
+pub mod Table
+pub mod Walk
 pub mod Meaning
 pub mod Grants

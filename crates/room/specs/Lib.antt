@@ -2,3 +2,4 @@
 pub mod Runs
 pub mod Answers
 pub mod Change
+pub mod Table

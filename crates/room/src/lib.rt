@@ -14,6 +14,7 @@ ghost use Rattle.record.specs.Sectors.{holds, allocated};
 ghost use Rattle.room.specs.Runs.{nextFree, runFrom, runAt, runCount, fitRun, holderOf, lower, lowestStart};
 ghost use Rattle.room.specs.Answers.{runsAnswer, orNone, runAnswer, totalAnswer, fitAnswer};
 ghost use Rattle.room.specs.Change.{allocateAnswer, allocateLeft, releaseAnswer, releaseLeft};
+ghost use Rattle.room.specs.Table.{filled, tableAnswer, tableLeft, entriesOf};
 
 // A free run: its first sector, and its length in sectors.
 pub struct Run {
@@ -365,4 +366,81 @@ pub fn release(d: Device, s: &[u8], position: usize, out: &mut [u8]) -> Released
     };
     lay_without(out, s, record::place_in(s, position));
     Released::Length(len)
+}
+
+// The end of a run: the sector after its last.
+fn end_of(r: Run) -> u64
+    requires { ⌜ r .start + r .sectors < 2 ^ 64 ⌝ }
+    ensures { λ e. ⌜ e ≡ r .start + r .sectors ⌝ }
+{
+    r.start + r.sectors
+}
+
+// What `free_runs` answers where the table has w entries.
+fn table_answer(d: Device, s: &[u8], w: usize) -> RunNumber
+    ensures { λ r. ⌜ r ≡ tableAnswer d (now (s .entry)) w ⌝ }
+{
+    let n = record::check(d, s);
+    if n != 0 {
+        return RunNumber::Refused(n);
+    }
+    let k = runs_of(d, s);
+    if (w as u64) < k {
+        return RunNumber::Refused(refusal::SLICE_SIZE);
+    }
+    RunNumber::Runs(k)
+}
+
+// The number of entries that an answer fills.
+fn entries_of(a: RunNumber) -> usize
+    ensures { λ r. ⌜ r ≡ entriesOf a ⌝ }
+{
+    let RunNumber::Runs(n) = a else {
+        return 0;
+    };
+    n as usize
+}
+
+// Stores the first n runs in the table, one walk from run to run.
+fn fill_runs(d: Device, s: &[u8], n: usize, table: &mut [Run])
+    requires { ⌜ (0 < n → first (recordTests d (now s)) ≡ 0) × ((n ≤ runCount d (now s)) × (n ≤ length (now table))) ⌝ }
+    ensures { λ _. ⌜ now (table .exit) ≡ filled d (now (s .entry)) n (now (table .entry)) ⌝ }
+{
+    let mut x: u64 = 0;
+    let mut i = 0;
+    while i < n {
+        let r = next_run(d, s, x);
+        table[i] = r;
+        x = end_of(r);
+        i += 1;
+    }
+}
+
+// Writes every free run to the table's first entries, ascending; the entries past them stay.
+pub fn free_runs(d: Device, s: &[u8], table: &mut [Run]) -> RunNumber
+    ensures { λ r. ⌜ r ≡ tableAnswer d (now (s .entry)) (length (now (table .entry))) ⌝ }
+    ensures { λ _. ⌜ now (table .exit) ≡ tableLeft d (now (s .entry)) (now (table .entry)) ⌝ }
+{
+    let a = table_answer(d, s, table.len());
+    fill_runs(d, s, entries_of(a), table);
+    a
+}
+
+// The same with the device numbers as plain parameters.
+pub fn free_runs_of(
+    sectors: u64,
+    metadata: u32,
+    reserved: u32,
+    s: &[u8],
+    table: &mut [Run],
+) -> RunNumber
+    ensures { λ r. ⌜ r ≡ tableAnswer (record { sectors = sectors; metadata = metadata; reserved = reserved }) (now (s .entry)) (length (now (table .entry))) ⌝ }
+    ensures { λ _. ⌜ now (table .exit) ≡ tableLeft (record { sectors = sectors; metadata = metadata; reserved = reserved }) (now (s .entry)) (now (table .entry)) ⌝ }
+{
+    let d = Device {
+        sectors,
+        metadata,
+        reserved,
+    };
+    free_runs(d, s, table)
 }
