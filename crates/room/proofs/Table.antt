@@ -7,15 +7,15 @@ use mathlib.Core.Logic.{_⊎_, inl, inr}
 use native.Mathlib.Omega.{arith}
 use native.Mathlib.Nat.{zero-add, suc-add, le-of-suc-le-suc, not-suc-le-zero, eq-or-lt-of-le}
 use borrow.Author.Tests.{le-leb, lt-leb, leb-true, eqb-true, eq-eqb}
-use lib.Dec.{leb, eqb, lit<}
+use lib.Dec.{leb, eqb}
 use lib.ListN.{length, getD, drop, set, length-append, length-drop, List·getD-append}
 use Rattle.refusal.specs.Numbers.{sliceSize}
 use Rattle.refusal.specs.Tests.{_or_, first}
-use Rattle.refusal.proofs.Order.{first-nil, first-pass, first-fail}
 use Rattle.layout.specs.declared.Device.{Device}
 use Rattle.layout.specs.Places.{dataEnd}
 use Rattle.record.specs.Accept.{recordTests}
-use Rattle.record.proofs.Order.{NotZero, first-split}
+use Rattle.refusal.proofs.Order.{first-nil, first-pass, first-fail, first-split}
+use Rattle.record.proofs.Order.{record-numbered}
 use Rattle.record.proofs.Search.{least-below}
 use Rattle.room.specs.declared.Run.{Run}
 use Rattle.room.specs.declared.RunNumber.{RunNumber}
@@ -34,9 +34,6 @@ enough d s w k e h = sym (first-pass (leb (runCount d s) w) sliceSize [] (le-leb
 only-test : (b : Bool) → first ((b or sliceSize) ∷ []) ≡ 0 → b ≡ true
 only-test true h = refl
 only-test false h = absurd (let z : sliceSize ≡ 0 = sym (first-fail false sliceSize [] refl) ∙ h in omega arith)
-
-record-not-zero : (d : Device) (s : List ℕ) → NotZero (recordTests d s)
-record-not-zero d s = (lit< tt, (lit< tt, (lit< tt, (lit< tt, (lit< tt, (lit< tt, (lit< tt, tt)))))))
 
 -- the list of the first n runs
 up-to-zero : (d : Device) (s : List ℕ) → runsUpTo d s 0 ≡ []
@@ -123,7 +120,7 @@ filling d s t a n e f = go (eqb (first (tableTests d s (length t))) 0) refl
     go : (b : Bool) → eqb (first (tableTests d s (length t))) 0 ≡ b → Filling d s t n
     go true h =
         let z : first (tableTests d s (length t)) ≡ 0 = eqb-true (first (tableTests d s (length t))) 0 h in
-        let p : (first (recordTests d s) ≡ 0) × (first ((leb (runCount d s) (length t) or sliceSize) ∷ []) ≡ 0) = first-split (recordTests d s) ((leb (runCount d s) (length t) or sliceSize) ∷ []) (record-not-zero d s) z in
+        let p : (first (recordTests d s) ≡ 0) × (first ((leb (runCount d s) (length t) or sliceSize) ∷ []) ≡ 0) = first-split (recordTests d s) ((leb (runCount d s) (length t) or sliceSize) ∷ []) (record-numbered d s) z in
         let m : n ≡ runCount d s = f ∙ ap entriesOf (e ∙ ap (λ (b : Bool). cond b (Runs (runCount d s)) (Refused (first (tableTests d s (length t))))) h) in
         let q : runCount d s ≤ length t = leb-true (runCount d s) (length t) (only-test (leb (runCount d s) (length t)) (p .1)) in
         record {

@@ -3,7 +3,8 @@ use Rattle.room.proofs.Table.{short, enough}
 use Rattle.room.specs.Runs.{runCount}
 use Rattle.room.specs.Table.{tableTests}
 use Rattle.room.specs.declared.RunNumber.the-variants.{Runs, Refused}
-use Rattle.record.proofs.Order.{answer-no, answer-yes, more-no, more-yes}
+use Rattle.refusal.proofs.Order.{answer-no, answer-yes}
+use Rattle.record.proofs.Order.{more-no, more-yes}
 use Rattle.layout.specs.declared.Device.{Device}
 use Rattle.refusal.specs.Numbers.{sliceSize}
 use Rattle.refusal.specs.Tests.{Test, _or_, first}
