@@ -1,0 +1,2 @@
+-- The laws of `pool`.
+pub mod Signed

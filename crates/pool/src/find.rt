@@ -1,0 +1,115 @@
+// What discovery says of an image.
+use crate::image;
+use crate::words::complain;
+use crate::words::number;
+use crate::words::print;
+use block::Reading;
+use block::Verdict;
+use layout::Device;
+use layout::Side;
+
+// The smallest device, in sectors.
+pub const SMALLEST: u64 = 2097152;
+
+// The device's numbers as the block in a sector says them; 0 in each where it is refused or cannot be read.
+fn numbers_at(fd: i32, sector: u64) -> Device {
+    let mut s = [0u8; 512];
+    image::read(fd, sector, &mut s);
+    let none = Device {
+        sectors: 0,
+        metadata: 0,
+        reserved: 0,
+    };
+    let r = block::read(&s);
+    let v = r.verdict;
+    match v {
+        Verdict::Refused(_) => none,
+        Verdict::Accepted(x) => x.device,
+    }
+}
+
+// The device's numbers: the front's, or, where it is refused, those of the block at the device's end.
+pub fn numbers(fd: i32, sectors: u64) -> Device {
+    let d = numbers_at(fd, 1);
+    if d.sectors != 0 {
+        return d;
+    }
+    if sectors < 7 {
+        return d;
+    }
+    numbers_at(fd, sectors - 7)
+}
+
+// Prints the identity that a block says, where it is accepted.
+fn print_block(r: Reading) {
+    let v = r.verdict;
+    let Verdict::Accepted(x) = v else {
+        return;
+    };
+    let d = x.device;
+    let pool = r.pool;
+    let uuid = r.device;
+    print(b"pool ");
+    print(&pool);
+    print(b"\ndevice ");
+    print(&uuid);
+    print(b"\nsectors ");
+    number(d.sectors);
+    print(b" metadata ");
+    number(d.metadata as u64);
+    print(b" reserved ");
+    number(d.reserved as u64);
+    print(b"\n");
+}
+
+// Prints discovery's line for two copies, and the identity of the first that is accepted.
+pub fn print_found(front: &[u8], back: &[u8]) {
+    let mut line = [0u8; 128];
+    let k = dump_line::line(front, back, &mut line);
+    print(endian::window(&line, 0, k));
+    let r = block::read(endian::window(front, 512, 512));
+    let v = r.verdict;
+    match v {
+        Verdict::Accepted(_) => print_block(r),
+        Verdict::Refused(_) => print_block(block::read(endian::window(back, 512, 512))),
+    }
+}
+
+// Reads both copies of a device with these numbers and prints what is found. What cannot be read counts as zeros.
+fn show_copies(fd: i32, d: Device) {
+    let mut front = [0u8; 20480];
+    let mut back = [0u8; 20480];
+    image::read_copy(fd, Side::Front, d, &mut front);
+    image::read_copy(fd, Side::Back, d, &mut back);
+    print_found(&front, &back);
+}
+
+fn show(fd: i32, path: &[u8]) {
+    let n = image::sectors(fd);
+    if n < SMALLEST {
+        complain(path, b"too short for a pool, which takes 1 GiB at least");
+        return;
+    }
+    let d = numbers(fd, n);
+    if d.sectors == 0 {
+        print_found(&[0u8; 20480], &[0u8; 20480]);
+        return;
+    }
+    if n < d.sectors {
+        complain(
+            path,
+            b"shorter than its pool says; the back copy is not in it",
+        );
+    }
+    show_copies(fd, d);
+}
+
+pub fn run(path: &[u8]) {
+    let fd = os::open_read(path);
+    if fd < 0 {
+        os::fail(path);
+        return;
+    }
+    show(fd, path);
+    libc::close(fd);
+}
