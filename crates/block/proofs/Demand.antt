@@ -1,7 +1,8 @@
 -- Demand 2, first half, proved. Assumes nothing.
-use Prim.Native.Nat.{ℕ, _≤_}
+use Prim.Native.Nat.{ℕ, _≤_, _<_}
+use mathlib.Core.Logic.{inl, inr}
 use mathlib.Core.Path.{_≡_, refl, sym, ap, _∙_}
-use mathlib.Core.Bool.{_&&_}
+use mathlib.Core.Bool.{Bool, true, false, _&&_}
 use mathlib.Core.List.{List}
 use native.Mathlib.Omega.{arith}
 use borrow.Author.Tests.{eq-eqb}
@@ -17,7 +18,9 @@ use Rattle.block.specs.declared.Reading.{Reading}
 use Rattle.block.specs.declared.Verdict.the-variants as Verdict
 use Rattle.block.specs.Block.{poolOf, uuidOf, fieldsOf, readTests, reading, refusedReading}
 use Rattle.block.specs.Writing.{writeTests}
-use Rattle.block.specs.Demand.{Exactly, Lowest, WriteAfterRead, ReadAfterWrite}
+use Rattle.block.specs.Entry.{laterThan}
+use Rattle.block.proofs.Times.{Before, NotAfter, later-facts, not-later-facts}
+use Rattle.block.specs.Demand.{Exactly, Lowest, WriteAfterRead, ReadAfterWrite, nanosecondsIn, Later}
 use Rattle.block.proofs.Readings.{refused-reading, accepted-reading, ascending}
 use Rattle.block.proofs.Exactly.{obeys, no-refusal}
 use Rattle.block.proofs.Written.{written-accepted, write-ascending, write-sizes}
@@ -76,3 +79,27 @@ read-after-write out p u f s fa fb z =
     let t : AllHold (writeTests out p u f) = first-zero 0 (writeTests out p u f) (write-ascending out p u f) z in
     let sizes : (length out ≡ 512) × (length p ≡ 32) × (length u ≡ 32) = write-sizes out p u f z in
     ap reading (sym (written-accepted out p u f z)) ∙ read-back p u f (sizes .1) (sizes .2) s fa fb (t .1 .1) (t .1 .0)
+
+pub later : Later
+later t u nt nu = (λ h. more (later-facts t u h), less)
+  where
+    more : Before u t → nanosecondsIn u < nanosecondsIn t
+    more (inl k) = omega arith
+    more (inr k) =
+        let e : u .seconds ≡ t .seconds = k .0 in
+        let l : u .nanoseconds < t .nanoseconds = k .1 in
+        omega arith
+
+    less : nanosecondsIn u < nanosecondsIn t → laterThan t u ≡ true
+    less h = go (laterThan t u) refl
+      where
+        none : NotAfter t u → ⊥
+        none (inl k) = omega arith
+        none (inr k) =
+            let e : t .seconds ≡ u .seconds = k .0 in
+            let l : t .nanoseconds ≤ u .nanoseconds = k .1 in
+            omega arith
+
+        go : (b : Bool) → laterThan t u ≡ b → laterThan t u ≡ true
+        go true e = e
+        go false e = absurd (none (not-later-facts t u e))

@@ -1,15 +1,18 @@
 -- Demand 2, first half, as statements about what `read` and `write` answer. `proofs/Demand.antt` proves them.
 -- Assumes nothing.
-use Prim.Native.Nat.{ℕ, _^_, _≤_, _<_}
+use Prim.Native.Nat.{ℕ, _+_, _*_, _^_, _≤_, _<_}
 use mathlib.Core.Path.{_≡_}
+use mathlib.Core.Bool.{true}
 use mathlib.Core.List.{List}
 use lib.ListN.{length}
 use Rattle.endian.specs.Bytes.{Bytes}
 use Rattle.refusal.specs.Tests.{first, Fails}
+use Rattle.block.specs.declared.Time.{Time}
 use Rattle.block.specs.declared.Entry.{Entry}
 use Rattle.block.specs.declared.Entry.the-variants.{Unused, Used}
 use Rattle.block.specs.declared.BlockFields.{BlockFields}
 use Rattle.block.specs.declared.Verdict.the-variants as Verdict
+use Rattle.block.specs.Entry.{laterThan}
 use Rattle.block.specs.Block.{poolOf, uuidOf, fieldsOf, readTests, reading, acceptedReading, refusedReading}
 use Rattle.block.specs.Accepted.{Accepted}
 use Rattle.block.specs.Writing.{writeTests, written}
@@ -44,3 +47,13 @@ ReadAfterWrite =
     (out p u : List ℕ) (f : BlockFields) → f .device .sectors < 2 ^ 64 → EntryFits (f .a) → EntryFits (f .b)
     → first (writeTests out p u f) ≡ 0
     → reading (written out p u f) ≡ record { verdict = Verdict.Accepted f; pool = p; device = u }
+
+-- a time in nanoseconds
+abbrev pub nanosecondsIn : Time → ℕ
+nanosecondsIn t = 1000000000 * (t .seconds) + t .nanoseconds
+
+-- Of two times within the limit, one is later than the other exactly when it is more nanoseconds.
+abbrev pub Later : Type 0
+Later =
+    (t u : Time) → t .nanoseconds ≤ 999999999 → u .nanoseconds ≤ 999999999
+    → (laterThan t u ≡ true → nanosecondsIn u < nanosecondsIn t) × (nanosecondsIn u < nanosecondsIn t → laterThan t u ≡ true)
