@@ -67,6 +67,10 @@ fn make(fd: i32, path: &[u8], pool: &[u8], uuid: &[u8], anyway: bool) {
         complain(path, b"too short for a pool, which takes 1 GiB at least");
         return;
     }
+    if !find::readable(fd, n) {
+        os::fail(path);
+        return;
+    }
     let d = find::numbers(fd, n);
     let held = d.sectors != 0;
     if held & !anyway {

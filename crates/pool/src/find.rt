@@ -40,6 +40,17 @@ pub fn numbers(fd: i32, sectors: u64) -> Device {
     numbers_at(fd, sectors - 7)
 }
 
+// Whether a block can be read at all, at either end of an image with n sectors.
+pub fn readable(fd: i32, n: u64) -> bool {
+    let mut s = [0u8; 512];
+    let front = image::read(fd, 1, &mut s);
+    if n < 7 {
+        return front;
+    }
+    let back = image::read(fd, n - 7, &mut s);
+    front | back
+}
+
 // Prints the identity that a block says, where it is accepted.
 fn print_block(r: Reading) {
     let v = r.verdict;
@@ -88,6 +99,10 @@ fn show(fd: i32, path: &[u8]) {
     let n = image::sectors(fd);
     if n < SMALLEST {
         complain(path, b"too short for a pool, which takes 1 GiB at least");
+        return;
+    }
+    if !readable(fd, n) {
+        os::fail(path);
         return;
     }
     let d = numbers(fd, n);

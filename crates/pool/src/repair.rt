@@ -62,6 +62,10 @@ fn mend_copies(fd: i32, path: &[u8], front: &[u8], back: &[u8]) {
 
 fn work(fd: i32, path: &[u8]) {
     let n = image::sectors(fd);
+    if !find::readable(fd, n) {
+        os::fail(path);
+        return;
+    }
     let d = find::numbers(fd, n);
     let whole = (d.sectors != 0) & (d.sectors <= n);
     if !whole {
