@@ -1,10 +1,13 @@
 -- Sizes tested first, an answer's number, and numbers stored into a lent array. Assumes nothing.
 use Prim.Native.Nat.{ℕ}
 use mathlib.Core.Path.{_≡_, sym, ap, _∙_}
-use mathlib.Core.Bool.{Bool, true, false, cond, not}
+use mathlib.Core.Bool.{Bool, true, false, cond, not, _&&_}
 use mathlib.Core.List.{List}
 use borrow.Author.Tests.{eqb-true, eq-eqb, ne-eqb, not-true, not-false}
 use lib.ListN.{length}
+use Rattle.endian.specs.Bytes.{splice}
+use Rattle.endian.proofs.Parts.{splice-whole}
+use Rattle.endian.proofs.Tests.{and-right}
 use Rattle.refusal.proofs.Order.{answer-no, answer-yes}
 use Rattle.capi.specs.Lent.{has, numberIf, leftIf, leftAfter, replaced}
 
@@ -28,17 +31,17 @@ module _ (t : Bool) (h : not t ≡ false) where
 pub told : {A B : Type 0} (f : A → B) (a x y : A) → x ≡ a → x ≡ y → f y ≡ f a
 told f a x y e g = ap f (sym g ∙ e)
 
--- an array of k numbers with an answer's number, and beside it a buffer that the answer's call has changed
-module _ {A : Type 0} (number : A → ℕ) (left : A → List ℕ → List ℕ) (s : List ℕ) (k : ℕ) (h : not (has s k) ≡ false) (a x y : A) (e : x ≡ a) (g : x ≡ y) where
-  pub answered : (n : ℕ) (w : List ℕ) → n ≡ number y → w ≡ left y s → (n ≡ numberIf (has s k) (number a)) × (w ≡ leftIf (has s k) (left a s) s)
+-- an array s with an answer's number, and beside it a buffer that the answer's call has changed
+module _ {A : Type 0} (number : A → ℕ) (left : A → List ℕ → List ℕ) (s : List ℕ) (t : Bool) (h : not t ≡ false) (a x y : A) (e : x ≡ a) (g : x ≡ y) where
+  pub answered : (n : ℕ) (w : List ℕ) → n ≡ number y → w ≡ left y s → (n ≡ numberIf t (number a)) × (w ≡ leftIf t (left a s) s)
   answered n w en ew = (
-    sized (has s k) h n (number a) (en ∙ told number a x y e g),
-    sized-left (has s k) h w (left a s) s (ew ∙ told (λ (z : A). left z s) a x y e g),
+    sized t h n (number a) (en ∙ told number a x y e g),
+    sized-left t h w (left a s) s (ew ∙ told (λ (z : A). left z s) a x y e g),
   )
 
   pub answered-beside : (n : ℕ) (u v r w : List ℕ) → n ≡ number y → u ≡ v → w ≡ left y s
-      → (n ≡ numberIf (has s k) (number a)) × ((u ≡ leftIf (has s k) v r) × (w ≡ leftIf (has s k) (left a s) s))
-  answered-beside n u v r w en eu ew = (answered n w en ew .0, (sized-left (has s k) h u v r eu, answered n w en ew .1))
+      → (n ≡ numberIf t (number a)) × ((u ≡ leftIf t v r) × (w ≡ leftIf t (left a s) s))
+  answered-beside n u v r w en eu ew = (answered n w en ew .0, (sized-left t h u v r eu, answered n w en ew .1))
 
 -- an array of k numbers with a number m alone
 module _ (s made : List ℕ) (k n m : ℕ) (h : not (has s k) ≡ false) (e : n ≡ m) where
@@ -62,3 +65,11 @@ stays s v h = sym (ap (λ (b : Bool). cond b v s) (ne-eqb (length s) (length v) 
 
 pub long : (s : List ℕ) (k : ℕ) → not (has s k) ≡ false → length s ≡ k
 long s k h = eqb-true (length s) k (not-false (has s k) h)
+
+-- a slice of that size takes the bytes
+pub filled : (s v w e : List ℕ) → w ≡ splice s 0 v → v ≡ e → length e ≡ length s → w ≡ e
+filled s v w e ew ev l = ew ∙ (ap (splice s 0) ev ∙ splice-whole s e l)
+
+-- the second of two sizes
+pub second-long : (s n : List ℕ) (j k : ℕ) → not (has s j && has n k) ≡ false → length n ≡ k
+second-long s n j k h = eqb-true (length n) k (and-right (has s j) (has n k) (not-false (has s j && has n k) h))

@@ -1,5 +1,7 @@
 // What C calls: include/amseokbin.h, function by function. Each takes C's numbers and slices, calls a library, and gives its
 // answer as a refusal number and as numbers in lent arrays. Assumes nothing.
+mod plan;
+
 ghost use mathlib.Core.Path.{_≡_};
 ghost use mathlib.Core.Bool.{_&&_};
 ghost use mathlib.Core.List.{[], _∷_};
@@ -19,8 +21,10 @@ ghost use Rattle.update.specs.Plan.{layTests, laid};
 ghost use Rattle.block.specs.Entry.{entryOf};
 ghost use Rattle.block.specs.Writing.{writeTests, written};
 ghost use Rattle.discovery.specs.Discovery.{discovery, inStep, readAnswer, readBytes};
+ghost use Rattle.update.specs.Update.{updateNumber};
+ghost use Rattle.capi.specs.Calls.{updatePlanNumber, updatePlanLeft, updateCount, updateGroup, updateStoreNumber, updateStoreBytes, updateStoreSector, mendPlanNumber, mendPlanLeft, mendCount, mendGroup, mendStoreNumber, mendStoreBytes, mendStoreSector};
 ghost use Rattle.capi.specs.Lent.{has, numberIf, leftIf, leftAfter, replaced};
-ghost use Rattle.capi.specs.Answers.{deviceFrom, timeFrom, fieldsFrom, areaFrom, segmentNumber, segmentLeft, totalNumber, totalLeft, allocationNumber, allocationLeft, releaseNumber, releaseNumbers, sideNumber, areaNumber, otherNumber, blockNumbers, verdictNumber, verdictLeft, uuidLeft, placementNumber, placementLeft, answerNumber, answerLeft};
+ghost use Rattle.capi.specs.Answers.{deviceFrom, timeFrom, fieldsFrom, areaFrom, segmentNumber, segmentLeft, totalNumber, totalLeft, allocationNumber, allocationLeft, releaseNumber, releaseNumbers, otherNumber, blockNumbers, verdictNumber, verdictLeft, uuidLeft, placementNumber, placementLeft, answerNumber, answerLeft};
 use block::BlockFields;
 use block::Time;
 use block::Verdict;
@@ -29,11 +33,13 @@ use discovery::Other;
 use layout::Area;
 use layout::Device;
 use layout::Placement;
-use layout::Side;
+use mend::Mending;
 use record::Found;
 use room::Allocation;
 use room::FreeTotal;
 use room::Released;
+use update::Given;
+use update::Planned;
 
 // Numbers into an array of exactly so many; one of another size stays.
 fn set(out: &mut [u64], v: &[u64])
@@ -65,30 +71,12 @@ pub extern "C" fn amseokbin_checksum_continued(before: u32, bytes: &[u8]) -> u32
     checksum::continued(before, bytes)
 }
 
-fn side_number(s: Side) -> u64
-    ensures { λ n. ⌜ n ≡ sideNumber s ⌝ }
-{
-    match s {
-        Side::Front => 0,
-        Side::Back => 1,
-    }
-}
-
-fn area_number(x: Area) -> u64
-    ensures { λ n. ⌜ n ≡ areaNumber x ⌝ }
-{
-    match x {
-        Area::A => 0,
-        Area::B => 1,
-    }
-}
-
-fn other_number(o: Other) -> u64
+fn other_number(o: Other) -> u8
     ensures { λ n. ⌜ n ≡ otherNumber o ⌝ }
 {
     match o {
         Other::Both => 0,
-        Other::One(n) => n as u64,
+        Other::One(n) => n,
     }
 }
 
@@ -104,12 +92,12 @@ fn tell(a: Answer, found: &mut [u64]) -> u8
             let side = q.side;
             let area = q.area;
             let v = [
-                side_number(side),
-                area_number(area),
+                plan::side_number(side) as u64,
+                plan::area_number(area) as u64,
                 q.bytes as u64,
                 q.seconds,
                 q.nanoseconds as u64,
-                other_number(o),
+                other_number(o) as u64,
             ];
             set(found, &v);
             0
@@ -539,6 +527,186 @@ pub extern "C" fn amseokbin_release(
         Released::Length(len) => {
             let v = [len as u64];
             set(answer, &v);
+            0
+        }
+    }
+}
+
+// The refusal number of an update; 0 where it is not refused.
+#[no_mangle]
+pub extern "C" fn amseokbin_update_check(
+    front: &[u8],
+    back: &[u8],
+    seconds: u64,
+    nanoseconds: u32,
+    content: &[u8],
+) -> u8
+    ensures { λ n. ⌜ n ≡ updateNumber (now (front .entry)) (now (back .entry)) (timeFrom seconds nanoseconds) (now (content .entry)) ⌝ }
+{
+    let t = Time {
+        seconds,
+        nanoseconds,
+    };
+    update::check(front, back, t, content)
+}
+
+// Works an update out, into a plan of 148 bytes.
+#[no_mangle]
+pub extern "C" fn amseokbin_update_plan(
+    front: &[u8],
+    back: &[u8],
+    seconds: u64,
+    nanoseconds: u32,
+    content: &[u8],
+    plan: &mut [u8],
+) -> u8
+    ensures { λ n. ⌜ n ≡ updatePlanNumber (now (front .entry)) (now (back .entry)) (timeFrom seconds nanoseconds) (now (content .entry)) (now (plan .entry)) ⌝ }
+    ensures { λ _. ⌜ now (plan .exit) ≡ updatePlanLeft (now (front .entry)) (now (back .entry)) (timeFrom seconds nanoseconds) (now (content .entry)) (now (plan .entry)) ⌝ }
+{
+    let sized = plan.len() == 148;
+    if !sized {
+        return refusal::SLICE_SIZE;
+    }
+    let t = Time {
+        seconds,
+        nanoseconds,
+    };
+    let a = update::work_out(front, back, t, content);
+    match a {
+        Planned::Refused(n) => n,
+        Planned::Ready(p) => {
+            let v = plan::encode_plan(p);
+            endian::put(plan, 0, &v);
+            0
+        }
+    }
+}
+
+// How many stores a plan has; 0 for a slice that has not the size of a plan.
+#[no_mangle]
+pub extern "C" fn amseokbin_update_count(plan: &[u8]) -> u64
+    ensures { λ n. ⌜ n ≡ updateCount (now (plan .entry)) ⌝ }
+{
+    if plan.len() != 148 {
+        return 0;
+    }
+    update::count(plan::decode_plan(plan))
+}
+
+// The group of a store, 0 to 3; 4 past the last store.
+#[no_mangle]
+pub extern "C" fn amseokbin_update_group(plan: &[u8], number: u64) -> u8
+    ensures { λ g. ⌜ g ≡ updateGroup (now (plan .entry)) number ⌝ }
+{
+    if plan.len() != 148 {
+        return 4;
+    }
+    update::group(plan::decode_plan(plan), number)
+}
+
+// A store: its 512 bytes, and its sector in an array of one.
+#[no_mangle]
+pub extern "C" fn amseokbin_update_store(
+    plan: &[u8],
+    front: &[u8],
+    back: &[u8],
+    content: &[u8],
+    number: u64,
+    bytes: &mut [u8],
+    sector: &mut [u64],
+) -> u8
+    ensures { λ n. ⌜ n ≡ updateStoreNumber (now (plan .entry)) (now (front .entry)) (now (back .entry)) number (now (bytes .entry)) (now (sector .entry)) ⌝ }
+    ensures { λ _. ⌜ now (bytes .exit) ≡ updateStoreBytes (now (plan .entry)) (now (front .entry)) (now (back .entry)) (now (content .entry)) number (now (bytes .entry)) (now (sector .entry)) ⌝ }
+    ensures { λ _. ⌜ now (sector .exit) ≡ updateStoreSector (now (plan .entry)) (now (front .entry)) (now (back .entry)) number (now (bytes .entry)) (now (sector .entry)) ⌝ }
+{
+    let sized = (plan.len() == 148) & (sector.len() == 1);
+    if !sized {
+        return refusal::SLICE_SIZE;
+    }
+    let p = plan::decode_plan(plan);
+    let a = update::store(p, front, back, content, number, bytes);
+    match a {
+        Given::Refused(n) => n,
+        Given::At(at) => {
+            let v = [at];
+            set(sector, &v);
+            0
+        }
+    }
+}
+
+// Works a mend out, into a plan of 204 bytes.
+#[no_mangle]
+pub extern "C" fn amseokbin_mend_plan(front: &[u8], back: &[u8], plan: &mut [u8]) -> u8
+    ensures { λ n. ⌜ n ≡ mendPlanNumber (now (front .entry)) (now (back .entry)) (now (plan .entry)) ⌝ }
+    ensures { λ _. ⌜ now (plan .exit) ≡ mendPlanLeft (now (front .entry)) (now (back .entry)) (now (plan .entry)) ⌝ }
+{
+    let sized = plan.len() == 204;
+    if !sized {
+        return refusal::SLICE_SIZE;
+    }
+    let a = mend::work_out(front, back);
+    match a {
+        Mending::Refused(n) => n,
+        Mending::InStep => {
+            endian::clear(plan);
+            0
+        }
+        Mending::Needed(p) => {
+            let v = plan::encode_rewrite(p);
+            endian::put(plan, 0, &v);
+            0
+        }
+    }
+}
+
+// How many stores a mend's plan has; 0 for a slice that has not the size of a plan.
+#[no_mangle]
+pub extern "C" fn amseokbin_mend_count(plan: &[u8]) -> u64
+    ensures { λ n. ⌜ n ≡ mendCount (now (plan .entry)) ⌝ }
+{
+    if plan.len() != 204 {
+        return 0;
+    }
+    mend::count(plan::decode_mend(plan))
+}
+
+// The group of a store, 0 to 3; 4 past the last store.
+#[no_mangle]
+pub extern "C" fn amseokbin_mend_group(plan: &[u8], number: u64) -> u8
+    ensures { λ g. ⌜ g ≡ mendGroup (now (plan .entry)) number ⌝ }
+{
+    if plan.len() != 204 {
+        return 4;
+    }
+    mend::group(plan::decode_mend(plan), number)
+}
+
+// A store: its 512 bytes, and its sector in an array of one.
+#[no_mangle]
+pub extern "C" fn amseokbin_mend_store(
+    plan: &[u8],
+    front: &[u8],
+    back: &[u8],
+    number: u64,
+    bytes: &mut [u8],
+    sector: &mut [u64],
+) -> u8
+    ensures { λ n. ⌜ n ≡ mendStoreNumber (now (plan .entry)) (now (front .entry)) (now (back .entry)) number (now (bytes .entry)) (now (sector .entry)) ⌝ }
+    ensures { λ _. ⌜ now (bytes .exit) ≡ mendStoreBytes (now (plan .entry)) (now (front .entry)) (now (back .entry)) number (now (bytes .entry)) (now (sector .entry)) ⌝ }
+    ensures { λ _. ⌜ now (sector .exit) ≡ mendStoreSector (now (plan .entry)) (now (front .entry)) (now (back .entry)) number (now (bytes .entry)) (now (sector .entry)) ⌝ }
+{
+    let sized = (plan.len() == 204) & (sector.len() == 1);
+    if !sized {
+        return refusal::SLICE_SIZE;
+    }
+    let p = plan::decode_mend(plan);
+    let a = mend::store(p, front, back, number, bytes);
+    match a {
+        Given::Refused(n) => n,
+        Given::At(at) => {
+            let v = [at];
+            set(sector, &v);
             0
         }
     }

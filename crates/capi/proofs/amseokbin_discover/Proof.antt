@@ -20,7 +20,7 @@ same-length : tie.Need-same-length
 same-length c = search needs
 
 returns-2 : tie.Need-returns-2
-returns-2 c = answered answerNumber answerLeft (c .before .before .before .before .before .before .before .before .before .args .found .now) 6 (c .before .before .before .before .before .if1 .left) _ _ _ (c .before .before .before .before .discover .ensures) refl _ _ (c .before .before .tell .ensures .0) (c .before .before .tell .ensures .1)
+returns-2 c = answered answerNumber answerLeft (c .before .before .before .before .before .before .before .before .before .args .found .now) (has (c .before .before .before .before .before .before .before .before .before .args .found .now) 6) (c .before .before .before .before .before .if1 .left) _ _ _ (c .before .before .before .before .discover .ensures) refl _ _ (c .before .before .tell .ensures .0) (c .before .before .tell .ensures .1)
 
 pub amseokbin-discover-spec : {M : Type 1} → statement M
 amseokbin-discover-spec =

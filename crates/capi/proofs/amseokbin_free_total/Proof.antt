@@ -26,13 +26,13 @@ set-requires : tie.Need-set-requires
 set-requires c κs = search needs
 
 returns-2 : tie.Need-returns-2
-returns-2 c = answered totalNumber totalLeft (c .before .before .before .before .before .before .before .args .total .now) 1 (c .before .before .before .before .if1 .left) _ _ _ (c .before .before .before .free-total .ensures) (c .before .a .given .1) _ _ refl refl
+returns-2 c = answered totalNumber totalLeft (c .before .before .before .before .before .before .before .args .total .now) (has (c .before .before .before .before .before .before .before .args .total .now) 1) (c .before .before .before .before .if1 .left) _ _ _ (c .before .before .before .free-total .ensures) (c .before .a .given .1) _ _ refl refl
 
 same-length : tie.Need-same-length
 same-length c = search needs
 
 returns-3 : tie.Need-returns-3
-returns-3 c = answered totalNumber totalLeft (c .before .before .before .before .before .before .before .before .before .before .before .before .args .total .now) 1 (c .before .before .before .before .before .before .before .before .before .if1 .left) _ _ _ (c .before .before .before .before .before .before .before .before .free-total .ensures) (c .before .before .before .before .before .before .a2 .given .1) _ _ refl (c .before .before .set .ensures ∙ whole (c .before .before .before .before .before .before .before .before .before .before .before .before .args .total .now) _ (long (c .before .before .before .before .before .before .before .before .before .before .before .before .args .total .now) 1 (c .before .before .before .before .before .before .before .before .before .if1 .left)))
+returns-3 c = answered totalNumber totalLeft (c .before .before .before .before .before .before .before .before .before .before .before .before .args .total .now) (has (c .before .before .before .before .before .before .before .before .before .before .before .before .args .total .now) 1) (c .before .before .before .before .before .before .before .before .before .if1 .left) _ _ _ (c .before .before .before .before .before .before .before .before .free-total .ensures) (c .before .before .before .before .before .before .a2 .given .1) _ _ refl (c .before .before .set .ensures ∙ whole (c .before .before .before .before .before .before .before .before .before .before .before .before .args .total .now) _ (long (c .before .before .before .before .before .before .before .before .before .before .before .before .args .total .now) 1 (c .before .before .before .before .before .before .before .before .before .if1 .left)))
 
 pub amseokbin-free-total-spec : {M : Type 1} → statement M
 amseokbin-free-total-spec =

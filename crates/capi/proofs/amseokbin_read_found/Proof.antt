@@ -25,7 +25,7 @@ same-length-2 : tie.Need-same-length-2
 same-length-2 c = search needs
 
 returns-2 : tie.Need-returns-2
-returns-2 c = answered-beside answerNumber answerLeft (c .before .before .before .before .before .before .before .before .before .before .before .before .before .args .found .now) 6 (c .before .before .before .before .before .before .before .before .if1 .left) _ _ _ (c .before .before .before .before .before .before .read-found .ensures .0) refl _ _ _ _ _ (c .before .before .tell .ensures .0) (c .before .before .before .before .before .before .read-found .ensures .1 ∙ ap (λ (z : Answer). readBytes z (c .before .before .before .before .before .before .before .before .before .before .before .before .before .args .front .now) (c .before .before .before .before .before .before .before .before .before .before .before .before .before .args .back .now) (c .before .before .before .before .before .before .before .before .before .before .before .before .before .args .content .now)) (c .before .before .before .before .before .before .read-found .ensures .0)) (c .before .before .tell .ensures .1)
+returns-2 c = answered-beside answerNumber answerLeft (c .before .before .before .before .before .before .before .before .before .before .before .before .before .args .found .now) (has (c .before .before .before .before .before .before .before .before .before .before .before .before .before .args .found .now) 6) (c .before .before .before .before .before .before .before .before .if1 .left) _ _ _ (c .before .before .before .before .before .before .read-found .ensures .0) refl _ _ _ _ _ (c .before .before .tell .ensures .0) (c .before .before .before .before .before .before .read-found .ensures .1 ∙ ap (λ (z : Answer). readBytes z (c .before .before .before .before .before .before .before .before .before .before .before .before .before .args .front .now) (c .before .before .before .before .before .before .before .before .before .before .before .before .before .args .back .now) (c .before .before .before .before .before .before .before .before .before .before .before .before .before .args .content .now)) (c .before .before .before .before .before .before .read-found .ensures .0)) (c .before .before .tell .ensures .1)
 
 pub amseokbin-read-found-spec : {M : Type 1} → statement M
 amseokbin-read-found-spec =

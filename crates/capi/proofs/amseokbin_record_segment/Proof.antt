@@ -29,13 +29,13 @@ set-requires : tie.Need-set-requires
 set-requires c κs = search needs
 
 returns-2 : tie.Need-returns-2
-returns-2 c = answered segmentNumber segmentLeft (c .before .before .before .before .before .before .before .args .segment .now) 3 (c .before .before .before .before .if1 .left) _ _ _ (c .before .before .before .read-segment .ensures) (c .before .a .given .1) _ _ refl refl
+returns-2 c = answered segmentNumber segmentLeft (c .before .before .before .before .before .before .before .args .segment .now) (has (c .before .before .before .before .before .before .before .args .segment .now) 3) (c .before .before .before .before .if1 .left) _ _ _ (c .before .before .before .read-segment .ensures) (c .before .a .given .1) _ _ refl refl
 
 same-length : tie.Need-same-length
 same-length c = search needs
 
 returns-3 : tie.Need-returns-3
-returns-3 c = answered segmentNumber segmentLeft (c .before .before .before .before .before .before .before .before .before .before .before .before .before .args .segment .now) 3 (c .before .before .before .before .before .before .before .before .before .before .if1 .left) _ _ _ (c .before .before .before .before .before .before .before .before .before .read-segment .ensures) (c .before .before .before .before .before .before .before .a2 .given .1) _ _ refl (c .before .before .set .ensures ∙ whole (c .before .before .before .before .before .before .before .before .before .before .before .before .before .args .segment .now) _ (long (c .before .before .before .before .before .before .before .before .before .before .before .before .before .args .segment .now) 3 (c .before .before .before .before .before .before .before .before .before .before .if1 .left)))
+returns-3 c = answered segmentNumber segmentLeft (c .before .before .before .before .before .before .before .before .before .before .before .before .before .args .segment .now) (has (c .before .before .before .before .before .before .before .before .before .before .before .before .before .args .segment .now) 3) (c .before .before .before .before .before .before .before .before .before .before .if1 .left) _ _ _ (c .before .before .before .before .before .before .before .before .before .read-segment .ensures) (c .before .before .before .before .before .before .before .a2 .given .1) _ _ refl (c .before .before .set .ensures ∙ whole (c .before .before .before .before .before .before .before .before .before .before .before .before .before .args .segment .now) _ (long (c .before .before .before .before .before .before .before .before .before .before .before .before .before .args .segment .now) 3 (c .before .before .before .before .before .before .before .before .before .before .if1 .left)))
 
 pub amseokbin-record-segment-spec : {M : Type 1} → statement M
 amseokbin-record-segment-spec =

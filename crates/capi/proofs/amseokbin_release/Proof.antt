@@ -29,7 +29,7 @@ same-length : tie.Need-same-length
 same-length c = search needs
 
 returns-2 : tie.Need-returns-2
-returns-2 c = answered-beside releaseNumber releaseNumbers (c .before .before .before .before .before .before .before .before .before .before .before .args .answer .now) 1 (c .before .before .before .before .before .before .before .if1 .left) _ _ _ (c .before .before .before .before .before .release .ensures .0) (c .before .a .given .1) _ _ _ _ _ refl (c .before .before .before .before .before .release .ensures .1) refl
+returns-2 c = answered-beside releaseNumber releaseNumbers (c .before .before .before .before .before .before .before .before .before .before .before .args .answer .now) (has (c .before .before .before .before .before .before .before .before .before .before .before .args .answer .now) 1) (c .before .before .before .before .before .before .before .if1 .left) _ _ _ (c .before .before .before .before .before .release .ensures .0) (c .before .a .given .1) _ _ _ _ _ refl (c .before .before .before .before .before .release .ensures .1) refl
 
 same-length-2 : tie.Need-same-length-2
 same-length-2 c = search needs
@@ -38,7 +38,7 @@ same-length-3 : tie.Need-same-length-3
 same-length-3 c = search needs
 
 returns-3 : tie.Need-returns-3
-returns-3 c = answered-beside releaseNumber releaseNumbers (c .before .before .before .before .before .before .before .before .before .before .before .before .before .before .before .before .args .answer .now) 1 (c .before .before .before .before .before .before .before .before .before .before .before .before .if1 .left) _ _ _ (c .before .before .before .before .before .before .before .before .before .before .release .ensures .0) (c .before .before .before .before .before .before .a2 .given .1) _ _ _ _ _ refl (c .before .before .before .before .before .before .before .before .before .before .release .ensures .1) (c .before .before .set .ensures ∙ whole (c .before .before .before .before .before .before .before .before .before .before .before .before .before .before .before .before .args .answer .now) _ (long (c .before .before .before .before .before .before .before .before .before .before .before .before .before .before .before .before .args .answer .now) 1 (c .before .before .before .before .before .before .before .before .before .before .before .before .if1 .left)))
+returns-3 c = answered-beside releaseNumber releaseNumbers (c .before .before .before .before .before .before .before .before .before .before .before .before .before .before .before .before .args .answer .now) (has (c .before .before .before .before .before .before .before .before .before .before .before .before .before .before .before .before .args .answer .now) 1) (c .before .before .before .before .before .before .before .before .before .before .before .before .if1 .left) _ _ _ (c .before .before .before .before .before .before .before .before .before .before .release .ensures .0) (c .before .before .before .before .before .before .a2 .given .1) _ _ _ _ _ refl (c .before .before .before .before .before .before .before .before .before .before .release .ensures .1) (c .before .before .set .ensures ∙ whole (c .before .before .before .before .before .before .before .before .before .before .before .before .before .before .before .before .args .answer .now) _ (long (c .before .before .before .before .before .before .before .before .before .before .before .before .before .before .before .before .args .answer .now) 1 (c .before .before .before .before .before .before .before .before .before .before .before .before .if1 .left)))
 
 pub amseokbin-release-spec : {M : Type 1} → statement M
 amseokbin-release-spec =

@@ -13,17 +13,26 @@ enum-known-a-2 c = search needs
 side-number-requires : tie.Need-side-number-requires
 side-number-requires c κs = search needs
 
+cast-t11 : tie.Need-cast-t11
+cast-t11 c = search needs
+
 area-number-requires : tie.Need-area-number-requires
 area-number-requires c κs = search needs
-
-cast-t12 : tie.Need-cast-t12
-cast-t12 c = search needs
 
 cast-t13 : tie.Need-cast-t13
 cast-t13 c = search needs
 
+cast-t14 : tie.Need-cast-t14
+cast-t14 c = search needs
+
+cast-t15 : tie.Need-cast-t15
+cast-t15 c = search needs
+
 other-number-requires : tie.Need-other-number-requires
 other-number-requires c κs = search needs
+
+cast-t17 : tie.Need-cast-t17
+cast-t17 c = search needs
 
 slice-aggregate-set : tie.Need-slice-aggregate-set
 slice-aggregate-set c = search needs
@@ -47,10 +56,13 @@ tell-spec =
     enum-known-a
     enum-known-a-2
     side-number-requires
+    cast-t11
     area-number-requires
-    cast-t12
     cast-t13
+    cast-t14
+    cast-t15
     other-number-requires
+    cast-t17
     slice-aggregate-set
     set-requires
     returns
