@@ -2,7 +2,7 @@
 pub mod Readings
 pub mod Written
 pub mod Exactly
-mod Cuts
+pub mod Cuts
 pub mod RoundTrip
 pub mod Demand
 pub mod Times

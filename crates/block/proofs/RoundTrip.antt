@@ -92,7 +92,7 @@ module _ (b : List ℕ) (bytes : Bytes b) (h : Obeying.Accepted b) where
       ∙ (sym (window-append b 0 4 508) ∙ window-rest b 0 512 (rw (h .size) (lit≤ tt)))
 
 -- an entry, back from its four numbers
-entry-back : (e : Entry) → entryAllowed e ≡ true
+pub entry-back : (e : Entry) → entryAllowed e ≡ true
     → entryOf (holdingOf e .seconds) (holdingOf e .nanoseconds) (holdingOf e .bytes) (holdingOf e .checksum) ≡ e
 unfolding entryOf
 entry-back Unused h = refl
@@ -107,7 +107,7 @@ entry-back (Used k) h =
     third false b c d e = refl
 
 -- the numbers of an entry fit their widths
-entry-fits : (e : Entry) → entryAllowed e ≡ true → EntryFits e
+pub entry-fits : (e : Entry) → entryAllowed e ≡ true → EntryFits e
     → (holdingOf e .seconds < 2 ^ 64) × (holdingOf e .nanoseconds < 2 ^ 32) × (holdingOf e .bytes < 2 ^ 32) × (holdingOf e .checksum < 2 ^ 32)
 entry-fits Unused h k = (lit< tt, lit< tt, lit< tt, lit< tt)
 entry-fits (Used w) h k =

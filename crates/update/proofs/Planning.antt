@@ -8,12 +8,13 @@ use lib.Dec.{lit<}
 use lib.ListN.{length}
 use Rattle.endian.specs.Bytes.{same, window}
 use Rattle.checksum.specs.Crc as Crc
+use Rattle.refusal.specs.Tests.{AllHold}
 use Rattle.refusal.proofs.Order.{first-holds, answer-no, answer-yes}
 use Rattle.layout.specs.declared.Device.{Device}
 use Rattle.layout.specs.declared.Side.{Side}
 use Rattle.layout.specs.declared.Side.the-variants.{Front, Back}
 use Rattle.layout.specs.declared.Area.{Area}
-use Rattle.layout.specs.Limits.{recordLimit, lengthAllowed}
+use Rattle.layout.specs.Limits.{recordLimit}
 use Rattle.layout.specs.Places.{blockSector, areaSector}
 use Rattle.layout.proofs.Laws.{length-facts}
 use Rattle.block.specs.declared.Time.{Time}
@@ -93,16 +94,22 @@ discovery-number f b =
     (decide-number (readingIn f .verdict) (readingIn b .verdict) (sameUuids (readingIn f) (readingIn b)) f b) (above 1 (lit< tt))
 
 module _ (f b : List ℕ) (t : Time) (r : List ℕ) where
-  length-of : (a : Answer) → Nonzero a → numberAfter a f b t r ≡ 0 → lengthAllowed (length r) ≡ true
-  length-of (Refused n) z h = absurd (z h)
-  length-of (Found q o) z h =
-      first-holds (updateTests f b (timeAt q) t r) (lit< tt, (lit< tt, (lit< tt, (lit< tt, (lit< tt, (lit< tt, (lit< tt, tt))))))) h .1 .1 .1 .0
+  tests-of : (a : Answer) → Nonzero a → numberAfter a f b t r ≡ 0 → (old : Time) × AllHold (updateTests f b old t r)
+  tests-of (Refused n) z h = absurd (z h)
+  tests-of (Found q o) z h = (
+    timeAt q,
+    first-holds (updateTests f b (timeAt q) t r) (lit< tt, (lit< tt, (lit< tt, (lit< tt, (lit< tt, (lit< tt, (lit< tt, tt))))))) h,
+  )
+
+  -- no test refuses an update whose number is 0
+  pub not-refused : updateNumber f b t r ≡ 0 → (old : Time) × AllHold (updateTests f b old t r)
+  unfolding updateNumber
+  not-refused h = tests-of (discovery f b) (discovery-number f b) h
 
   -- the record of an update that is not refused has a length that fits
   pub record-small : (n : ℕ) → n ≡ updateNumber f b t r → n ≡ 0 → length r < 4294967296
-  unfolding updateNumber
   record-small n e z =
-      let l : length r ≤ recordLimit = length-facts (length r) (length-of (discovery f b) (discovery-number f b) (sym e ∙ z)) .1 in
+      let l : length r ≤ recordLimit = length-facts (length r) (not-refused (sym e ∙ z) .1 .1 .1 .1 .0) .1 in
       let m : areaSectors * 512 ≡ recordLimit = limit-sectors in
       let k : areaSectors ≤ 1020 = limit-small in
       omega arith

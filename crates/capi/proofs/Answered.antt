@@ -1,0 +1,125 @@
+-- The numbers of a found record and of a block, as they are stored. Assumes nothing.
+use Prim.Native.Nat.{ℕ}
+use mathlib.Core.Path.{_≡_, refl, sym, ap, ap₂, _∙_}
+use mathlib.Core.Bool.{Bool, true, false, cond, not, _&&_}
+use mathlib.Core.List.{List, [], _∷_}
+use native.Mathlib.Omega.{arith}
+use borrow.Author.Tests.{eqb-true, not-false}
+use lib.Dec.{eqb}
+use lib.ListN.{length}
+use Rattle.endian.specs.Bytes.{splice}
+use Rattle.endian.proofs.Parts.{length-window-fits, splice-whole}
+use Rattle.endian.proofs.Tests.{length-zeros, and-left, and-right}
+use Rattle.refusal.specs.Tests.{first}
+use Rattle.block.specs.declared.Holding.{Holding}
+use Rattle.block.specs.declared.Entry.{Entry}
+use Rattle.block.specs.declared.BlockFields.{BlockFields}
+use Rattle.block.specs.declared.Reading.{Reading}
+use Rattle.block.specs.declared.Verdict.{Verdict}
+use Rattle.block.specs.Block.{readTests, acceptedReading, refusedReading, reading}
+use Rattle.block.specs.Writing.{holdingOf, writeTests, written}
+use Rattle.block.proofs.Readings.{accepted-length}
+use Rattle.discovery.specs.declared.Record.{Record}
+use Rattle.discovery.specs.declared.Other.{Other}
+use Rattle.discovery.specs.declared.Answer.{Answer}
+use Rattle.discovery.specs.declared.Answer.the-variants as Answer
+use Rattle.layout.specs.declared.Device.{Device}
+use Rattle.capi.specs.Lent.{has, numberIf, leftIf, replaced}
+use Rattle.capi.specs.Answers.{fieldsFrom, sideNumber, areaNumber, otherNumber, blockNumbers, answerNumber, answerLeft, verdictNumber, verdictLeft, uuidLeft}
+use Rattle.capi.proofs.Told.{sized, sized-left, whole}
+
+six : (a b c d e f x y z : ℕ) → x ≡ a → y ≡ b → z ≡ f → _≡_ {A = List ℕ} (x ∷ y ∷ c ∷ d ∷ e ∷ z ∷ []) (a ∷ b ∷ c ∷ d ∷ e ∷ f ∷ [])
+six a b c d e f x y z ex ey ez = rw (ex, ey, ez)
+
+pub found-told : (a : Answer) (s : List ℕ) → length s ≡ 6 → (q : Record) (o : Other) → a ≡ Answer.Found q o
+    → (x y z : ℕ) → x ≡ sideNumber (q .side) → y ≡ areaNumber (q .area) → z ≡ otherNumber o
+    → (w : List ℕ) → w ≡ replaced s (x ∷ y ∷ q .bytes ∷ q .seconds ∷ q .nanoseconds ∷ z ∷ [])
+    → (0 ≡ answerNumber a) × (w ≡ answerLeft a s)
+found-told a s l q o e x y z ex ey ez w ew = (
+  ap answerNumber (sym e),
+  ew
+      ∙ (whole s (x ∷ y ∷ q .bytes ∷ q .seconds ∷ q .nanoseconds ∷ z ∷ []) l
+      ∙ (six (sideNumber (q .side)) (areaNumber (q .area)) (q .bytes) (q .seconds) (q .nanoseconds) (otherNumber o) x y z ex ey ez
+      ∙ ap (λ (i : Answer). answerLeft i s) (sym e))),
+)
+
+-- a block's numbers, by those of its entries
+abbrev numbersBy : BlockFields → Holding → Holding → List ℕ
+numbersBy x h k =
+    x .device .sectors
+    ∷ x .device .metadata
+    ∷ x .device .reserved
+    ∷ h .seconds
+    ∷ h .nanoseconds
+    ∷ h .bytes
+    ∷ h .checksum
+    ∷ k .seconds
+    ∷ k .nanoseconds
+    ∷ k .bytes
+    ∷ k .checksum
+    ∷ []
+
+pub block-numbers : (x : BlockFields) (s : List ℕ) → length s ≡ 11 → (h k : Holding) → h ≡ holdingOf (x .a) → k ≡ holdingOf (x .b)
+    → (w : List ℕ) → w ≡ replaced s (numbersBy x h k) → w ≡ blockNumbers x
+block-numbers x s l h k eh ek w ew = ew ∙ (whole s (numbersBy x h k) l ∙ ap₂ (numbersBy x) eh ek)
+
+-- a block's numbers and UUIDs
+module _ (b s p u : List ℕ) (t : Bool) (h : not t ≡ false) (r : Reading) (e : r ≡ reading b) (v : Verdict) (g : r .verdict ≡ v) where
+  pub block-told : (n : ℕ) (s' p' u' : List ℕ) → n ≡ verdictNumber v → s' ≡ verdictLeft v s → p' ≡ uuidLeft v (r .pool) p → u' ≡ uuidLeft v (r .device) u
+      → (n ≡ numberIf t (verdictNumber (reading b .verdict)))
+      × ((s' ≡ leftIf t (verdictLeft (reading b .verdict) s) s)
+      × ((p' ≡ leftIf t (uuidLeft (reading b .verdict) (reading b .pool) p) p)
+      × (u' ≡ leftIf t (uuidLeft (reading b .verdict) (reading b .device) u) u)))
+  block-told n s' p' u' en es ep eu = (
+    sized t h n _ (en ∙ (ap verdictNumber (sym g) ∙ ap (λ (z : Reading). verdictNumber (z .verdict)) e)),
+    (
+      sized-left t h s' _ s (es ∙ (ap (λ (z : Verdict). verdictLeft z s) (sym g) ∙ ap (λ (z : Reading). verdictLeft (z .verdict) s) e)),
+      (
+        sized-left t h p' _ p (ep ∙ (ap (λ (z : Verdict). uuidLeft z (r .pool) p) (sym g) ∙ ap (λ (z : Reading). uuidLeft (z .verdict) (z .pool) p) e)),
+        sized-left t h u' _ u (eu ∙ (ap (λ (z : Verdict). uuidLeft z (r .device) u) (sym g) ∙ ap (λ (z : Reading). uuidLeft (z .verdict) (z .device) u) e)),
+      ),
+    ),
+  )
+
+-- each UUID of a reading has 32 bytes
+abbrev Long : Reading → Type 0
+Long r = (length (r .pool) ≡ 32) × (length (r .device) ≡ 32)
+
+reading-long : (b : List ℕ) → Long (reading b)
+unfolding reading
+reading-long b = go (eqb (first (readTests b)) 0) refl
+  where
+    go : (t : Bool) → eqb (first (readTests b)) 0 ≡ t → Long (cond t (acceptedReading b) (refusedReading (first (readTests b))))
+    go true e =
+        let l : length b ≡ 512 = accepted-length b (eqb-true (first (readTests b)) 0 e) in
+        (length-window-fits b 32 32 (omega arith), length-window-fits b 64 32 (omega arith))
+    go false e = (length-zeros 32, length-zeros 32)
+
+-- it fills a slice of 32 bytes
+module _ (b s p u : List ℕ) (h : not (has s 11 && (has p 32 && has u 32)) ≡ false) (r : Reading) (e : r ≡ reading b) where
+  right : has s 11 && (has p 32 && has u 32) ≡ true
+  right = not-false _ h
+
+  pub numbers-long : length s ≡ 11
+  numbers-long = eqb-true (length s) 11 (and-left (has s 11) _ right)
+
+  pub pool-filled : (w : List ℕ) → w ≡ splice p 0 (r .pool) → w ≡ r .pool
+  pool-filled w ew =
+      ew
+      ∙ splice-whole p (r .pool)
+      (ap (λ (z : Reading). length (z .pool)) e ∙ (reading-long b .0 ∙ sym (eqb-true (length p) 32 (and-left (has p 32) _ (and-right (has s 11) _ right)))))
+
+  pub device-filled : (w : List ℕ) → w ≡ splice u 0 (r .device) → w ≡ r .device
+  device-filled w ew =
+      ew
+      ∙ splice-whole u (r .device)
+      (ap (λ (z : Reading). length (z .device)) e ∙ (reading-long b .1 ∙ sym (eqb-true (length u) 32 (and-right (has p 32) _ (and-right (has s 11) _ right)))))
+
+-- a block written of two entries
+pub block-written : (o p u : List ℕ) (d : Device) (a b x y : Entry) → x ≡ a → y ≡ b → (n : ℕ) (w : List ℕ)
+    → n ≡ first (writeTests o p u (fieldsFrom d x y)) → w ≡ written o p u (fieldsFrom d x y)
+    → (n ≡ first (writeTests o p u (fieldsFrom d a b))) × (w ≡ written o p u (fieldsFrom d a b))
+block-written o p u d a b x y ex ey n w en ew = (
+  en ∙ ap₂ (λ (i j : Entry). first (writeTests o p u (fieldsFrom d i j))) ex ey,
+  ew ∙ ap₂ (λ (i j : Entry). written o p u (fieldsFrom d i j)) ex ey,
+)

@@ -1,0 +1,8 @@
+-- The laws that the proofs cite, and what the calls on plans give.
+mod Told
+mod Answered
+mod Fields
+mod Codec
+mod Coding
+mod Fitting
+pub mod Demand

@@ -1,0 +1,55 @@
+-- What the C calls on plans give, from the libraries' claims: `proofs/Demand.antt` proves `Giving` and `Mending`. The slices are
+-- lent with their sizes: a plan of 148 or 204 bytes, 512 bytes for a store, one number for its sector. Assumes nothing.
+use Prim.Native.Nat.{ℕ, suc, _≤_, _<_}
+use mathlib.Core.Path.{_≡_}
+use mathlib.Core.List.{List, [], _∷_}
+use lib.ListN.{length}
+use Rattle.refusal.specs.Numbers.{noStore}
+use Rattle.layout.specs.declared.Device.{Device}
+use Rattle.layout.specs.declared.Side.the-variants.{Front, Back}
+use Rattle.block.specs.declared.Time.{Time}
+use Rattle.device.specs.Device.{Sectors, stores, storeIn, groupStart, copyFrom}
+use Rattle.update.specs.Demand.{Start, groupsOn}
+use Rattle.discovery.specs.declared.Record.{Record}
+use Rattle.discovery.specs.declared.Other.{Other}
+use Rattle.discovery.specs.declared.Answer.the-variants.{Found}
+use Rattle.discovery.specs.Discovery.{discovery}
+use Rattle.mend.specs.Mend.{mendGroups}
+use Rattle.capi.specs.Calls.{updatePlanNumber, updatePlanLeft, updateCount, updateGroup, updateStoreNumber, updateStoreBytes, updateStoreSector, mendPlanNumber, mendPlanLeft, mendCount, mendGroup, mendStoreNumber, mendStoreBytes, mendStoreSector}
+
+-- the bytes that an update's plan has after the call
+abbrev pub updatePlan : Device → Sectors → Time → List ℕ → List ℕ → List ℕ
+updatePlan v d t r s = updatePlanLeft (copyFrom Front v d) (copyFrom Back v d) t r s
+
+-- For every start of demand 3 the calls give exactly the stores of `update`'s `updateGroups`, which a cut and a landing speak of:
+-- the plan is not refused, it has as many stores, each is in its group, and each is given with its sector and its 512 bytes; past
+-- the last there is none.
+abbrev pub Giving : Type 0
+Giving =
+    (v : Device) (d : Sectors) (t : Time) (r s : List ℕ) → Start v d t r → length s ≡ 148
+    → (updatePlanNumber (copyFrom Front v d) (copyFrom Back v d) t r s ≡ 0)
+    × ((updateCount (updatePlan v d t r s) ≡ length (stores (groupsOn v d t r)))
+    × (((g i : ℕ) → g < 4 → groupStart (groupsOn v d t r) g ≤ i → i < groupStart (groupsOn v d t r) (suc g) → updateGroup (updatePlan v d t r s) i ≡ g)
+    × (((i : ℕ) (out n : List ℕ) → i < length (stores (groupsOn v d t r)) → length out ≡ 512 → length n ≡ 1
+    → (updateStoreNumber (updatePlan v d t r s) (copyFrom Front v d) (copyFrom Back v d) i out n ≡ 0)
+    × ((updateStoreBytes (updatePlan v d t r s) (copyFrom Front v d) (copyFrom Back v d) r i out n ≡ storeIn (groupsOn v d t r) i .content)
+    × (updateStoreSector (updatePlan v d t r s) (copyFrom Front v d) (copyFrom Back v d) i out n ≡ storeIn (groupsOn v d t r) i .sector ∷ [])))
+    × ((i : ℕ) (out n : List ℕ) → length (stores (groupsOn v d t r)) ≤ i → length out ≡ 512 → length n ≡ 1
+    → (updateStoreNumber (updatePlan v d t r s) (copyFrom Front v d) (copyFrom Back v d) i out n ≡ noStore)
+    × ((updateStoreBytes (updatePlan v d t r s) (copyFrom Front v d) (copyFrom Back v d) r i out n ≡ out)
+    × (updateStoreSector (updatePlan v d t r s) (copyFrom Front v d) (copyFrom Back v d) i out n ≡ n))))))
+
+-- For any two copies in which discovery finds a record the calls give exactly the stores of `mend`'s `mendGroups`.
+abbrev pub Mending : Type 0
+Mending =
+    (f b s : List ℕ) (q : Record) (o : Other) → discovery f b ≡ Found q o → length s ≡ 204
+    → (mendPlanNumber f b s ≡ 0)
+    × ((mendCount (mendPlanLeft f b s) ≡ length (stores (mendGroups f b)))
+    × (((g i : ℕ) → g < 4 → groupStart (mendGroups f b) g ≤ i → i < groupStart (mendGroups f b) (suc g) → mendGroup (mendPlanLeft f b s) i ≡ g)
+    × (((i : ℕ) (out n : List ℕ) → i < length (stores (mendGroups f b)) → length out ≡ 512 → length n ≡ 1
+    → (mendStoreNumber (mendPlanLeft f b s) f b i out n ≡ 0)
+    × ((mendStoreBytes (mendPlanLeft f b s) f b i out n ≡ storeIn (mendGroups f b) i .content)
+    × (mendStoreSector (mendPlanLeft f b s) f b i out n ≡ storeIn (mendGroups f b) i .sector ∷ [])))
+    × ((i : ℕ) (out n : List ℕ) → length (stores (mendGroups f b)) ≤ i → length out ≡ 512 → length n ≡ 1
+    → (mendStoreNumber (mendPlanLeft f b s) f b i out n ≡ noStore)
+    × ((mendStoreBytes (mendPlanLeft f b s) f b i out n ≡ out) × (mendStoreSector (mendPlanLeft f b s) f b i out n ≡ n))))))
