@@ -1,5 +1,7 @@
 //! The library's C interface: the declarations of include/amseokbin.h, and safe wrappers over slices.
 
+use std::ptr::{null, null_mut};
+
 use crate::interface::{BlockNumbers, Device, Interface};
 
 extern "C" {
@@ -225,6 +227,23 @@ extern "C" {
     ) -> u8;
 }
 
+/// Where a slice begins. An empty one is passed as a null pointer, which the interface allows.
+fn start<T>(slice: &[T]) -> *const T {
+    if slice.is_empty() {
+        null()
+    } else {
+        slice.as_ptr()
+    }
+}
+
+fn start_mut<T>(slice: &mut [T]) -> *mut T {
+    if slice.is_empty() {
+        null_mut()
+    } else {
+        slice.as_mut_ptr()
+    }
+}
+
 /// The library.
 pub struct Library;
 
@@ -236,11 +255,11 @@ impl Interface for Library {
     }
 
     fn checksum(&self, bytes: &[u8]) -> u32 {
-        unsafe { amseokbin_checksum(bytes.as_ptr(), bytes.len()) }
+        unsafe { amseokbin_checksum(start(bytes), bytes.len()) }
     }
 
     fn checksum_continued(&self, before: u32, bytes: &[u8]) -> u32 {
-        unsafe { amseokbin_checksum_continued(before, bytes.as_ptr(), bytes.len()) }
+        unsafe { amseokbin_checksum_continued(before, start(bytes), bytes.len()) }
     }
 
     fn block_read(
@@ -252,13 +271,13 @@ impl Interface for Library {
     ) -> u8 {
         unsafe {
             amseokbin_block_read(
-                block.as_ptr(),
+                start(block),
                 block.len(),
-                numbers.as_mut_ptr(),
+                start_mut(numbers),
                 numbers.len(),
-                pool.as_mut_ptr(),
+                start_mut(pool),
                 pool.len(),
-                device.as_mut_ptr(),
+                start_mut(device),
                 device.len(),
             )
         }
@@ -284,11 +303,11 @@ impl Interface for Library {
                 numbers.b_nanoseconds,
                 numbers.b_bytes,
                 numbers.b_crc,
-                pool.as_ptr(),
+                start(pool),
                 pool.len(),
-                device.as_ptr(),
+                start(device),
                 device.len(),
-                block.as_mut_ptr(),
+                start_mut(block),
                 block.len(),
             )
         }
@@ -300,7 +319,7 @@ impl Interface for Library {
                 device.sectors,
                 device.metadata,
                 device.reserved,
-                places.as_mut_ptr(),
+                start_mut(places),
                 places.len(),
             )
         }
@@ -309,11 +328,11 @@ impl Interface for Library {
     fn discover(&self, front: &[u8], back: &[u8], found: &mut [u64]) -> u8 {
         unsafe {
             amseokbin_discover(
-                front.as_ptr(),
+                start(front),
                 front.len(),
-                back.as_ptr(),
+                start(back),
                 back.len(),
-                found.as_mut_ptr(),
+                start_mut(found),
                 found.len(),
             )
         }
@@ -322,20 +341,20 @@ impl Interface for Library {
     fn read_found(&self, front: &[u8], back: &[u8], record: &mut [u8], found: &mut [u64]) -> u8 {
         unsafe {
             amseokbin_read_found(
-                front.as_ptr(),
+                start(front),
                 front.len(),
-                back.as_ptr(),
+                start(back),
                 back.len(),
-                record.as_mut_ptr(),
+                start_mut(record),
                 record.len(),
-                found.as_mut_ptr(),
+                start_mut(found),
                 found.len(),
             )
         }
     }
 
     fn in_step(&self, front: &[u8], back: &[u8]) -> bool {
-        unsafe { amseokbin_in_step(front.as_ptr(), front.len(), back.as_ptr(), back.len()) }
+        unsafe { amseokbin_in_step(start(front), front.len(), start(back), back.len()) }
     }
 
     fn update_check(
@@ -348,13 +367,13 @@ impl Interface for Library {
     ) -> u8 {
         unsafe {
             amseokbin_update_check(
-                front.as_ptr(),
+                start(front),
                 front.len(),
-                back.as_ptr(),
+                start(back),
                 back.len(),
                 seconds,
                 nanoseconds,
-                record.as_ptr(),
+                start(record),
                 record.len(),
             )
         }
@@ -371,26 +390,26 @@ impl Interface for Library {
     ) -> u8 {
         unsafe {
             amseokbin_update_plan(
-                front.as_ptr(),
+                start(front),
                 front.len(),
-                back.as_ptr(),
+                start(back),
                 back.len(),
                 seconds,
                 nanoseconds,
-                record.as_ptr(),
+                start(record),
                 record.len(),
-                plan.as_mut_ptr(),
+                start_mut(plan),
                 plan.len(),
             )
         }
     }
 
     fn update_count(&self, plan: &[u8]) -> u64 {
-        unsafe { amseokbin_update_count(plan.as_ptr(), plan.len()) }
+        unsafe { amseokbin_update_count(start(plan), plan.len()) }
     }
 
     fn update_group(&self, plan: &[u8], number: u64) -> u8 {
-        unsafe { amseokbin_update_group(plan.as_ptr(), plan.len(), number) }
+        unsafe { amseokbin_update_group(start(plan), plan.len(), number) }
     }
 
     fn update_store(
@@ -405,27 +424,25 @@ impl Interface for Library {
     ) -> u8 {
         unsafe {
             amseokbin_update_store(
-                plan.as_ptr(),
+                start(plan),
                 plan.len(),
-                front.as_ptr(),
+                start(front),
                 front.len(),
-                back.as_ptr(),
+                start(back),
                 back.len(),
-                record.as_ptr(),
+                start(record),
                 record.len(),
                 number,
-                bytes.as_mut_ptr(),
+                start_mut(bytes),
                 bytes.len(),
-                sector.as_mut_ptr(),
+                start_mut(sector),
                 sector.len(),
             )
         }
     }
 
     fn lay(&self, copy: &mut [u8], area_b: bool, record: &[u8]) -> u8 {
-        unsafe {
-            amseokbin_lay(copy.as_mut_ptr(), copy.len(), area_b, record.as_ptr(), record.len())
-        }
+        unsafe { amseokbin_lay(start_mut(copy), copy.len(), area_b, start(record), record.len()) }
     }
 
     fn format(
@@ -441,20 +458,20 @@ impl Interface for Library {
     ) -> u8 {
         unsafe {
             amseokbin_format(
-                front.as_mut_ptr(),
+                start_mut(front),
                 front.len(),
-                back.as_mut_ptr(),
+                start_mut(back),
                 back.len(),
                 numbers.sectors,
                 numbers.metadata,
                 numbers.reserved,
-                pool.as_ptr(),
+                start(pool),
                 pool.len(),
-                device.as_ptr(),
+                start(device),
                 device.len(),
                 seconds,
                 nanoseconds,
-                record.as_ptr(),
+                start(record),
                 record.len(),
             )
         }
@@ -463,22 +480,22 @@ impl Interface for Library {
     fn mend_plan(&self, front: &[u8], back: &[u8], plan: &mut [u8]) -> u8 {
         unsafe {
             amseokbin_mend_plan(
-                front.as_ptr(),
+                start(front),
                 front.len(),
-                back.as_ptr(),
+                start(back),
                 back.len(),
-                plan.as_mut_ptr(),
+                start_mut(plan),
                 plan.len(),
             )
         }
     }
 
     fn mend_count(&self, plan: &[u8]) -> u64 {
-        unsafe { amseokbin_mend_count(plan.as_ptr(), plan.len()) }
+        unsafe { amseokbin_mend_count(start(plan), plan.len()) }
     }
 
     fn mend_group(&self, plan: &[u8], number: u64) -> u8 {
-        unsafe { amseokbin_mend_group(plan.as_ptr(), plan.len(), number) }
+        unsafe { amseokbin_mend_group(start(plan), plan.len(), number) }
     }
 
     fn mend_store(
@@ -492,16 +509,16 @@ impl Interface for Library {
     ) -> u8 {
         unsafe {
             amseokbin_mend_store(
-                plan.as_ptr(),
+                start(plan),
                 plan.len(),
-                front.as_ptr(),
+                start(front),
                 front.len(),
-                back.as_ptr(),
+                start(back),
                 back.len(),
                 number,
-                bytes.as_mut_ptr(),
+                start_mut(bytes),
                 bytes.len(),
-                sector.as_mut_ptr(),
+                start_mut(sector),
                 sector.len(),
             )
         }
@@ -513,7 +530,7 @@ impl Interface for Library {
                 device.sectors,
                 device.metadata,
                 device.reserved,
-                record.as_ptr(),
+                start(record),
                 record.len(),
             )
         }
@@ -525,9 +542,9 @@ impl Interface for Library {
                 device.sectors,
                 device.metadata,
                 device.reserved,
-                record.as_ptr(),
+                start(record),
                 record.len(),
-                head.as_mut_ptr(),
+                start_mut(head),
                 head.len(),
             )
         }
@@ -545,17 +562,17 @@ impl Interface for Library {
                 device.sectors,
                 device.metadata,
                 device.reserved,
-                record.as_ptr(),
+                start(record),
                 record.len(),
                 position,
-                segment.as_mut_ptr(),
+                start_mut(segment),
                 segment.len(),
             )
         }
     }
 
     fn record_begin(&self, record: &mut [u8], block_size: u32) -> u8 {
-        unsafe { amseokbin_record_begin(record.as_mut_ptr(), record.len(), block_size) }
+        unsafe { amseokbin_record_begin(start_mut(record), record.len(), block_size) }
     }
 
     fn free_total(&self, device: &Device, record: &[u8], total: &mut [u64]) -> u8 {
@@ -564,9 +581,9 @@ impl Interface for Library {
                 device.sectors,
                 device.metadata,
                 device.reserved,
-                record.as_ptr(),
+                start(record),
                 record.len(),
-                total.as_mut_ptr(),
+                start_mut(total),
                 total.len(),
             )
         }
@@ -584,11 +601,11 @@ impl Interface for Library {
                 device.sectors,
                 device.metadata,
                 device.reserved,
-                record.as_ptr(),
+                start(record),
                 record.len(),
-                table.as_mut_ptr(),
+                start_mut(table),
                 table.len(),
-                count.as_mut_ptr(),
+                start_mut(count),
                 count.len(),
             )
         }
@@ -608,13 +625,13 @@ impl Interface for Library {
                 device.sectors,
                 device.metadata,
                 device.reserved,
-                record.as_ptr(),
+                start(record),
                 record.len(),
                 kind,
                 length,
-                changed.as_mut_ptr(),
+                start_mut(changed),
                 changed.len(),
-                answer.as_mut_ptr(),
+                start_mut(answer),
                 answer.len(),
             )
         }
@@ -633,12 +650,12 @@ impl Interface for Library {
                 device.sectors,
                 device.metadata,
                 device.reserved,
-                record.as_ptr(),
+                start(record),
                 record.len(),
                 position,
-                changed.as_mut_ptr(),
+                start_mut(changed),
                 changed.len(),
-                answer.as_mut_ptr(),
+                start_mut(answer),
                 answer.len(),
             )
         }

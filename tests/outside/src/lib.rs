@@ -1,6 +1,8 @@
 //! Tests of the library from outside: the C interface, an independent implementation, and what the test programs share.
 
 pub mod ffi;
+#[cfg(test)]
+mod header;
 pub mod interface;
 pub mod lent;
 pub mod model;

@@ -14,6 +14,7 @@ mod formats;
 mod records;
 mod run;
 mod updates;
+mod walks;
 
 use std::env;
 use std::process::exit;
@@ -34,6 +35,7 @@ const FAMILIES: &[Family] = &[
     ("updates", 16_000, updates::case),
     ("formats", 20_000, formats::case),
     ("records", 30_000, records::case),
+    ("walks", 1_000, walks::case),
 ];
 
 fn main() {

@@ -1,11 +1,12 @@
 //! Records and their free room.
 
-use outside::interface::Device;
+use outside::ffi::Library;
+use outside::interface::{Device, Interface};
 use outside::lent::Lent;
+use outside::model;
 use outside::model::layout::RECORD_LIMIT;
 use outside::model::record::MAX_SEGMENTS;
 use outside::model::room::{free_runs, Run as FreeRun};
-use outside::model::{self};
 use outside::rng::Rng;
 use outside::sample::numbers::{break_device, device};
 use outside::sample::records::{any_record, block_size, break_block_size, record, segment_count};
@@ -29,6 +30,9 @@ pub fn case(run: &mut Run, rng: &mut Rng, _: u64) {
     read(run, rng, &device, &record);
     let runs = runs(&device, record.part());
     table(run, rng, &device, &record, &runs);
+    if rng.once_in(20) {
+        sectors(run, &device, record.part());
+    }
     allocate(run, rng, &device, &record, &runs);
     release(run, rng, &device, &record);
 }
@@ -71,6 +75,32 @@ fn read(run: &mut Run, rng: &mut Rng, device: &Device, record: &Lent<u8>) {
     run.both("free_total", &inputs, [], total, |api, [], [total]| {
         api.free_total(device, bytes, total.part_mut())
     });
+}
+
+/// In an accepted record, allocated, free and other sectors add up to S, by what the library answers.
+fn sectors(run: &mut Run, device: &Device, record: &[u8]) {
+    let (mut head, mut total, mut segment) = ([0; 2], [0], [0; 3]);
+    if Library.record_head(device, record, &mut head) != 0 {
+        return;
+    }
+    let mut allocated = 0;
+    for position in 0..head[1] {
+        let number = Library.record_segment(device, record, position, &mut segment);
+        run.require("record_segment", number == 0, "a segment of an accepted record is refused");
+        allocated += u128::from(segment[2]);
+    }
+    let number = Library.free_total(device, record, &mut total);
+    let ends = 2 * (8 + u128::from(device.metadata) + u128::from(device.reserved));
+    let sum = allocated + u128::from(total[0]) + ends;
+    let same = number == 0 && sum == u128::from(device.sectors);
+    run.require("free_total", same, "the sectors do not add up to S");
+
+    let (mut table, mut count) = (vec![0; 2 * MAX_SEGMENTS + 2], [0]);
+    let number = Library.free_runs(device, record, &mut table, &mut count);
+    let runs = table.chunks_exact(2).take(count[0] as usize);
+    let free: u128 = runs.map(|run| u128::from(run[1])).sum();
+    let same = number == 0 && free == u128::from(total[0]);
+    run.require("free_runs", same, "the runs do not add up to the free total");
 }
 
 /// A position in the record, just past it, or any number.

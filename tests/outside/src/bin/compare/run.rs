@@ -56,9 +56,20 @@ impl Run {
     where
         R: Copy + PartialEq + Debug + Into<u64>,
     {
+        let before = (bytes.clone(), numbers.clone());
         let outcome = self.call(call, inputs, (bytes, numbers), f);
         self.same(call, inputs, "bytes", &outcome.library.0, &outcome.model.0);
         self.same(call, inputs, "numbers", &outcome.library.1, &outcome.model.1);
+        if B + N > 0 && outcome.answer.into() != 0 {
+            // Every call that changes lent memory answers a refusal number.
+            let bytes =
+                before.0.iter().zip(&outcome.library.0).all(|(a, b)| a.whole() == b.whole());
+            let numbers =
+                before.1.iter().zip(&outcome.library.1).all(|(a, b)| a.whole() == b.whole());
+            if !(bytes && numbers) {
+                self.fail(call, inputs, "refused, but lent memory changed");
+            }
+        }
         outcome
     }
 
