@@ -1,6 +1,7 @@
 //! Tests of the library from outside: the C interface, an independent implementation, and what the test programs share.
 
 pub mod ffi;
+pub mod guard;
 #[cfg(test)]
 mod header;
 pub mod interface;

@@ -46,4 +46,5 @@ pub const LAST: &[&str] = &[
     "discovery, the front block refused",
     "discovery, the back block refused",
     "plan of any bytes",
+    "slices at the edge of forbidden memory",
 ];

@@ -8,6 +8,7 @@
 mod blocks;
 mod checksums;
 mod copies;
+mod edges;
 mod examples;
 mod expected;
 mod formats;
@@ -36,6 +37,7 @@ const FAMILIES: &[Family] = &[
     ("formats", 20_000, formats::case),
     ("records", 30_000, records::case),
     ("walks", 1_000, walks::case),
+    ("edges", 12_000, edges::case),
 ];
 
 fn main() {
