@@ -59,7 +59,8 @@ int main(int argc, char **argv)
     if (read_dump(argv[1]) != 0)
         return 2;
     uint64_t found[AMSEOKBIN_FOUND];
-    uint8_t refusal = amseokbin_discover(dump, AMSEOKBIN_COPY, dump + AMSEOKBIN_COPY, AMSEOKBIN_COPY, found, AMSEOKBIN_FOUND);
+    uint8_t refusal = amseokbin_discover(dump, AMSEOKBIN_COPY, dump + AMSEOKBIN_COPY, AMSEOKBIN_COPY,
+                                         found, AMSEOKBIN_FOUND);
     if (refusal != AMSEOKBIN_OK) {
         printf("refused %d\n", refusal);
         return 1;

@@ -29,14 +29,7 @@ extern "C" {
 fn discover(front: &[u8], back: &[u8]) -> Result<[u64; FOUND], u8> {
     let mut found = [0; FOUND];
     let refusal = unsafe {
-        amseokbin_discover(
-            front.as_ptr(),
-            front.len(),
-            back.as_ptr(),
-            back.len(),
-            found.as_mut_ptr(),
-            found.len(),
-        )
+        amseokbin_discover(front.as_ptr(), front.len(), back.as_ptr(), back.len(), found.as_mut_ptr(), found.len())
     };
     if refusal == 0 {
         Ok(found)

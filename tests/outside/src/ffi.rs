@@ -36,13 +36,7 @@ extern "C" {
         block: *mut u8,
         block_length: usize,
     ) -> u8;
-    fn amseokbin_places(
-        sectors: u64,
-        metadata: u32,
-        reserved: u32,
-        places: *mut u64,
-        places_length: usize,
-    ) -> u8;
+    fn amseokbin_places(sectors: u64, metadata: u32, reserved: u32, places: *mut u64, places_length: usize) -> u8;
     fn amseokbin_discover(
         front: *const u8,
         front_length: usize,
@@ -61,12 +55,7 @@ extern "C" {
         found: *mut u64,
         found_length: usize,
     ) -> u8;
-    fn amseokbin_in_step(
-        front: *const u8,
-        front_length: usize,
-        back: *const u8,
-        back_length: usize,
-    ) -> bool;
+    fn amseokbin_in_step(front: *const u8, front_length: usize, back: *const u8, back_length: usize) -> bool;
     fn amseokbin_update_check(
         front: *const u8,
         front_length: usize,
@@ -106,13 +95,7 @@ extern "C" {
         sector: *mut u64,
         sector_length: usize,
     ) -> u8;
-    fn amseokbin_lay(
-        copy: *mut u8,
-        copy_length: usize,
-        area_b: bool,
-        record: *const u8,
-        record_length: usize,
-    ) -> u8;
+    fn amseokbin_lay(copy: *mut u8, copy_length: usize, area_b: bool, record: *const u8, record_length: usize) -> u8;
     fn amseokbin_format(
         front: *mut u8,
         front_length: usize,
@@ -262,13 +245,7 @@ impl Interface for Library {
         unsafe { amseokbin_checksum_continued(before, start(bytes), bytes.len()) }
     }
 
-    fn block_read(
-        &self,
-        block: &[u8],
-        numbers: &mut [u64],
-        pool: &mut [u8],
-        device: &mut [u8],
-    ) -> u8 {
+    fn block_read(&self, block: &[u8], numbers: &mut [u64], pool: &mut [u8], device: &mut [u8]) -> u8 {
         unsafe {
             amseokbin_block_read(
                 start(block),
@@ -283,13 +260,7 @@ impl Interface for Library {
         }
     }
 
-    fn block_write(
-        &self,
-        numbers: &BlockNumbers,
-        pool: &[u8],
-        device: &[u8],
-        block: &mut [u8],
-    ) -> u8 {
+    fn block_write(&self, numbers: &BlockNumbers, pool: &[u8], device: &[u8], block: &mut [u8]) -> u8 {
         unsafe {
             amseokbin_block_write(
                 numbers.sectors,
@@ -314,28 +285,11 @@ impl Interface for Library {
     }
 
     fn places(&self, device: &Device, places: &mut [u64]) -> u8 {
-        unsafe {
-            amseokbin_places(
-                device.sectors,
-                device.metadata,
-                device.reserved,
-                start_mut(places),
-                places.len(),
-            )
-        }
+        unsafe { amseokbin_places(device.sectors, device.metadata, device.reserved, start_mut(places), places.len()) }
     }
 
     fn discover(&self, front: &[u8], back: &[u8], found: &mut [u64]) -> u8 {
-        unsafe {
-            amseokbin_discover(
-                start(front),
-                front.len(),
-                start(back),
-                back.len(),
-                start_mut(found),
-                found.len(),
-            )
-        }
+        unsafe { amseokbin_discover(start(front), front.len(), start(back), back.len(), start_mut(found), found.len()) }
     }
 
     fn read_found(&self, front: &[u8], back: &[u8], record: &mut [u8], found: &mut [u64]) -> u8 {
@@ -357,14 +311,7 @@ impl Interface for Library {
         unsafe { amseokbin_in_step(start(front), front.len(), start(back), back.len()) }
     }
 
-    fn update_check(
-        &self,
-        front: &[u8],
-        back: &[u8],
-        seconds: u64,
-        nanoseconds: u32,
-        record: &[u8],
-    ) -> u8 {
+    fn update_check(&self, front: &[u8], back: &[u8], seconds: u64, nanoseconds: u32, record: &[u8]) -> u8 {
         unsafe {
             amseokbin_update_check(
                 start(front),
@@ -478,16 +425,7 @@ impl Interface for Library {
     }
 
     fn mend_plan(&self, front: &[u8], back: &[u8], plan: &mut [u8]) -> u8 {
-        unsafe {
-            amseokbin_mend_plan(
-                start(front),
-                front.len(),
-                start(back),
-                back.len(),
-                start_mut(plan),
-                plan.len(),
-            )
-        }
+        unsafe { amseokbin_mend_plan(start(front), front.len(), start(back), back.len(), start_mut(plan), plan.len()) }
     }
 
     fn mend_count(&self, plan: &[u8]) -> u64 {
@@ -525,15 +463,7 @@ impl Interface for Library {
     }
 
     fn record_check(&self, device: &Device, record: &[u8]) -> u8 {
-        unsafe {
-            amseokbin_record_check(
-                device.sectors,
-                device.metadata,
-                device.reserved,
-                start(record),
-                record.len(),
-            )
-        }
+        unsafe { amseokbin_record_check(device.sectors, device.metadata, device.reserved, start(record), record.len()) }
     }
 
     fn record_head(&self, device: &Device, record: &[u8], head: &mut [u64]) -> u8 {
@@ -550,13 +480,7 @@ impl Interface for Library {
         }
     }
 
-    fn record_segment(
-        &self,
-        device: &Device,
-        record: &[u8],
-        position: u64,
-        segment: &mut [u64],
-    ) -> u8 {
+    fn record_segment(&self, device: &Device, record: &[u8], position: u64, segment: &mut [u64]) -> u8 {
         unsafe {
             amseokbin_record_segment(
                 device.sectors,
@@ -589,13 +513,7 @@ impl Interface for Library {
         }
     }
 
-    fn free_runs(
-        &self,
-        device: &Device,
-        record: &[u8],
-        table: &mut [u64],
-        count: &mut [u64],
-    ) -> u8 {
+    fn free_runs(&self, device: &Device, record: &[u8], table: &mut [u64], count: &mut [u64]) -> u8 {
         unsafe {
             amseokbin_free_runs(
                 device.sectors,
@@ -637,14 +555,7 @@ impl Interface for Library {
         }
     }
 
-    fn release(
-        &self,
-        device: &Device,
-        record: &[u8],
-        position: u64,
-        changed: &mut [u8],
-        answer: &mut [u64],
-    ) -> u8 {
+    fn release(&self, device: &Device, record: &[u8], position: u64, changed: &mut [u8], answer: &mut [u64]) -> u8 {
         unsafe {
             amseokbin_release(
                 device.sectors,

@@ -34,20 +34,8 @@ pub trait Interface {
     fn checksum(&self, bytes: &[u8]) -> u32;
     fn checksum_continued(&self, before: u32, bytes: &[u8]) -> u32;
 
-    fn block_read(
-        &self,
-        block: &[u8],
-        numbers: &mut [u64],
-        pool: &mut [u8],
-        device: &mut [u8],
-    ) -> u8;
-    fn block_write(
-        &self,
-        numbers: &BlockNumbers,
-        pool: &[u8],
-        device: &[u8],
-        block: &mut [u8],
-    ) -> u8;
+    fn block_read(&self, block: &[u8], numbers: &mut [u64], pool: &mut [u8], device: &mut [u8]) -> u8;
+    fn block_write(&self, numbers: &BlockNumbers, pool: &[u8], device: &[u8], block: &mut [u8]) -> u8;
 
     fn places(&self, device: &Device, places: &mut [u64]) -> u8;
 
@@ -55,14 +43,7 @@ pub trait Interface {
     fn read_found(&self, front: &[u8], back: &[u8], record: &mut [u8], found: &mut [u64]) -> u8;
     fn in_step(&self, front: &[u8], back: &[u8]) -> bool;
 
-    fn update_check(
-        &self,
-        front: &[u8],
-        back: &[u8],
-        seconds: u64,
-        nanoseconds: u32,
-        record: &[u8],
-    ) -> u8;
+    fn update_check(&self, front: &[u8], back: &[u8], seconds: u64, nanoseconds: u32, record: &[u8]) -> u8;
     fn update_plan(
         &self,
         front: &[u8],
@@ -113,18 +94,11 @@ pub trait Interface {
 
     fn record_check(&self, device: &Device, record: &[u8]) -> u8;
     fn record_head(&self, device: &Device, record: &[u8], head: &mut [u64]) -> u8;
-    fn record_segment(
-        &self,
-        device: &Device,
-        record: &[u8],
-        position: u64,
-        segment: &mut [u64],
-    ) -> u8;
+    fn record_segment(&self, device: &Device, record: &[u8], position: u64, segment: &mut [u64]) -> u8;
     fn record_begin(&self, record: &mut [u8], block_size: u32) -> u8;
 
     fn free_total(&self, device: &Device, record: &[u8], total: &mut [u64]) -> u8;
-    fn free_runs(&self, device: &Device, record: &[u8], table: &mut [u64], count: &mut [u64])
-        -> u8;
+    fn free_runs(&self, device: &Device, record: &[u8], table: &mut [u64], count: &mut [u64]) -> u8;
     fn allocate(
         &self,
         device: &Device,
@@ -134,12 +108,5 @@ pub trait Interface {
         changed: &mut [u8],
         answer: &mut [u64],
     ) -> u8;
-    fn release(
-        &self,
-        device: &Device,
-        record: &[u8],
-        position: u64,
-        changed: &mut [u8],
-        answer: &mut [u64],
-    ) -> u8;
+    fn release(&self, device: &Device, record: &[u8], position: u64, changed: &mut [u8], answer: &mut [u64]) -> u8;
 }

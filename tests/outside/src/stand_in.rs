@@ -27,11 +27,7 @@ unsafe extern "C" fn amseokbin_checksum(bytes: *const u8, length: usize) -> u32 
 }
 
 #[no_mangle]
-unsafe extern "C" fn amseokbin_checksum_continued(
-    before: u32,
-    bytes: *const u8,
-    length: usize,
-) -> u32 {
+unsafe extern "C" fn amseokbin_checksum_continued(before: u32, bytes: *const u8, length: usize) -> u32 {
     Model.checksum_continued(before, shared(bytes, length))
 }
 
@@ -114,11 +110,7 @@ unsafe extern "C" fn amseokbin_discover(
     found: *mut u64,
     found_length: usize,
 ) -> u8 {
-    Model.discover(
-        shared(front, front_length),
-        shared(back, back_length),
-        unique(found, found_length),
-    )
+    Model.discover(shared(front, front_length), shared(back, back_length), unique(found, found_length))
 }
 
 #[no_mangle]
@@ -199,11 +191,7 @@ unsafe extern "C" fn amseokbin_update_count(plan: *const u8, plan_length: usize)
 }
 
 #[no_mangle]
-unsafe extern "C" fn amseokbin_update_group(
-    plan: *const u8,
-    plan_length: usize,
-    number: u64,
-) -> u8 {
+unsafe extern "C" fn amseokbin_update_group(plan: *const u8, plan_length: usize, number: u64) -> u8 {
     Model.update_group(shared(plan, plan_length), number)
 }
 
@@ -284,11 +272,7 @@ unsafe extern "C" fn amseokbin_mend_plan(
     plan: *mut u8,
     plan_length: usize,
 ) -> u8 {
-    Model.mend_plan(
-        shared(front, front_length),
-        shared(back, back_length),
-        unique(plan, plan_length),
-    )
+    Model.mend_plan(shared(front, front_length), shared(back, back_length), unique(plan, plan_length))
 }
 
 #[no_mangle]
@@ -346,11 +330,7 @@ unsafe extern "C" fn amseokbin_record_head(
     head: *mut u64,
     head_length: usize,
 ) -> u8 {
-    Model.record_head(
-        &Device { sectors, metadata, reserved },
-        shared(record, record_length),
-        unique(head, head_length),
-    )
+    Model.record_head(&Device { sectors, metadata, reserved }, shared(record, record_length), unique(head, head_length))
 }
 
 #[no_mangle]
@@ -373,11 +353,7 @@ unsafe extern "C" fn amseokbin_record_segment(
 }
 
 #[no_mangle]
-unsafe extern "C" fn amseokbin_record_begin(
-    record: *mut u8,
-    record_length: usize,
-    block_size: u32,
-) -> u8 {
+unsafe extern "C" fn amseokbin_record_begin(record: *mut u8, record_length: usize, block_size: u32) -> u8 {
     Model.record_begin(unique(record, record_length), block_size)
 }
 

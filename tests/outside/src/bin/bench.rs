@@ -21,9 +21,7 @@ const SAMPLE: f64 = 0.004;
 const DEVICE: Device = Device { sectors: 1 << 40, metadata: 16_384, reserved: 65_536 };
 
 fn main() {
-    println!(
-        "Output buffers are zeroed once, before the first call, and not cleared between calls."
-    );
+    println!("Output buffers are zeroed once, before the first call, and not cleared between calls.");
     println!("Median of {ROUNDS} rounds, library and model in turn; the model is plain Rust.");
     println!();
     println!("{:48} {:>12} {:>12} {:>8}", "call", "library", "model", "ratio");

@@ -4,9 +4,8 @@ use super::crc::crc32;
 use super::layout::{Device, RECORD_LIMIT, SECTOR};
 use super::refusal::{require, Refusal};
 
-pub const SIGNATURE: [u8; 16] = [
-    0x21, 0x53, 0x74, 0x72, 0x61, 0x30, 0x74, 0x69, 0x73, 0x86, 0xff, 0x02, 0x5e, 0x41, 0x72, 0x68,
-];
+pub const SIGNATURE: [u8; 16] =
+    [0x21, 0x53, 0x74, 0x72, 0x61, 0x30, 0x74, 0x69, 0x73, 0x86, 0xff, 0x02, 0x5e, 0x41, 0x72, 0x68];
 /// Where the entries of areas a and b begin in a block, 20 bytes each.
 pub const ENTRY_OFFSET: [usize; 2] = [96, 128];
 pub const MAX_NANOSECONDS: u32 = 999_999_999;
@@ -39,9 +38,7 @@ impl Entry {
     }
 
     fn within_limits(&self) -> bool {
-        !self.is_used()
-            || (1..=RECORD_LIMIT as u32).contains(&self.bytes)
-                && self.time.nanoseconds <= MAX_NANOSECONDS
+        !self.is_used() || (1..=RECORD_LIMIT as u32).contains(&self.bytes) && self.time.nanoseconds <= MAX_NANOSECONDS
     }
 
     fn read(block: &[u8], at: usize) -> Self {
@@ -77,11 +74,7 @@ impl Block {
         require(block.len() == SECTOR, Refusal::SliceSize)?;
         require(block[4..20] == SIGNATURE, Refusal::Signature)?;
         require(u32_at(block, 0) == crc32(&block[4..]), Refusal::BlockCrc)?;
-        let device = Device {
-            sectors: u64_at(block, 20),
-            metadata: u32_at(block, 160),
-            reserved: u32_at(block, 164),
-        };
+        let device = Device { sectors: u64_at(block, 20), metadata: u32_at(block, 160), reserved: u32_at(block, 164) };
         device.check_sectors()?;
         let zero = [28..32, 116..128, 148..160, 168..512].map(|range| all_zero(&block[range]));
         require(zero == [true; 4], Refusal::NotZero)?;

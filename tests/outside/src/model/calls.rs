@@ -4,9 +4,7 @@ use super::block::{Block, Entry, Identity, Time};
 use super::discovery::{self, Found};
 use super::format;
 use super::layout::{BACK, FRONT, SECTOR};
-use super::plan_bytes::{
-    decode_mend, decode_update, encode_mend, encode_update, MEND_PLAN, UPDATE_PLAN,
-};
+use super::plan_bytes::{decode_mend, decode_update, encode_mend, encode_update, MEND_PLAN, UPDATE_PLAN};
 use super::record::{self, check, SEGMENT_BYTES};
 use super::refusal::{require, Refusal};
 use super::{crc, mend, room, update};
@@ -47,12 +45,7 @@ fn found_numbers(found: &Found) -> [u64; FOUND] {
 fn block_numbers(block: &Block) -> [u64; BLOCK_NUMBERS] {
     let Device { sectors, metadata, reserved } = block.identity.device;
     let [a, b] = block.entries.map(|entry| {
-        [
-            entry.time.seconds,
-            u64::from(entry.time.nanoseconds),
-            u64::from(entry.bytes),
-            u64::from(entry.crc),
-        ]
+        [entry.time.seconds, u64::from(entry.time.nanoseconds), u64::from(entry.bytes), u64::from(entry.crc)]
     });
     let (metadata, reserved) = (u64::from(metadata), u64::from(reserved));
     [sectors, metadata, reserved, a[0], a[1], a[2], a[3], b[0], b[1], b[2], b[3]]
@@ -77,11 +70,7 @@ fn block_write(numbers: &BlockNumbers, pool: &[u8], device: &[u8], block: &mut [
         pool_uuid: uuid(pool)?,
         device_uuid: uuid(device)?,
     };
-    let entry = |seconds, nanoseconds, bytes, crc| Entry {
-        time: Time { seconds, nanoseconds },
-        bytes,
-        crc,
-    };
+    let entry = |seconds, nanoseconds, bytes, crc| Entry { time: Time { seconds, nanoseconds }, bytes, crc };
     let entries = [
         entry(n.a_seconds, n.a_nanoseconds, n.a_bytes, n.a_crc),
         entry(n.b_seconds, n.b_nanoseconds, n.b_bytes, n.b_crc),
@@ -154,13 +143,7 @@ fn mend_plan(front: &[u8], back: &[u8], plan: &mut [u8]) -> Done {
     Ok(())
 }
 
-fn mend_store(
-    plan: &[u8],
-    copies: [&[u8]; 2],
-    number: u64,
-    bytes: &mut [u8],
-    sector: &mut [u64],
-) -> Done {
+fn mend_store(plan: &[u8], copies: [&[u8]; 2], number: u64, bytes: &mut [u8], sector: &mut [u64]) -> Done {
     has_size(plan, MEND_PLAN)?;
     has_size(sector, 1)?;
     has_size(copies[0], super::layout::COPY)?;
@@ -211,14 +194,7 @@ fn free_runs(device: &Device, record: &[u8], table: &mut [u64], count: &mut [u64
     Ok(())
 }
 
-fn allocate(
-    device: &Device,
-    record: &[u8],
-    kind: u16,
-    length: u64,
-    changed: &mut [u8],
-    answer: &mut [u64],
-) -> Done {
+fn allocate(device: &Device, record: &[u8], kind: u16, length: u64, changed: &mut [u8], answer: &mut [u64]) -> Done {
     has_size(answer, 2)?;
     let segment = room::allocate(device, record, kind, length)?;
     let new_length = record.len() + SEGMENT_BYTES;
@@ -229,13 +205,7 @@ fn allocate(
     Ok(())
 }
 
-fn release(
-    device: &Device,
-    record: &[u8],
-    position: u64,
-    changed: &mut [u8],
-    answer: &mut [u64],
-) -> Done {
+fn release(device: &Device, record: &[u8], position: u64, changed: &mut [u8], answer: &mut [u64]) -> Done {
     has_size(answer, 1)?;
     let at = room::release(device, record, position)?;
     let new_length = record.len() - SEGMENT_BYTES;
@@ -259,23 +229,11 @@ impl Interface for Model {
         crc::crc32_continued(before, bytes)
     }
 
-    fn block_read(
-        &self,
-        block: &[u8],
-        numbers: &mut [u64],
-        pool: &mut [u8],
-        device: &mut [u8],
-    ) -> u8 {
+    fn block_read(&self, block: &[u8], numbers: &mut [u64], pool: &mut [u8], device: &mut [u8]) -> u8 {
         number(block_read(block, numbers, pool, device))
     }
 
-    fn block_write(
-        &self,
-        numbers: &BlockNumbers,
-        pool: &[u8],
-        device: &[u8],
-        block: &mut [u8],
-    ) -> u8 {
+    fn block_write(&self, numbers: &BlockNumbers, pool: &[u8], device: &[u8], block: &mut [u8]) -> u8 {
         number(block_write(numbers, pool, device, block))
     }
 
@@ -295,14 +253,7 @@ impl Interface for Model {
         discovery::in_step(front, back)
     }
 
-    fn update_check(
-        &self,
-        front: &[u8],
-        back: &[u8],
-        seconds: u64,
-        nanoseconds: u32,
-        record: &[u8],
-    ) -> u8 {
+    fn update_check(&self, front: &[u8], back: &[u8], seconds: u64, nanoseconds: u32, record: &[u8]) -> u8 {
         number(update::plan(front, back, Time { seconds, nanoseconds }, record).map(|_| ()))
     }
 
@@ -354,9 +305,8 @@ impl Interface for Model {
         nanoseconds: u32,
         record: &[u8],
     ) -> u8 {
-        let identity = uuid(pool).and_then(|pool_uuid| {
-            Ok(Identity { device: *numbers, pool_uuid, device_uuid: uuid(device)? })
-        });
+        let identity =
+            uuid(pool).and_then(|pool_uuid| Ok(Identity { device: *numbers, pool_uuid, device_uuid: uuid(device)? }));
         let time = Time { seconds, nanoseconds };
         number(identity.and_then(|identity| format::format(front, back, &identity, time, record)))
     }
@@ -393,13 +343,7 @@ impl Interface for Model {
         number(record_head(device, record, head))
     }
 
-    fn record_segment(
-        &self,
-        device: &Device,
-        record: &[u8],
-        position: u64,
-        segment: &mut [u64],
-    ) -> u8 {
+    fn record_segment(&self, device: &Device, record: &[u8], position: u64, segment: &mut [u64]) -> u8 {
         number(record_segment(device, record, position, segment))
     }
 
@@ -411,13 +355,7 @@ impl Interface for Model {
         number(free_total(device, record, total))
     }
 
-    fn free_runs(
-        &self,
-        device: &Device,
-        record: &[u8],
-        table: &mut [u64],
-        count: &mut [u64],
-    ) -> u8 {
+    fn free_runs(&self, device: &Device, record: &[u8], table: &mut [u64], count: &mut [u64]) -> u8 {
         number(free_runs(device, record, table, count))
     }
 
@@ -433,14 +371,7 @@ impl Interface for Model {
         number(allocate(device, record, kind, length, changed, answer))
     }
 
-    fn release(
-        &self,
-        device: &Device,
-        record: &[u8],
-        position: u64,
-        changed: &mut [u8],
-        answer: &mut [u64],
-    ) -> u8 {
+    fn release(&self, device: &Device, record: &[u8], position: u64, changed: &mut [u8], answer: &mut [u64]) -> u8 {
         number(release(device, record, position, changed, answer))
     }
 }

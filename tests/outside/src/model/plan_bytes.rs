@@ -22,8 +22,7 @@ fn put_entry(plan: &mut [u8], entry: &Entry) {
 }
 
 fn device(plan: &[u8]) -> Option<Device> {
-    let device =
-        Device { sectors: u64_at(plan, 0), metadata: u32_at(plan, 8), reserved: u32_at(plan, 12) };
+    let device = Device { sectors: u64_at(plan, 0), metadata: u32_at(plan, 8), reserved: u32_at(plan, 12) };
     device.check().ok().map(|()| device)
 }
 

@@ -92,8 +92,7 @@ impl<'a> Record<'a> {
         let Some((head, items)) = self.bytes.split_at_checked(HEAD_BYTES) else {
             return false;
         };
-        let is_segment =
-            |item: &[u8]| usize::from(u16_at(item, 0)) == SEGMENT_BYTES && is_kind(u16_at(item, 2));
+        let is_segment = |item: &[u8]| usize::from(u16_at(item, 0)) == SEGMENT_BYTES && is_kind(u16_at(item, 2));
         usize::from(u16_at(head, 0)) == HEAD_BYTES
             && u16_at(head, 2) == HEAD_KIND
             && is_block_size(u32_at(head, 4))

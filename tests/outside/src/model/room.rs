@@ -1,9 +1,7 @@
 //! Free room: runs, allocation and release.
 
 use super::layout::Device;
-use super::record::{
-    check, is_kind, Record, Segment, Span, HEAD_BYTES, MAX_SEGMENTS, SEGMENT_BYTES,
-};
+use super::record::{check, is_kind, Record, Segment, Span, HEAD_BYTES, MAX_SEGMENTS, SEGMENT_BYTES};
 use super::refusal::{require, Refusal};
 
 #[derive(Clone, Copy, Debug, PartialEq, Eq)]

@@ -68,13 +68,7 @@ impl Update {
     }
 
     /// A store's bytes, and the sector that they go to. The copies and the record are those of the plan.
-    pub fn store(
-        &self,
-        copies: [&[u8]; 2],
-        record: &[u8],
-        number: u64,
-        bytes: &mut BlockBytes,
-    ) -> Option<u64> {
+    pub fn store(&self, copies: [&[u8]; 2], record: &[u8], number: u64, bytes: &mut BlockBytes) -> Option<u64> {
         if number >= self.count() {
             return None;
         }

@@ -1,8 +1,7 @@
 //! Signature blocks.
 
 use super::numbers::{
-    break_metadata, break_nanoseconds, break_reserved, break_sectors, identity, not_hex, spread,
-    time,
+    break_metadata, break_nanoseconds, break_reserved, break_sectors, identity, not_hex, spread, time,
 };
 use crate::model::block::{seal, Block, BlockBytes, Entry, Time, ENTRY_OFFSET};
 use crate::model::layout::RECORD_LIMIT;

@@ -55,22 +55,16 @@ fn read(run: &mut Run, rng: &mut Rng) {
     let numbers = length(rng, BLOCK_NUMBERS);
     let uuids = [Lent::random(rng, pool), Lent::random(rng, device)];
     let numbers = [Lent::random(rng, numbers)];
-    let outcome =
-        run.both("block_read", &[&input], uuids, numbers, |api, [pool, device], [numbers]| {
-            api.block_read(input.part(), numbers.part_mut(), pool.part_mut(), device.part_mut())
-        });
+    let outcome = run.both("block_read", &[&input], uuids, numbers, |api, [pool, device], [numbers]| {
+        api.block_read(input.part(), numbers.part_mut(), pool.part_mut(), device.part_mut())
+    });
     if outcome.answer == 0 {
         write_again(run, rng, &input, &outcome.library);
     }
 }
 
 /// Writing what was read gives the same 512 bytes.
-fn write_again(
-    run: &mut Run,
-    rng: &mut Rng,
-    block: &Lent<u8>,
-    read: &([Lent<u8>; 2], [Lent<u64>; 1]),
-) {
+fn write_again(run: &mut Run, rng: &mut Rng, block: &Lent<u8>, read: &([Lent<u8>; 2], [Lent<u64>; 1])) {
     let ([pool, device], [numbers]) = read;
     let n = numbers.part();
     let numbers = BlockNumbers {
@@ -134,13 +128,7 @@ fn write(run: &mut Run, rng: &mut Rng) {
 }
 
 /// Reading what was written gives the same fields.
-fn read_again(
-    run: &mut Run,
-    rng: &mut Rng,
-    block: &Lent<u8>,
-    numbers: &BlockNumbers,
-    uuids: [&Lent<u8>; 2],
-) {
+fn read_again(run: &mut Run, rng: &mut Rng, block: &Lent<u8>, numbers: &BlockNumbers, uuids: [&Lent<u8>; 2]) {
     let lent = [Lent::random(rng, 32), Lent::random(rng, 32)];
     let read = [Lent::random(rng, BLOCK_NUMBERS)];
     let outcome = run.both("block_read", &[block], lent, read, |api, [pool, device], [read]| {

@@ -59,8 +59,7 @@ fn discovery(run: &mut Run, rng: &mut Rng, front: &Lent<u8>, back: &Lent<u8>) {
     run.both("in_step", &inputs, [], [], |api, [], []| api.in_step(front.part(), back.part()));
 
     let random = rng.index(2 * RECORD_LIMIT);
-    let choices =
-        [record_bytes, record_bytes + 1, RECORD_LIMIT, random, record_bytes.saturating_sub(1), 0];
+    let choices = [record_bytes, record_bytes + 1, RECORD_LIMIT, random, record_bytes.saturating_sub(1), 0];
     let room = rng.one_of(&choices);
     let record = [Lent::random(rng, room)];
     let size = length(rng, FOUND);
@@ -77,9 +76,7 @@ fn mend(run: &mut Run, rng: &mut Rng, front: &Lent<u8>, back: &Lent<u8>) {
     let inputs = [front, back];
     let size = length(rng, MEND_PLAN);
     let plan = Lent::random(rng, size);
-    let outcome = run.both_plan("mend_plan", &inputs, plan, |api, plan| {
-        api.mend_plan(front.part(), back.part(), plan)
-    });
+    let outcome = run.both_plan("mend_plan", &inputs, plan, |api, plan| api.mend_plan(front.part(), back.part(), plan));
     if size != MEND_PLAN {
         let plan = &outcome.library.0[0];
         run.both("mend_count", &[plan], [], [], |api, [], []| api.mend_count(plan.part()));
@@ -89,15 +86,16 @@ fn mend(run: &mut Run, rng: &mut Rng, front: &Lent<u8>, back: &Lent<u8>) {
         return;
     }
     let plans = Plans { library: &outcome.library.0[0], model: &outcome.model.0[0] };
-    let count = run
-        .both("mend_count", &[plans.library], [], [], |api, [], []| api.mend_count(plans.of(api)));
+    let count = run.both("mend_count", &[plans.library], [], [], |api, [], []| api.mend_count(plans.of(api)));
     for number in 0..count.answer.min(100) + 2 {
         mend_store(run, rng, &plans, [front, back], number);
     }
     let number = rng.next();
     mend_store(run, rng, &plans, [front, back], number);
     wrong_sizes(run, rng, &plans, [front, back]);
-    any_plan(run, rng, [front, back]);
+    for _ in 0..4 {
+        any_plan(run, rng, &plans, [front, back]);
+    }
     note_mend(run, front, back);
 }
 
@@ -123,39 +121,51 @@ fn wrong_sizes(run: &mut Run, rng: &mut Rng, plans: &Plans, [front, back]: [&Len
 }
 
 /// A plan of any bytes: the calls end with an answer or a refusal, and a refusal changes nothing.
-fn any_plan(run: &mut Run, rng: &mut Rng, [front, back]: [&Lent<u8>; 2]) {
-    let plan = Lent::<u8>::random(rng, MEND_PLAN);
-    let count = Library.mend_count(plan.part());
-    let number =
-        if count > 0 && rng.coin() { rng.below(count) } else { rng.next() >> rng.below(64) };
+fn any_plan(run: &mut Run, rng: &mut Rng, plans: &Plans, [front, back]: [&Lent<u8>; 2]) {
+    let plan = spoiled(rng, plans.library);
+    let number = store_number(rng, Library.mend_count(plan.part()));
     let group = Library.mend_group(plan.part(), number);
     run.require("mend_group", group <= 4, "a group above 4");
     let (mut bytes, mut sector) = (Lent::random(rng, SECTOR), Lent::random(rng, 1));
     let (before, sector_before) = (bytes.clone(), sector.clone());
-    let answer = Library.mend_store(
-        plan.part(),
-        front.part(),
-        back.part(),
-        number,
-        bytes.part_mut(),
-        sector.part_mut(),
-    );
+    let answer =
+        Library.mend_store(plan.part(), front.part(), back.part(), number, bytes.part_mut(), sector.part_mut());
     check_any_plan(run, "mend_store", answer, [&before, &bytes], [&sector_before, &sector]);
 }
 
-pub fn check_any_plan(
-    run: &mut Run,
-    call: &str,
-    answer: u8,
-    bytes: [&Lent<u8>; 2],
-    sector: [&Lent<u64>; 2],
-) {
+/// A plan of random bytes, or this one with some bytes changed, or this one.
+pub fn spoiled(rng: &mut Rng, plan: &Lent<u8>) -> Lent<u8> {
+    let length = plan.part().len();
+    let mut bytes = plan.part().to_vec();
+    match rng.below(4) {
+        0 => {}
+        1 => rng.fill(&mut bytes),
+        _ => {
+            for _ in 0..rng.within(1, 3) {
+                let random = rng.next() as u8;
+                bytes[rng.index(length)] = rng.one_of(&[0, 1, 2, 0x20, 0xff, random]);
+            }
+        }
+    }
+    Lent::holding(rng, &bytes)
+}
+
+/// A number below the count, or any.
+pub fn store_number(rng: &mut Rng, count: u64) -> u64 {
+    if count > 0 && rng.coin() {
+        rng.below(count)
+    } else {
+        rng.next() >> rng.below(64)
+    }
+}
+
+pub fn check_any_plan(run: &mut Run, call: &str, answer: u8, bytes: [&Lent<u8>; 2], sector: [&Lent<u64>; 2]) {
     run.require(call, matches!(answer, 0 | 1 | 23), "an answer that is not listed");
     let around = bytes[0].same_around(bytes[1]) && sector[0].same_around(sector[1]);
     run.require(call, around, "bytes around the lent ones changed");
     let same = bytes[0].whole() == bytes[1].whole() && sector[0].whole() == sector[1].whole();
     run.require(call, answer == 0 || same, "refused, but lent memory changed");
-    run.reached("plan of any bytes");
+    run.reached("a store of a plan of any bytes");
 }
 
 /// Counts the kinds of mends, by the independent implementation.
@@ -173,13 +183,7 @@ fn note_mend(run: &mut Run, front: &Lent<u8>, back: &Lent<u8>) {
     }
 }
 
-fn mend_store(
-    run: &mut Run,
-    rng: &mut Rng,
-    plans: &Plans,
-    [front, back]: [&Lent<u8>; 2],
-    number: u64,
-) {
+fn mend_store(run: &mut Run, rng: &mut Rng, plans: &Plans, [front, back]: [&Lent<u8>; 2], number: u64) {
     run.both("mend_group", &[], [], [], |api, [], []| api.mend_group(plans.of(api), number));
     let bytes = length(rng, SECTOR);
     let sector = length(rng, 1);

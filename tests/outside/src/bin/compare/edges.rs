@@ -146,14 +146,21 @@ fn updates(run: &mut Run, rng: &mut Rng, room: &mut Room) {
     let held_record = &*in_c.hold(&record, end);
     let (seconds, nanoseconds) = (time.seconds, time.nanoseconds);
     let plan = room.plan.hold(&[0; UPDATE_PLAN], end);
-    let library =
-        Library.update_plan(held_front, held_back, seconds, nanoseconds, held_record, plan);
+    let library = Library.update_plan(held_front, held_back, seconds, nanoseconds, held_record, plan);
     let model = Model.update_check(&front, &back, seconds, nanoseconds, &record);
     same(run, "update_plan", library, model);
     if library != 0 {
         return;
     }
     for number in 0..Library.update_count(plan) + 1 {
+        let bytes = room.outputs[0].hold(&[0; SECTOR], end);
+        let sector = room.numbers[0].hold(&[0], end);
+        Library.update_store(plan, held_front, held_back, held_record, number, bytes, sector);
+    }
+    // A record that is not the plan's.
+    let length = rng.index(record.len());
+    let held_record = &*in_c.hold(&record[..length], end);
+    for number in 0..Library.update_count(plan) {
         let bytes = room.outputs[0].hold(&[0; SECTOR], end);
         let sector = room.numbers[0].hold(&[0], end);
         Library.update_store(plan, held_front, held_back, held_record, number, bytes, sector);

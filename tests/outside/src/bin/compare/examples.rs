@@ -14,10 +14,8 @@ use crate::run::Run;
 const DEVICE: Device = Device { sectors: 2_097_152, metadata: 2_040, reserved: 0 };
 const UUID: &[u8; 32] = b"0123456789abcdef0123456789abcdef";
 /// Block size 128 and a data segment of 100 sectors at 2,048.
-const RECORD: [u8; 28] = [
-    0x08, 0, 0x10, 0, 0x80, 0, 0, 0, 0x14, 0, 2, 0, 0, 8, 0, 0, 0, 0, 0, 0, 0x64, 0, 0, 0, 0, 0, 0,
-    0,
-];
+const RECORD: [u8; 28] =
+    [0x08, 0, 0x10, 0, 0x80, 0, 0, 0, 0x14, 0, 2, 0, 0, 8, 0, 0, 0, 0, 0, 0, 0x64, 0, 0, 0, 0, 0, 0, 0];
 
 /// The implementations are held to the examples each for itself.
 pub fn case(run: &mut Run, _: &mut Rng, _: u64) {
@@ -52,16 +50,12 @@ fn devices(api: &dyn Interface, expect: &mut Expect) {
     expect("example 2", places[7] == 2_095_104 && places[8] == 2_096_124);
     let data = (places[10], places[11]);
     expect("example 3", data == (2_048, 2_095_104) && data.1 - data.0 == 2_093_056);
-    let places = |sectors, metadata, reserved| {
-        api.places(&Device { sectors, metadata, reserved }, &mut [0; PLACES])
-    };
+    let places = |sectors, metadata, reserved| api.places(&Device { sectors, metadata, reserved }, &mut [0; PLACES]);
     expect("example 4", places(2_097_151, 2_040, 0) == 4);
     expect("example 5", places(2_097_152, 2_041, 0) == 7 && places(2_097_152, 2_038, 0) == 7);
     expect("example 6", places(2_097_152, 16_384, 65_536) == 0);
     let (mut front, mut back) = (vec![0; COPY], vec![0; COPY]);
-    let mut format = |nanoseconds| {
-        api.format(&mut front, &mut back, &DEVICE, UUID, UUID, 10, nanoseconds, &RECORD)
-    };
+    let mut format = |nanoseconds| api.format(&mut front, &mut back, &DEVICE, UUID, UUID, 10, nanoseconds, &RECORD);
     expect("example 8", format(1_000_000_000) == 9 && format(999_999_999) == 0);
 }
 
@@ -99,8 +93,7 @@ fn stores(api: &dyn Interface, expect: &mut Expect) {
     let answer = api.discover(&front, &back, &mut found);
     let numbers = [number, answer];
     expect("found front a 28 10 5 both", numbers == [0, 0] && found == [0, 0, 28, 10, 5, 0]);
-    let segments: Vec<Segment> =
-        (0..26).map(|i| Segment { kind: 1, start: 2_048 + i, length: 1 }).collect();
+    let segments: Vec<Segment> = (0..26).map(|i| Segment { kind: 1, start: 2_048 + i, length: 1 }).collect();
     let count = |segments: &[Segment], time: Time| {
         let record = encode(128, segments);
         let mut plan = [0; UPDATE_PLAN];

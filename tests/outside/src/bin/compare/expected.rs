@@ -45,6 +45,6 @@ pub const LAST: &[&str] = &[
     "mend, last store blanks an entry",
     "discovery, the front block refused",
     "discovery, the back block refused",
-    "plan of any bytes",
+    "a store of a plan of any bytes",
     "slices at the edge of forbidden memory",
 ];

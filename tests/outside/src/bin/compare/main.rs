@@ -35,7 +35,7 @@ const FAMILIES: &[Family] = &[
     ("copies", 30_000, copies::case),
     ("updates", 16_000, updates::case),
     ("formats", 20_000, formats::case),
-    ("records", 30_000, records::case),
+    ("records", 12_000, records::case),
     ("walks", 1_000, walks::case),
     ("edges", 12_000, edges::case),
 ];

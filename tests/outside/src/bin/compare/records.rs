@@ -50,9 +50,7 @@ fn begin(run: &mut Run, rng: &mut Rng) {
     let random = rng.index(100);
     let room = rng.one_of(&[0, 1, 7, 8, 9, random]);
     let lent = [Lent::random(rng, room)];
-    run.both("record_begin", &[], lent, [], |api, [record], []| {
-        api.record_begin(record.part_mut(), size)
-    });
+    run.both("record_begin", &[], lent, [], |api, [record], []| api.record_begin(record.part_mut(), size));
 }
 
 fn read(run: &mut Run, rng: &mut Rng, device: &Device, record: &Lent<u8>) {
@@ -61,9 +59,7 @@ fn read(run: &mut Run, rng: &mut Rng, device: &Device, record: &Lent<u8>) {
     run.both("record_check", &inputs, [], [], |api, [], []| api.record_check(device, bytes));
     let size = length(rng, 2);
     let head = [Lent::random(rng, size)];
-    run.both("record_head", &inputs, [], head, |api, [], [head]| {
-        api.record_head(device, bytes, head.part_mut())
-    });
+    run.both("record_head", &inputs, [], head, |api, [], [head]| api.record_head(device, bytes, head.part_mut()));
     let position = position(rng, bytes);
     let size = length(rng, 3);
     let segment = [Lent::random(rng, size)];
@@ -72,9 +68,7 @@ fn read(run: &mut Run, rng: &mut Rng, device: &Device, record: &Lent<u8>) {
     });
     let size = length(rng, 1);
     let total = [Lent::random(rng, size)];
-    run.both("free_total", &inputs, [], total, |api, [], [total]| {
-        api.free_total(device, bytes, total.part_mut())
-    });
+    run.both("free_total", &inputs, [], total, |api, [], [total]| api.free_total(device, bytes, total.part_mut()));
 }
 
 /// In an accepted record, allocated, free and other sectors add up to S, by what the library answers.

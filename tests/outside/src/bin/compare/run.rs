@@ -62,10 +62,8 @@ impl Run {
         self.same(call, inputs, "numbers", &outcome.library.1, &outcome.model.1);
         if B + N > 0 && outcome.answer.into() != 0 {
             // Every call that changes lent memory answers a refusal number.
-            let bytes =
-                before.0.iter().zip(&outcome.library.0).all(|(a, b)| a.whole() == b.whole());
-            let numbers =
-                before.1.iter().zip(&outcome.library.1).all(|(a, b)| a.whole() == b.whole());
+            let bytes = before.0.iter().zip(&outcome.library.0).all(|(a, b)| a.whole() == b.whole());
+            let numbers = before.1.iter().zip(&outcome.library.1).all(|(a, b)| a.whole() == b.whole());
             if !(bytes && numbers) {
                 self.fail(call, inputs, "refused, but lent memory changed");
             }
@@ -121,14 +119,7 @@ impl Run {
         Outcome { answer, library, model }
     }
 
-    fn same<T: Item>(
-        &mut self,
-        call: &str,
-        inputs: &[&Lent<u8>],
-        what: &str,
-        library: &[Lent<T>],
-        model: &[Lent<T>],
-    ) {
+    fn same<T: Item>(&mut self, call: &str, inputs: &[&Lent<u8>], what: &str, library: &[Lent<T>], model: &[Lent<T>]) {
         for (index, (ours, theirs)) in library.iter().zip(model).enumerate() {
             if let Some(at) = ours.first_difference(theirs) {
                 let length = ours.part().len();

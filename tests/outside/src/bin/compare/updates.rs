@@ -11,7 +11,7 @@ use outside::sample::numbers::{break_nanoseconds, earlier, identity, later, time
 use outside::sample::records::{any_record, record, segment_count};
 
 use crate::blocks::length;
-use crate::copies::{check_any_plan, lend, Plans};
+use crate::copies::{check_any_plan, lend, spoiled, store_number, Plans};
 use crate::run::Run;
 
 pub fn case(run: &mut Run, rng: &mut Rng, _: u64) {
@@ -72,13 +72,7 @@ fn update_time(rng: &mut Rng, present: Time) -> Time {
     next
 }
 
-fn update(
-    run: &mut Run,
-    rng: &mut Rng,
-    [front, back]: [&Lent<u8>; 2],
-    time: Time,
-    record: &Lent<u8>,
-) {
+fn update(run: &mut Run, rng: &mut Rng, [front, back]: [&Lent<u8>; 2], time: Time, record: &Lent<u8>) {
     let Time { seconds, nanoseconds } = time;
     let inputs = [front, back, record];
     run.both("update_check", &inputs, [], [], |api, [], []| {
@@ -98,25 +92,19 @@ fn update(
         return;
     }
     let plans = Plans { library: &outcome.library.0[0], model: &outcome.model.0[0] };
-    let count = run.both("update_count", &[plans.library], [], [], |api, [], []| {
-        api.update_count(plans.of(api))
-    });
+    let count = run.both("update_count", &[plans.library], [], [], |api, [], []| api.update_count(plans.of(api)));
     for number in 0..count.answer.min(100) + 2 {
         store(run, rng, &plans, inputs, number);
     }
     let number = rng.next();
     store(run, rng, &plans, inputs, number);
     wrong_sizes(run, rng, &plans, inputs);
-    any_plan(run, rng, inputs);
+    for _ in 0..4 {
+        any_plan(run, rng, &plans, inputs);
+    }
 }
 
-fn store(
-    run: &mut Run,
-    rng: &mut Rng,
-    plans: &Plans,
-    [front, back, record]: [&Lent<u8>; 3],
-    number: u64,
-) {
+fn store(run: &mut Run, rng: &mut Rng, plans: &Plans, [front, back, record]: [&Lent<u8>; 3], number: u64) {
     run.both("update_group", &[], [], [], |api, [], []| api.update_group(plans.of(api), number));
     let bytes = length(rng, SECTOR);
     let sector = length(rng, 1);
@@ -151,12 +139,17 @@ fn wrong_sizes(run: &mut Run, rng: &mut Rng, plans: &Plans, [front, back, record
     });
 }
 
-/// A plan of any bytes: the calls end with an answer or a refusal, and a refusal changes nothing.
-fn any_plan(run: &mut Run, rng: &mut Rng, [front, back, record]: [&Lent<u8>; 3]) {
-    let plan = Lent::<u8>::random(rng, UPDATE_PLAN);
-    let count = Library.update_count(plan.part());
-    let number =
-        if count > 0 && rng.coin() { rng.below(count) } else { rng.next() >> rng.below(64) };
+/// A plan of any bytes, or one that does not fit the record: the calls end with an answer or a refusal, and a refusal
+/// changes nothing.
+fn any_plan(run: &mut Run, rng: &mut Rng, plans: &Plans, [front, back, record]: [&Lent<u8>; 3]) {
+    let plan = spoiled(rng, plans.library);
+    let random = rng.index(RECORD_LIMIT + 100);
+    let length = record.part().len();
+    let length = rng.one_of(&[length, length - 1, length + 1, 0, random]);
+    let mut bytes = record.part().to_vec();
+    bytes.resize(length, 0);
+    let record = Lent::holding(rng, &bytes);
+    let number = store_number(rng, Library.update_count(plan.part()));
     let group = Library.update_group(plan.part(), number);
     run.require("update_group", group <= 4, "a group above 4");
     let (mut bytes, mut sector) = (Lent::random(rng, SECTOR), Lent::random(rng, 1));
@@ -182,7 +175,5 @@ fn lay(run: &mut Run, rng: &mut Rng) {
     let size = length(rng, COPY);
     let copy = [Lent::random(rng, size)];
     let area_b = rng.coin();
-    run.both("lay", &[&record], copy, [], |api, [copy], []| {
-        api.lay(copy.part_mut(), area_b, record.part())
-    });
+    run.both("lay", &[&record], copy, [], |api, [copy], []| api.lay(copy.part_mut(), area_b, record.part()));
 }

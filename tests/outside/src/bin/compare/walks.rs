@@ -15,9 +15,7 @@ pub fn case(run: &mut Run, rng: &mut Rng, _: u64) {
     let device = device(rng);
     let size = block_size(rng);
     let lent = [Lent::random(rng, 8)];
-    let begun = run.both("record_begin", &[], lent, [], |api, [record], []| {
-        api.record_begin(record.part_mut(), size)
-    });
+    let begun = run.both("record_begin", &[], lent, [], |api, [record], []| api.record_begin(record.part_mut(), size));
     let mut record = begun.library.0[0].part().to_vec();
     let share = rng.within(1, 20);
     for _ in 0..STEPS {
@@ -36,21 +34,13 @@ pub fn case(run: &mut Run, rng: &mut Rng, _: u64) {
         };
         record = changed;
         let lent = Lent::holding(rng, &record);
-        let checked = run.both("record_check", &[&lent], [], [], |api, [], []| {
-            api.record_check(&device, lent.part())
-        });
+        let checked = run.both("record_check", &[&lent], [], [], |api, [], []| api.record_check(&device, lent.part()));
         run.require("record_check", checked.answer == 0, "a changed record is refused");
     }
 }
 
 /// The record with a segment more. Releasing that one again gives the record as it was.
-fn allocate(
-    run: &mut Run,
-    rng: &mut Rng,
-    device: &Device,
-    record: &[u8],
-    length: u64,
-) -> Option<Vec<u8>> {
+fn allocate(run: &mut Run, rng: &mut Rng, device: &Device, record: &[u8], length: u64) -> Option<Vec<u8>> {
     let kind = rng.within(1, 4) as u16;
     let input = Lent::holding(rng, record);
     let lent = [Lent::random(rng, RECORD_LIMIT)];
@@ -72,13 +62,7 @@ fn allocate(
 }
 
 /// The record without the segment at a position.
-fn release(
-    run: &mut Run,
-    rng: &mut Rng,
-    device: &Device,
-    record: &[u8],
-    position: u64,
-) -> Option<Vec<u8>> {
+fn release(run: &mut Run, rng: &mut Rng, device: &Device, record: &[u8], position: u64) -> Option<Vec<u8>> {
     let input = Lent::holding(rng, record);
     let lent = [Lent::random(rng, RECORD_LIMIT)];
     let answer = [Lent::random(rng, 1)];

@@ -28,10 +28,7 @@ pub fn cut(rng: &mut Rng, before: &Disk, stores: &[Store], group: u8) -> Cut {
         let old = old.read(store.sector);
         let bytes = wild(rng, before, &old, &store.bytes);
         disk.write(store.sector, &bytes);
-        excepted = is_block(&disk, store.sector)
-            && bytes != old
-            && bytes != store.bytes
-            && Block::read(&bytes).is_ok();
+        excepted = is_block(&disk, store.sector) && bytes != old && bytes != store.bytes && Block::read(&bytes).is_ok();
     }
     Cut { disk, excepted }
 }

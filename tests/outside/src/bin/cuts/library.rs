@@ -63,8 +63,7 @@ pub fn update(disk: &Disk, new: &Stamped) -> Result<Vec<Store>, u8> {
     }
     let stores = (0..Library.update_count(&plan)).map(|number| {
         let (mut bytes, mut sector) = ([0; SECTOR], [0]);
-        let refusal =
-            Library.update_store(&plan, &front, &back, record, number, &mut bytes, &mut sector);
+        let refusal = Library.update_store(&plan, &front, &back, record, number, &mut bytes, &mut sector);
         let group = Library.update_group(&plan, number);
         if refusal == 0 {
             Ok(Store { sector: sector[0], bytes, group })

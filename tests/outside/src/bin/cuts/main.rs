@@ -110,14 +110,7 @@ impl Cuts {
     }
 
     /// One cut of an update; after some, the disk is mended.
-    fn cut_update(
-        &mut self,
-        rng: &mut Rng,
-        disk: &Disk,
-        stores: &[Store],
-        group: u8,
-        [old, new]: [&Stamped; 2],
-    ) {
+    fn cut_update(&mut self, rng: &mut Rng, disk: &Disk, stores: &[Store], group: u8, [old, new]: [&Stamped; 2]) {
         let left = cut(rng, disk, stores, group);
         if left.excepted {
             self.counts.update_excepted += 1;
