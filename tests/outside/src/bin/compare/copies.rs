@@ -45,7 +45,7 @@ fn discovery(run: &mut Run, rng: &mut Rng, front: &Lent<u8>, back: &Lent<u8>) {
         api.discover(front.part(), back.part(), found.part_mut())
     });
     let mut record_bytes = rng.index(RECORD_LIMIT + 1);
-    if outcome.answer == 0 {
+    if outcome.expected == 0 {
         let found = outcome.model.1[0].part();
         record_bytes = found[2] as usize;
         if found[5] != 0 {
@@ -67,7 +67,7 @@ fn discovery(run: &mut Run, rng: &mut Rng, front: &Lent<u8>, back: &Lent<u8>) {
     let read = run.both("read_found", &inputs, record, found, |api, [record], [found]| {
         api.read_found(front.part(), back.part(), record.part_mut(), found.part_mut())
     });
-    if outcome.answer == 0 && size == FOUND && read.answer == 1 {
+    if outcome.expected == 0 && size == FOUND && read.expected == 1 {
         run.reached("read_found, too little room");
     }
 }
@@ -82,12 +82,12 @@ fn mend(run: &mut Run, rng: &mut Rng, front: &Lent<u8>, back: &Lent<u8>) {
         run.both("mend_count", &[plan], [], [], |api, [], []| api.mend_count(plan.part()));
         run.both("mend_group", &[plan], [], [], |api, [], []| api.mend_group(plan.part(), 0));
     }
-    if outcome.answer != 0 {
+    if outcome.expected != 0 {
         return;
     }
     let plans = Plans { library: &outcome.library.0[0], model: &outcome.model.0[0] };
     let count = run.both("mend_count", &[plans.library], [], [], |api, [], []| api.mend_count(plans.of(api)));
-    for number in 0..count.answer.min(100) + 2 {
+    for number in 0..count.expected + 2 {
         mend_store(run, rng, &plans, [front, back], number);
     }
     let number = rng.next();

@@ -117,7 +117,7 @@ fn table(run: &mut Run, rng: &mut Rng, device: &Device, record: &Lent<u8>, runs:
     let outcome = run.both("free_runs", &[record], [], lent, |api, [], [table, count]| {
         api.free_runs(device, record.part(), table.part_mut(), count.part_mut())
     });
-    if count == 1 && outcome.answer == 1 {
+    if count == 1 && outcome.expected == 1 {
         run.reached("free_runs, too little room");
     }
 }
@@ -140,7 +140,7 @@ fn allocate(run: &mut Run, rng: &mut Rng, device: &Device, record: &Lent<u8>, ru
         api.allocate(device, bytes, kind, wanted, changed.part_mut(), answer.part_mut())
     });
     let accepted = size == 2 && model::record::check(device, bytes).is_ok();
-    match outcome.answer {
+    match outcome.expected {
         1 if accepted => run.reached("allocate, too little room"),
         17 if accepted => run.reached("allocate, 17 for its own kind"),
         18 if accepted => run.reached("allocate, 18 for its own count"),
@@ -171,7 +171,7 @@ fn release(run: &mut Run, rng: &mut Rng, device: &Device, record: &Lent<u8>) {
     let outcome = run.both("release", &[record], changed, answer, |api, [changed], [answer]| {
         api.release(device, bytes, position, changed.part_mut(), answer.part_mut())
     });
-    if size == 1 && outcome.answer == 1 {
+    if size == 1 && outcome.expected == 1 {
         run.reached("release, too little room");
     }
 }

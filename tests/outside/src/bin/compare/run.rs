@@ -25,9 +25,10 @@ pub struct Run {
     answers: BTreeMap<(&'static str, u64), u64>,
 }
 
-/// What both implementations left in the lent memory.
+/// What both implementations answered, and what they left in the lent memory.
 pub struct Outcome<R, const B: usize, const N: usize> {
     pub answer: R,
+    pub expected: R,
     pub library: ([Lent<u8>; B], [Lent<u64>; N]),
     pub model: ([Lent<u8>; B], [Lent<u64>; N]),
 }
@@ -116,7 +117,7 @@ impl Run {
             self.fail(call, inputs, &what);
         }
         self.count(call, expected.into());
-        Outcome { answer, library, model }
+        Outcome { answer, expected, library, model }
     }
 
     fn same<T: Item>(&mut self, call: &str, inputs: &[&Lent<u8>], what: &str, library: &[Lent<T>], model: &[Lent<T>]) {

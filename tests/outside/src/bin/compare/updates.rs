@@ -88,12 +88,12 @@ fn update(run: &mut Run, rng: &mut Rng, [front, back]: [&Lent<u8>; 2], time: Tim
         run.both("update_count", &[plan], [], [], |api, [], []| api.update_count(plan.part()));
         run.both("update_group", &[plan], [], [], |api, [], []| api.update_group(plan.part(), 0));
     }
-    if outcome.answer != 0 {
+    if outcome.expected != 0 {
         return;
     }
     let plans = Plans { library: &outcome.library.0[0], model: &outcome.model.0[0] };
     let count = run.both("update_count", &[plans.library], [], [], |api, [], []| api.update_count(plans.of(api)));
-    for number in 0..count.answer.min(100) + 2 {
+    for number in 0..count.expected + 2 {
         store(run, rng, &plans, inputs, number);
     }
     let number = rng.next();

@@ -16,7 +16,7 @@ pub fn case(run: &mut Run, rng: &mut Rng, _: u64) {
     let size = block_size(rng);
     let lent = [Lent::random(rng, 8)];
     let begun = run.both("record_begin", &[], lent, [], |api, [record], []| api.record_begin(record.part_mut(), size));
-    let mut record = begun.library.0[0].part().to_vec();
+    let mut record = begun.model.0[0].part().to_vec();
     let share = rng.within(1, 20);
     for _ in 0..STEPS {
         let count = (record.len() as u64 - 8) / 20;
@@ -49,10 +49,10 @@ fn allocate(run: &mut Run, rng: &mut Rng, device: &Device, record: &[u8], length
         let (changed, answer) = (changed.part_mut(), answer.part_mut());
         api.allocate(device, input.part(), kind, length, changed, answer)
     });
-    if outcome.answer != 0 {
+    if outcome.expected != 0 {
         return None;
     }
-    let ([changed], [answer]) = &outcome.library;
+    let ([changed], [answer]) = &outcome.model;
     let changed = changed.part()[..answer.part()[1] as usize].to_vec();
     let last = (record.len() as u64 - 8) / 20;
     let released = release(run, rng, device, &changed, last);
@@ -70,9 +70,9 @@ fn release(run: &mut Run, rng: &mut Rng, device: &Device, record: &[u8], positio
         let (changed, answer) = (changed.part_mut(), answer.part_mut());
         api.release(device, input.part(), position, changed, answer)
     });
-    if outcome.answer != 0 {
+    if outcome.expected != 0 {
         return None;
     }
-    let ([changed], [answer]) = &outcome.library;
+    let ([changed], [answer]) = &outcome.model;
     Some(changed.part()[..answer.part()[0] as usize].to_vec())
 }

@@ -22,7 +22,7 @@ use outside::sample::numbers::{identity, later, time};
 use outside::sample::records::{record, segment_count};
 
 const SEED: u64 = 20_261_115;
-const CASES: u64 = 4_000;
+const CASES: u64 = 10_000;
 /// Cuts of each group of an update, and of a mend.
 const UPDATE_CUTS: u64 = 6;
 const MEND_CUTS: u64 = 2;
