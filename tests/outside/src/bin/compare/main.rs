@@ -14,6 +14,7 @@ mod expected;
 mod formats;
 mod records;
 mod run;
+mod sweeps;
 mod updates;
 mod walks;
 
@@ -31,6 +32,7 @@ type Family = (&'static str, u64, fn(&mut Run, &mut Rng, u64));
 const FAMILIES: &[Family] = &[
     ("examples", 1, examples::case),
     ("checksums", 4_000, checksums::case),
+    ("sweeps", sweeps::CASES, sweeps::case),
     ("blocks", 60_000, blocks::case),
     ("copies", 30_000, copies::case),
     ("updates", 16_000, updates::case),
