@@ -28,7 +28,7 @@ thread_local! {
         inputs: [(); 3].map(|()| Guarded::new(2 * COPY + 2)),
         plan: Guarded::new(2 * MEND_PLAN),
         outputs: [(); 2].map(|()| Guarded::new(2 * COPY + 2)),
-        numbers: [(); 2].map(|()| Guarded::new(2_000)),
+        numbers: [(); 2].map(|()| Guarded::new(8_000)),
     });
 }
 
