@@ -1,0 +1,168 @@
+//! Compares the library's speed with the independent implementation's: the same input, in the same run, in turn.
+//!
+//! Build it for release and run it on an idle machine. It is no part of the tests.
+
+use std::hint::black_box;
+use std::time::Instant;
+
+use outside::ffi::Library;
+use outside::interface::{Interface, BLOCK_NUMBERS, FOUND, UPDATE_PLAN};
+use outside::model::block::{Identity, Time};
+use outside::model::layout::{Device, COPY, RECORD_LIMIT, SECTOR};
+use outside::model::record::{Segment, MAX_SEGMENTS};
+use outside::model::Model;
+use outside::rng::Rng;
+use outside::sample::copies::{copy, get_block, Area};
+use outside::sample::records::encode;
+
+const ROUNDS: usize = 21;
+/// How long one sample takes at least, in seconds.
+const SAMPLE: f64 = 0.004;
+const DEVICE: Device = Device { sectors: 1 << 40, metadata: 16_384, reserved: 65_536 };
+
+fn main() {
+    println!("Output buffers are zeroed once, before the first call, and not cleared between calls.");
+    println!("Median of {ROUNDS} rounds, library and model in turn; the model is plain Rust.");
+    println!();
+    println!("{:48} {:>12} {:>12} {:>8}", "call", "library", "model", "ratio");
+    let mut rng = Rng::new(1);
+    checksums(&mut rng);
+    block(&mut rng);
+    discovery(&mut rng);
+    record_check(&mut rng);
+    allocation(&mut rng);
+    update(&mut rng);
+}
+
+/// Times a call by both and prints a row.
+fn row(name: &str, mut call: impl FnMut(&dyn Interface)) {
+    let (library, model): (&dyn Interface, &dyn Interface) = (&Library, &Model);
+    let repeats = [library, model].map(|api| repeats(api, &mut call));
+    let mut samples = [Vec::new(), Vec::new()];
+    for round in 0..ROUNDS {
+        let order = if round % 2 == 0 { [0, 1] } else { [1, 0] };
+        for index in order {
+            let api = [library, model][index];
+            samples[index].push(sample(api, repeats[index], &mut call));
+        }
+    }
+    let [library, model] = samples.map(median);
+    println!("{name:48} {:>9.1} ns {:>9.1} ns {:>8.2}", library, model, library / model);
+}
+
+/// Nanoseconds for one call.
+fn sample(api: &dyn Interface, repeats: u64, call: &mut impl FnMut(&dyn Interface)) -> f64 {
+    let start = Instant::now();
+    for _ in 0..repeats {
+        call(api);
+    }
+    start.elapsed().as_secs_f64() * 1e9 / repeats as f64
+}
+
+/// How many calls make a sample long enough.
+fn repeats(api: &dyn Interface, call: &mut impl FnMut(&dyn Interface)) -> u64 {
+    let mut repeats = 1;
+    while sample(api, repeats, call) * (repeats as f64) < SAMPLE * 1e9 {
+        repeats *= 2;
+    }
+    repeats
+}
+
+fn median(mut samples: Vec<f64>) -> f64 {
+    samples.sort_by(f64::total_cmp);
+    samples[samples.len() / 2]
+}
+
+/// A call that must not be refused.
+fn answered(number: u8) {
+    assert_eq!(black_box(number), 0, "the call is refused");
+}
+
+fn identity() -> Identity {
+    let uuid = *b"0123456789abcdef0123456789abcdef";
+    Identity { device: DEVICE, pool_uuid: uuid, device_uuid: uuid }
+}
+
+fn time(seconds: u64) -> Time {
+    Time { seconds, nanoseconds: 0 }
+}
+
+/// A record of scattered segments in random order.
+fn scattered(rng: &mut Rng, count: usize) -> Vec<u8> {
+    let start = DEVICE.data_start();
+    let mut segments: Vec<Segment> = (0..count as u64)
+        .map(|i| Segment { kind: 2, start: start + 10_000 * i, length: rng.within(1, 9_000) })
+        .collect();
+    rng.shuffle(&mut segments);
+    encode(128, &segments)
+}
+
+fn checksums(rng: &mut Rng) {
+    for length in [SECTOR, RECORD_LIMIT] {
+        let bytes = rng.bytes(length);
+        row(&format!("checksum of {length} bytes"), |api| {
+            black_box(api.checksum(black_box(&bytes)));
+        });
+    }
+}
+
+/// Two copies with a record of 8,192 bytes in each of the four areas.
+fn full_copies(rng: &mut Rng) -> [Vec<u8>; 2] {
+    let [old, new] = [rng.bytes(RECORD_LIMIT), rng.bytes(RECORD_LIMIT)];
+    let areas = [Area::Whole(time(10), old), Area::Whole(time(11), new)];
+    [copy(rng, &identity(), &areas), copy(rng, &identity(), &areas)]
+}
+
+fn block(rng: &mut Rng) {
+    let block = get_block(&full_copies(rng)[0]);
+    let (mut numbers, mut pool, mut device) = ([0; BLOCK_NUMBERS], [0; 32], [0; 32]);
+    row("reading a block", |api| {
+        let block = black_box(&block);
+        answered(api.block_read(block, &mut numbers, &mut pool, &mut device));
+        black_box((&numbers, &pool, &device));
+    });
+}
+
+fn discovery(rng: &mut Rng) {
+    let [front, back] = full_copies(rng);
+    let mut found = [0; FOUND];
+    row("discovery, 8192 bytes in all four areas", |api| {
+        answered(api.discover(black_box(&front), black_box(&back), &mut found));
+        black_box(&found);
+    });
+}
+
+fn record_check(rng: &mut Rng) {
+    let record = scattered(rng, MAX_SEGMENTS);
+    row("checking a record of 409 segments", |api| {
+        answered(api.record_check(&DEVICE, black_box(&record)));
+    });
+}
+
+fn allocation(rng: &mut Rng) {
+    let record = scattered(rng, MAX_SEGMENTS - 1);
+    let (mut changed, mut answer) = ([0; RECORD_LIMIT], [0; 2]);
+    // Only the last free run is long enough.
+    row("allocation, 408 scattered segments, last run", |api| {
+        answered(api.allocate(&DEVICE, black_box(&record), 2, 20_000, &mut changed, &mut answer));
+        black_box((&changed, &answer));
+    });
+}
+
+fn update(rng: &mut Rng) {
+    let [front, back] = full_copies(rng);
+    assert_eq!(front.len(), COPY);
+    let record = scattered(rng, MAX_SEGMENTS);
+    let name = format!("update of {} bytes: plan and all 34 stores", record.len());
+    let (mut plan, mut bytes, mut sector) = ([0; UPDATE_PLAN], [0; SECTOR], [0]);
+    row(&name, |api| {
+        let (front, back, record) = (black_box(&front), black_box(&back), black_box(&record));
+        answered(api.update_plan(front, back, 12, 0, record, &mut plan));
+        let count = api.update_count(&plan);
+        assert_eq!(count, 34);
+        for number in 0..count {
+            answered(api.update_store(&plan, front, back, record, number, &mut bytes, &mut sector));
+            black_box((&bytes, &sector));
+        }
+    });
+}

@@ -1,0 +1,213 @@
+//! Makes one call to the library and to the independent implementation, and compares answers and all lent memory.
+
+use std::collections::BTreeMap;
+use std::fmt::Debug;
+use std::process::exit;
+
+use outside::ffi::Library;
+use outside::interface::Interface;
+use outside::lent::{Item, Lent};
+use outside::model::Model;
+use outside::rng::Rng;
+
+use crate::expected::{CALLS, LAST};
+
+const MOST_FAILURES: u64 = 10;
+
+pub struct Run {
+    seed: u64,
+    family: &'static str,
+    case: u64,
+    /// One case only, asked for by its number: failures show what was lent.
+    single: bool,
+    calls: u64,
+    failures: u64,
+    answers: BTreeMap<(&'static str, u64), u64>,
+}
+
+/// What both implementations answered, and what they left in the lent memory.
+pub struct Outcome<R, const B: usize, const N: usize> {
+    pub answer: R,
+    pub expected: R,
+    pub library: ([Lent<u8>; B], [Lent<u64>; N]),
+    pub model: ([Lent<u8>; B], [Lent<u64>; N]),
+}
+
+impl Run {
+    pub fn new(seed: u64, single: bool) -> Self {
+        let answers = BTreeMap::new();
+        Run { seed, family: "", case: 0, single, calls: 0, failures: 0, answers }
+    }
+
+    pub fn begin(&mut self, family: &'static str, number: u64, case: u64) -> Rng {
+        self.family = family;
+        self.case = case;
+        Rng::of_case(self.seed, number, case)
+    }
+
+    /// Calls both with the same lent memory and compares everything.
+    pub fn both<R, const B: usize, const N: usize>(
+        &mut self,
+        call: &'static str,
+        inputs: &[&Lent<u8>],
+        bytes: [Lent<u8>; B],
+        numbers: [Lent<u64>; N],
+        f: impl Fn(&dyn Interface, &mut [Lent<u8>; B], &mut [Lent<u64>; N]) -> R,
+    ) -> Outcome<R, B, N>
+    where
+        R: Copy + PartialEq + Debug + Into<u64>,
+    {
+        let before = (bytes.clone(), numbers.clone());
+        let outcome = self.call(call, inputs, (bytes, numbers), f);
+        self.same(call, inputs, "bytes", &outcome.library.0, &outcome.model.0);
+        self.same(call, inputs, "numbers", &outcome.library.1, &outcome.model.1);
+        if B + N > 0 && outcome.answer.into() != 0 {
+            // Every call that changes lent memory answers a refusal number.
+            let bytes = before.0.iter().zip(&outcome.library.0).all(|(a, b)| a.whole() == b.whole());
+            let numbers = before.1.iter().zip(&outcome.library.1).all(|(a, b)| a.whole() == b.whole());
+            if !(bytes && numbers) {
+                self.fail(call, inputs, "refused, but lent memory changed");
+            }
+        }
+        outcome
+    }
+
+    /// The same for a call that makes a plan. The form of a plan's bytes is each implementation's own, so where the
+    /// call is not refused only what lies around the plan is compared.
+    pub fn both_plan(
+        &mut self,
+        call: &'static str,
+        inputs: &[&Lent<u8>],
+        plan: Lent<u8>,
+        f: impl Fn(&dyn Interface, &mut [u8]) -> u8,
+    ) -> Outcome<u8, 1, 0> {
+        let lent = ([plan.clone()], []);
+        let outcome = self.call(call, inputs, lent, |api, [plan], []| f(api, plan.part_mut()));
+        let left = &outcome.library.0[0];
+        if !left.same_around(&plan) {
+            self.fail(call, inputs, "bytes around the plan changed");
+        }
+        if outcome.answer != 0 && left.whole() != plan.whole() {
+            self.fail(call, inputs, "refused, but the plan changed");
+        }
+        outcome
+    }
+
+    fn call<R, const B: usize, const N: usize>(
+        &mut self,
+        call: &'static str,
+        inputs: &[&Lent<u8>],
+        lent: ([Lent<u8>; B], [Lent<u64>; N]),
+        f: impl Fn(&dyn Interface, &mut [Lent<u8>; B], &mut [Lent<u64>; N]) -> R,
+    ) -> Outcome<R, B, N>
+    where
+        R: Copy + PartialEq + Debug + Into<u64>,
+    {
+        let kept: Vec<Vec<u8>> = inputs.iter().map(|input| input.whole().to_vec()).collect();
+        let (mut library, mut model) = (lent.clone(), lent);
+        let answer = f(&Library, &mut library.0, &mut library.1);
+        for (input, kept) in inputs.iter().zip(&kept) {
+            if input.whole() != kept {
+                self.fail(call, inputs, "bytes that were lent to be read changed");
+            }
+        }
+        let expected = f(&Model, &mut model.0, &mut model.1);
+        if answer != expected {
+            let what = format!("library answers {answer:?}, model {expected:?}");
+            self.fail(call, inputs, &what);
+        }
+        self.count(call, expected.into());
+        Outcome { answer, expected, library, model }
+    }
+
+    fn same<T: Item>(&mut self, call: &str, inputs: &[&Lent<u8>], what: &str, library: &[Lent<T>], model: &[Lent<T>]) {
+        for (index, (ours, theirs)) in library.iter().zip(model).enumerate() {
+            if let Some(at) = ours.first_difference(theirs) {
+                let length = ours.part().len();
+                let place = format!("lent {what} {index} of length {length} differ from {at}");
+                let value = |lent: &Lent<T>| {
+                    let at = usize::try_from(at).ok()?;
+                    lent.part().get(at).copied()
+                };
+                let values = format!("library {:?}, model {:?}", value(ours), value(theirs));
+                self.fail(call, inputs, &format!("{place}: {values}"));
+            }
+        }
+    }
+
+    /// Counts an answer.
+    pub fn count(&mut self, call: &'static str, answer: u64) {
+        self.calls += 1;
+        *self.answers.entry((call, answer)).or_default() += 1;
+    }
+
+    /// Counts a case that must be reached, beside the calls.
+    pub fn reached(&mut self, case: &'static str) {
+        *self.answers.entry((case, 1)).or_default() += 1;
+    }
+
+    pub fn require(&mut self, call: &str, condition: bool, what: &str) {
+        if !condition {
+            self.fail(call, &[], what);
+        }
+    }
+
+    fn fail(&mut self, call: &str, inputs: &[&Lent<u8>], what: &str) {
+        let Run { seed, family, case, .. } = *self;
+        println!("FAILED {call}: {what}");
+        println!("  run again: compare {seed} {family} {case}");
+        if self.single {
+            for (index, input) in inputs.iter().enumerate() {
+                println!("  input {index}, {} bytes: {}", input.part().len(), hex(input.part()));
+            }
+        }
+        self.failures += 1;
+        if self.failures >= MOST_FAILURES {
+            println!("stopped after {MOST_FAILURES} failures");
+            exit(1);
+        }
+    }
+
+    /// Prints the counts. Fails where a listed answer was never reached or an answer is not listed.
+    pub fn finish(mut self) {
+        for (call, listed) in CALLS {
+            let counts = |number: &u64| self.answers.get(&(*call, *number)).copied().unwrap_or(0);
+            let line: Vec<String> = listed.iter().map(|n| format!("{n}:{}", counts(n))).collect();
+            println!("{call:20} {}", line.join(" "));
+        }
+        for case in LAST {
+            let count = self.answers.get(&(*case, 1)).copied().unwrap_or(0);
+            println!("{case}: {count}");
+        }
+        if !self.single {
+            self.check_answers();
+        }
+        println!("compare: seed {}, {} calls, {} failures", self.seed, self.calls, self.failures);
+        if self.failures > 0 {
+            exit(1);
+        }
+    }
+
+    fn check_answers(&mut self) {
+        let listed = CALLS.iter().flat_map(|(call, numbers)| numbers.iter().map(|n| (*call, *n)));
+        let cases = LAST.iter().map(|case| (*case, 1));
+        let wanted: Vec<(&str, u64)> = listed.chain(cases).collect();
+        for pair in &wanted {
+            if !self.answers.contains_key(pair) {
+                println!("FAILED {}: answer {} was never reached", pair.0, pair.1);
+                self.failures += 1;
+            }
+        }
+        for (call, number) in self.answers.keys() {
+            let open = CALLS.iter().any(|(name, numbers)| name == call && numbers.is_empty());
+            if !open && !wanted.contains(&(call, *number)) {
+                println!("FAILED {call}: answer {number} is not listed for it");
+                self.failures += 1;
+            }
+        }
+    }
+}
+
+fn hex(bytes: &[u8]) -> String {
+    bytes.iter().map(|byte| format!("{byte:02x}")).collect()
+}

@@ -1,0 +1,13 @@
+//! Tests of the library from outside: the C interface, an independent implementation, and what the test programs share.
+
+pub mod ffi;
+pub mod guard;
+#[cfg(test)]
+mod header;
+pub mod interface;
+pub mod lent;
+pub mod model;
+pub mod rng;
+pub mod sample;
+#[cfg(feature = "self-test")]
+pub mod stand_in;

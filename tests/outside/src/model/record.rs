@@ -1,0 +1,155 @@
+//! The segment record.
+
+use super::block::{u32_at, u64_at};
+use super::layout::{Device, RECORD_LIMIT};
+use super::refusal::{require, Refusal};
+
+pub const HEAD_BYTES: usize = 8;
+pub const HEAD_KIND: u16 = 16;
+pub const SEGMENT_BYTES: usize = 20;
+pub const MAX_SEGMENTS: usize = (RECORD_LIMIT - HEAD_BYTES) / SEGMENT_BYTES;
+
+#[derive(Clone, Copy, Debug, PartialEq, Eq)]
+pub struct Segment {
+    pub kind: u16,
+    pub start: u64,
+    pub length: u64,
+}
+
+/// The sectors of a segment: its first, and the first after it.
+#[derive(Clone, Copy, PartialEq, Eq, PartialOrd, Ord)]
+pub struct Span {
+    pub start: u64,
+    pub end: u64,
+}
+
+/// The spans of a record's segments, ascending.
+pub struct Spans {
+    spans: [Span; MAX_SEGMENTS],
+    count: usize,
+}
+
+impl Spans {
+    pub fn as_slice(&self) -> &[Span] {
+        &self.spans[..self.count]
+    }
+}
+
+pub fn is_block_size(block_size: u32) -> bool {
+    (128..=2_097_152).contains(&block_size) && block_size.is_multiple_of(128)
+}
+
+pub fn is_kind(kind: u16) -> bool {
+    (1..=4).contains(&kind)
+}
+
+/// The head item of a new record. 17.
+pub fn head(block_size: u32) -> Result<[u8; HEAD_BYTES], Refusal> {
+    require(is_block_size(block_size), Refusal::RecordForm)?;
+    let mut item = [8, 0, 16, 0, 0, 0, 0, 0];
+    item[4..].copy_from_slice(&block_size.to_le_bytes());
+    Ok(item)
+}
+
+impl Segment {
+    pub fn item(&self) -> [u8; SEGMENT_BYTES] {
+        let mut item = [0; SEGMENT_BYTES];
+        item[..2].copy_from_slice(&(SEGMENT_BYTES as u16).to_le_bytes());
+        item[2..4].copy_from_slice(&self.kind.to_le_bytes());
+        item[4..12].copy_from_slice(&self.start.to_le_bytes());
+        item[12..].copy_from_slice(&self.length.to_le_bytes());
+        item
+    }
+
+    fn read(item: &[u8]) -> Self {
+        Segment { kind: u16_at(item, 2), start: u64_at(item, 4), length: u64_at(item, 12) }
+    }
+
+    /// The segment's span, where it is not empty and lies wholly in the data range.
+    fn span(&self, data: &Span) -> Option<Span> {
+        let end = self.start.checked_add(self.length)?;
+        let inside = data.start <= self.start && end <= data.end;
+        (self.length > 0 && inside).then_some(Span { start: self.start, end })
+    }
+}
+
+/// A record that was checked for its form.
+#[derive(Clone, Copy)]
+pub struct Record<'a> {
+    bytes: &'a [u8],
+}
+
+impl<'a> Record<'a> {
+    /// 15, 17.
+    pub fn parse(bytes: &'a [u8]) -> Result<Self, Refusal> {
+        require((1..=RECORD_LIMIT).contains(&bytes.len()), Refusal::RecordLength)?;
+        let record = Record { bytes };
+        require(record.is_well_formed(), Refusal::RecordForm)?;
+        Ok(record)
+    }
+
+    fn is_well_formed(&self) -> bool {
+        let Some((head, items)) = self.bytes.split_at_checked(HEAD_BYTES) else {
+            return false;
+        };
+        let is_segment = |item: &[u8]| usize::from(u16_at(item, 0)) == SEGMENT_BYTES && is_kind(u16_at(item, 2));
+        usize::from(u16_at(head, 0)) == HEAD_BYTES
+            && u16_at(head, 2) == HEAD_KIND
+            && is_block_size(u32_at(head, 4))
+            && items.len().is_multiple_of(SEGMENT_BYTES)
+            && items.chunks_exact(SEGMENT_BYTES).all(is_segment)
+    }
+
+    pub fn bytes(&self) -> &'a [u8] {
+        self.bytes
+    }
+
+    pub fn block_size(&self) -> u32 {
+        u32_at(self.bytes, 4)
+    }
+
+    pub fn count(&self) -> usize {
+        (self.bytes.len() - HEAD_BYTES) / SEGMENT_BYTES
+    }
+
+    pub fn segments(&self) -> impl Iterator<Item = Segment> + 'a {
+        self.bytes[HEAD_BYTES..].chunks_exact(SEGMENT_BYTES).map(Segment::read)
+    }
+
+    pub fn segment(&self, position: u64) -> Option<Segment> {
+        let position = usize::try_from(position).ok().filter(|&p| p < self.count())?;
+        let start = HEAD_BYTES + position * SEGMENT_BYTES;
+        Some(Segment::read(&self.bytes[start..start + SEGMENT_BYTES]))
+    }
+
+    /// 18, 19; otherwise the segments' spans.
+    pub fn spans(&self, device: &Device) -> Result<Spans, Refusal> {
+        let data = Span { start: device.data_start(), end: device.data_end() };
+        let mut spans = [Span { start: 0, end: 0 }; MAX_SEGMENTS];
+        let count = self.count();
+        for (segment, span) in self.segments().zip(&mut spans) {
+            *span = segment.span(&data).ok_or(Refusal::SegmentPlace)?;
+        }
+        spans[..count].sort_unstable();
+        let clash = spans[..count].windows(2).any(|pair| pair[1].start < pair[0].end);
+        require(!clash, Refusal::SegmentClash)?;
+        Ok(Spans { spans, count })
+    }
+}
+
+/// A record on a device whose numbers are accepted. 15, 17 to 19.
+pub fn check_record<'a>(device: &Device, bytes: &'a [u8]) -> Result<(Record<'a>, Spans), Refusal> {
+    let record = Record::parse(bytes)?;
+    let spans = record.spans(device)?;
+    Ok((record, spans))
+}
+
+/// Device numbers, then the record. 4, 7, 8, 15, 17 to 19.
+pub fn check<'a>(device: &Device, bytes: &'a [u8]) -> Result<(Record<'a>, Spans), Refusal> {
+    device.check()?;
+    check_record(device, bytes)
+}
+
+fn u16_at(bytes: &[u8], at: usize) -> u16 {
+    u16::from_le_bytes([bytes[at], bytes[at + 1]])
+}

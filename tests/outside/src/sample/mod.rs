@@ -1,0 +1,6 @@
+//! Random inputs: devices, times, records and copies, valid and damaged.
+
+pub mod blocks;
+pub mod copies;
+pub mod numbers;
+pub mod records;
