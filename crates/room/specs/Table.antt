@@ -1,5 +1,5 @@
 -- The table of free runs: what the call that fills it answers, and what it leaves in the table. Assumes nothing.
-use Prim.Native.Nat.{ℕ, zero, suc}
+use Prim.Native.Nat.{ℕ, zero, suc, _*_, _/_}
 use mathlib.Core.Bool.{cond}
 use mathlib.Core.List.{List, [], _∷_, _++_}
 use lib.Dec.{leb, eqb}
@@ -38,3 +38,19 @@ tableLeft d s t = cond (eqb (first (tableTests d s (length t))) 0) (filled d s (
 abbrev pub entriesOf : RunNumber → ℕ
 entriesOf (RunNumberRuns n) = n
 entriesOf (RunNumberRefused n) = 0
+
+-- runs as plain numbers: a start and a length for each
+unfoldable pub numbersOf : List Run → List ℕ
+numbersOf [] = []
+numbersOf (r ∷ rs) = r .start ∷ r .sectors ∷ numbersOf rs
+
+-- a table of numbers whose first 2n are those of the first n runs; the numbers past them stay
+unfoldable pub filledNumbers : Device → List ℕ → ℕ → List ℕ → List ℕ
+filledNumbers d s n t = numbersOf (runsUpTo d s n) ++ drop (2 * n) t
+
+-- the same two for a table of numbers, which has room for half as many runs
+abbrev pub numbersAnswer : Device → List ℕ → ℕ → RunNumber
+numbersAnswer d s w = tableAnswer d s (w / 2)
+
+abbrev pub numbersLeft : Device → List ℕ → List ℕ → List ℕ
+numbersLeft d s t = cond (eqb (first (tableTests d s (length t / 2))) 0) (filledNumbers d s (runCount d s) t) t

@@ -3,7 +3,7 @@
 use layout::Device;
 use record::Segment;
 ghost use mathlib.Core.Path.{_≡_};
-ghost use Prim.Native.Nat.{_+_, _^_, _≤_, _<_, max};
+ghost use Prim.Native.Nat.{_+_, _*_, _^_, _≤_, _<_, max};
 ghost use lib.ListN.{length, take, drop};
 ghost use Rattle.refusal.specs.Tests.{first};
 ghost use Rattle.endian.specs.Bytes.{splice};
@@ -14,7 +14,7 @@ ghost use Rattle.record.specs.Sectors.{holds, allocated};
 ghost use Rattle.room.specs.Runs.{nextFree, runFrom, runAt, runCount, fitRun, holderOf, lower, lowestStart};
 ghost use Rattle.room.specs.Answers.{runsAnswer, orNone, runAnswer, totalAnswer, fitAnswer};
 ghost use Rattle.room.specs.Change.{allocateAnswer, allocateLeft, releaseAnswer, releaseLeft};
-ghost use Rattle.room.specs.Table.{filled, tableAnswer, tableLeft, entriesOf};
+ghost use Rattle.room.specs.Table.{filled, tableAnswer, tableLeft, entriesOf, filledNumbers, numbersAnswer, numbersLeft};
 
 // A free run: its first sector, and its length in sectors.
 pub struct Run {
@@ -443,4 +443,30 @@ pub fn free_runs_of(
         reserved,
     };
     free_runs(d, s, table)
+}
+
+// Stores the first n runs in a table of numbers, start and length for each, one walk from run to run.
+fn fill_numbers(d: Device, s: &[u8], n: usize, table: &mut [u64])
+    requires { ⌜ (0 < n → first (recordTests d (now s)) ≡ 0) × ((n ≤ runCount d (now s)) × (2 * n ≤ length (now table))) ⌝ }
+    ensures { λ _. ⌜ now (table .exit) ≡ filledNumbers d (now (s .entry)) n (now (table .entry)) ⌝ }
+{
+    let mut x: u64 = 0;
+    let mut i = 0;
+    while i < n {
+        let r = next_run(d, s, x);
+        table[2 * i] = r.start;
+        table[2 * i + 1] = r.sectors;
+        x = end_of(r);
+        i += 1;
+    }
+}
+
+// Writes every free run to a table of numbers, ascending: a start and a length for each. The numbers past them stay.
+pub fn free_run_numbers(d: Device, s: &[u8], table: &mut [u64]) -> RunNumber
+    ensures { λ r. ⌜ r ≡ numbersAnswer d (now (s .entry)) (length (now (table .entry))) ⌝ }
+    ensures { λ _. ⌜ now (table .exit) ≡ numbersLeft d (now (s .entry)) (now (table .entry)) ⌝ }
+{
+    let a = table_answer(d, s, table.len() / 2);
+    fill_numbers(d, s, entries_of(a), table);
+    a
 }
