@@ -14,17 +14,17 @@ ghost use Rattle.format.specs.Format.{formatNumber, formatted};
 ghost use Rattle.record.specs.Items.{blockSize, count};
 ghost use Rattle.record.specs.Accept.{recordTests};
 ghost use Rattle.record.specs.Answers.{segmentAnswer};
-ghost use Rattle.record.specs.Making.{beginTests, begun};
+ghost use Rattle.record.specs.Making.{beginTests, begun, unless};
 ghost use Rattle.room.specs.Answers.{totalAnswer};
 ghost use Rattle.room.specs.Change.{allocateAnswer, allocateLeft, releaseAnswer, releaseLeft};
 ghost use Rattle.update.specs.Plan.{layTests, laid};
 ghost use Rattle.block.specs.Entry.{entryOf};
 ghost use Rattle.block.specs.Writing.{writeTests, written};
-ghost use Rattle.discovery.specs.Discovery.{discovery, inStep, readAnswer, readBytes};
+ghost use Rattle.discovery.specs.Discovery.{numberOf, discovery, inStep, readAnswer, readBytes};
 ghost use Rattle.update.specs.Update.{updateNumber};
 ghost use Rattle.capi.specs.Calls.{updatePlanNumber, updatePlanLeft, updateCount, updateGroup, updateStoreNumber, updateStoreBytes, updateStoreSector, mendPlanNumber, mendPlanLeft, mendCount, mendGroup, mendStoreNumber, mendStoreBytes, mendStoreSector};
-ghost use Rattle.capi.specs.Lent.{has, numberIf, leftIf, leftAfter, replaced};
-ghost use Rattle.capi.specs.Answers.{deviceFrom, timeFrom, fieldsFrom, areaFrom, segmentNumber, segmentLeft, totalNumber, totalLeft, allocationNumber, allocationLeft, releaseNumber, releaseNumbers, otherNumber, blockNumbers, verdictNumber, verdictLeft, uuidLeft, placementNumber, placementLeft, answerNumber, answerLeft};
+ghost use Rattle.capi.specs.Lent.{has, numberIf, leftIf, replaced};
+ghost use Rattle.capi.specs.Answers.{deviceFrom, timeFrom, fieldsFrom, areaFrom, segmentNumber, segmentLeft, totalNumber, totalLeft, allocationNumber, allocationLeft, releaseNumber, releaseNumbers, otherNumber, blockNumbers, verdictLeft, uuidLeft, placementNumber, placementLeft, answerNumber, answerLeft};
 use block::BlockFields;
 use block::Time;
 use block::Verdict;
@@ -181,7 +181,7 @@ pub extern "C" fn amseokbin_block_read(
     pool: &mut [u8],
     device: &mut [u8],
 ) -> u8
-    ensures { λ n. ⌜ n ≡ numberIf (has (now (numbers .entry)) 11 && (has (now (pool .entry)) 32 && has (now (device .entry)) 32)) (verdictNumber (reading (now (block .entry)) .verdict)) ⌝ }
+    ensures { λ n. ⌜ n ≡ numberIf (has (now (numbers .entry)) 11 && (has (now (pool .entry)) 32 && has (now (device .entry)) 32)) (numberOf (reading (now (block .entry)) .verdict)) ⌝ }
     ensures { λ _. ⌜ now (numbers .exit) ≡ leftIf (has (now (numbers .entry)) 11 && (has (now (pool .entry)) 32 && has (now (device .entry)) 32)) (verdictLeft (reading (now (block .entry)) .verdict) (now (numbers .entry))) (now (numbers .entry)) ⌝ }
     ensures { λ _. ⌜ now (pool .exit) ≡ leftIf (has (now (numbers .entry)) 11 && (has (now (pool .entry)) 32 && has (now (device .entry)) 32)) (uuidLeft (reading (now (block .entry)) .verdict) (reading (now (block .entry)) .pool) (now (pool .entry))) (now (pool .entry)) ⌝ }
     ensures { λ _. ⌜ now (device .exit) ≡ leftIf (has (now (numbers .entry)) 11 && (has (now (pool .entry)) 32 && has (now (device .entry)) 32)) (uuidLeft (reading (now (block .entry)) .verdict) (reading (now (block .entry)) .device) (now (device .entry))) (now (device .entry)) ⌝ }
@@ -364,7 +364,7 @@ pub extern "C" fn amseokbin_record_head(
     head: &mut [u64],
 ) -> u8
     ensures { λ n. ⌜ n ≡ numberIf (has (now (head .entry)) 2) (first (recordTests (deviceFrom sectors metadata reserved) (now (content .entry)))) ⌝ }
-    ensures { λ _. ⌜ now (head .exit) ≡ leftIf (has (now (head .entry)) 2) (leftAfter (first (recordTests (deviceFrom sectors metadata reserved) (now (content .entry)))) (blockSize (now (content .entry)) ∷ count (now (content .entry)) ∷ []) (now (head .entry))) (now (head .entry)) ⌝ }
+    ensures { λ _. ⌜ now (head .exit) ≡ leftIf (has (now (head .entry)) 2) (unless (first (recordTests (deviceFrom sectors metadata reserved) (now (content .entry)))) (blockSize (now (content .entry)) ∷ count (now (content .entry)) ∷ []) (now (head .entry))) (now (head .entry)) ⌝ }
 {
     let sized = head.len() == 2;
     if !sized {

@@ -17,7 +17,9 @@ same-length : tie.Need-same-length
 same-length c = search needs
 
 returns : tie.Need-returns
-returns c = block-written (c .before .before .before .before .before .before .before .before .before .args .block .now) (c .before .before .before .before .before .before .before .before .before .args .pool .now) (c .before .before .before .before .before .before .before .before .before .args .device .now) _ _ _ _ _ (c .before .before .before .before .before .entry-of .ensures) (c .before .before .before .before .entry-of2 .ensures) _ _ (c .before .before .write .ensures .0) (c .before .before .write .ensures .1)
+returns c =
+    let start = c .before .before .before .before .before .before .before .before .before in
+    block-written (start .args .block .now) (start .args .pool .now) (start .args .device .now) _ _ _ _ _ (c .before .before .before .before .before .entry-of .ensures) (c .before .before .before .before .entry-of2 .ensures) _ _ (c .before .before .write .ensures .0) (c .before .before .write .ensures .1)
 
 pub amseokbin-block-write-spec : {M : Type 1} → statement M
 amseokbin-block-write-spec =

@@ -8,7 +8,9 @@ use Rattle.capi.proofs.amseokbin_discover.Statement.{statement}
 use Rattle.capi.proofs.amseokbin_discover.Tie as tie
 
 returns : tie.Need-returns
-returns c = (unsized (has (c .before .before .before .before .args .found .now) 6) (c .if1 .taken) _, unsized-left (has (c .before .before .before .before .args .found .now) 6) (c .if1 .taken) _ _)
+returns c =
+    let start = c .before .before .before .before in
+    (unsized (has (start .args .found .now) 6) (c .if1 .taken) _, unsized-left (has (start .args .found .now) 6) (c .if1 .taken) _ _)
 
 discover-requires : tie.Need-discover-requires
 discover-requires c κs = search needs
@@ -20,7 +22,9 @@ same-length : tie.Need-same-length
 same-length c = search needs
 
 returns-2 : tie.Need-returns-2
-returns-2 c = answered answerNumber answerLeft (c .before .before .before .before .before .before .before .before .before .args .found .now) (has (c .before .before .before .before .before .before .before .before .before .args .found .now) 6) (c .before .before .before .before .before .if1 .left) _ _ _ (c .before .before .before .before .discover .ensures) refl _ _ (c .before .before .tell .ensures .0) (c .before .before .tell .ensures .1)
+returns-2 c =
+    let start = c .before .before .before .before .before .before .before .before .before in
+    answered answerNumber answerLeft (start .args .found .now) (has (start .args .found .now) 6) (c .before .before .before .before .before .if1 .left) _ _ _ (c .before .before .before .before .discover .ensures) refl _ _ (c .before .before .tell .ensures .0) (c .before .before .tell .ensures .1)
 
 pub amseokbin-discover-spec : {M : Type 1} → statement M
 amseokbin-discover-spec =

@@ -8,7 +8,9 @@ use Rattle.capi.proofs.amseokbin_free_total.Statement.{statement}
 use Rattle.capi.proofs.amseokbin_free_total.Tie as tie
 
 returns : tie.Need-returns
-returns c = (unsized (has (c .before .before .before .args .total .now) 1) (c .if1 .taken) _, unsized-left (has (c .before .before .before .args .total .now) 1) (c .if1 .taken) _ _)
+returns c =
+    let start = c .before .before .before in
+    (unsized (has (start .args .total .now) 1) (c .if1 .taken) _, unsized-left (has (start .args .total .now) 1) (c .if1 .taken) _ _)
 
 free-total-requires : tie.Need-free-total-requires
 free-total-requires c κs = search needs
@@ -26,13 +28,18 @@ set-requires : tie.Need-set-requires
 set-requires c κs = search needs
 
 returns-2 : tie.Need-returns-2
-returns-2 c = answered totalNumber totalLeft (c .before .before .before .before .before .before .before .args .total .now) (has (c .before .before .before .before .before .before .before .args .total .now) 1) (c .before .before .before .before .if1 .left) _ _ _ (c .before .before .before .free-total .ensures) (c .before .a .given .1) _ _ refl refl
+returns-2 c =
+    let start = c .before .before .before .before .before .before .before in
+    answered totalNumber totalLeft (start .args .total .now) (has (start .args .total .now) 1) (c .before .before .before .before .if1 .left) _ _ _ (c .before .before .before .free-total .ensures) (c .before .a .given .1) _ _ refl refl
 
 same-length : tie.Need-same-length
 same-length c = search needs
 
 returns-3 : tie.Need-returns-3
-returns-3 c = answered totalNumber totalLeft (c .before .before .before .before .before .before .before .before .before .before .before .before .args .total .now) (has (c .before .before .before .before .before .before .before .before .before .before .before .before .args .total .now) 1) (c .before .before .before .before .before .before .before .before .before .if1 .left) _ _ _ (c .before .before .before .before .before .before .before .before .free-total .ensures) (c .before .before .before .before .before .before .a2 .given .1) _ _ refl (c .before .before .set .ensures ∙ whole (c .before .before .before .before .before .before .before .before .before .before .before .before .args .total .now) _ (long (c .before .before .before .before .before .before .before .before .before .before .before .before .args .total .now) 1 (c .before .before .before .before .before .before .before .before .before .if1 .left)))
+returns-3 c =
+    let p1 = c .before .before .before .before .before .before .before .before .before in
+    let start = p1 .before .before .before in
+    answered totalNumber totalLeft (start .args .total .now) (has (start .args .total .now) 1) (p1 .if1 .left) _ _ _ (c .before .before .before .before .before .before .before .before .free-total .ensures) (c .before .before .before .before .before .before .a2 .given .1) _ _ refl (c .before .before .set .ensures ∙ whole (start .args .total .now) _ (long (start .args .total .now) 1 (p1 .if1 .left)))
 
 pub amseokbin-free-total-spec : {M : Type 1} → statement M
 amseokbin-free-total-spec =

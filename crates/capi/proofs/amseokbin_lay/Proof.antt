@@ -16,7 +16,9 @@ same-length : tie.Need-same-length
 same-length c = search needs
 
 returns : tie.Need-returns
-returns c = (c .before .before .lay .ensures .0, c .before .before .lay .ensures .1 ∙ ap (λ (x : Area). laid (c .before .before .before .before .before .before .before .args .copy .now) x (c .before .before .before .before .before .before .before .args .content .now)) (c .before .before .before .area-from .ensures))
+returns c =
+    let start = c .before .before .before .before .before .before .before in
+    (c .before .before .lay .ensures .0, c .before .before .lay .ensures .1 ∙ ap (λ (x : Area). laid (start .args .copy .now) x (start .args .content .now)) (c .before .before .before .area-from .ensures))
 
 pub amseokbin-lay-spec : {M : Type 1} → statement M
 amseokbin-lay-spec = tie.close (tie.spec area-from-requires lay-requires same-length returns)

@@ -18,7 +18,9 @@ group-requires : tie.Need-group-requires
 group-requires c κs = search needs
 
 returns-2 : tie.Need-returns-2
-returns-2 c = c .group .ensures ∙ (ap (λ (z : Mending). groupOf z (c .before .before .before .before .args .number)) (c .before .decode-mend .ensures) ∙ chosen _ _ (length (c .before .before .before .before .args .plan .now)) 204 (c .before .before .if1 .left))
+returns-2 c =
+    let start = c .before .before .before .before in
+    c .group .ensures ∙ (ap (λ (z : Mending). groupOf z (start .args .number)) (c .before .decode-mend .ensures) ∙ chosen _ _ (length (start .args .plan .now)) 204 (c .before .before .if1 .left))
 
 pub amseokbin-mend-group-spec : {M : Type 1} → statement M
 amseokbin-mend-group-spec =

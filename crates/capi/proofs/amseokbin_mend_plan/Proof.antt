@@ -11,7 +11,9 @@ use Rattle.capi.proofs.amseokbin_mend_plan.Statement.{statement}
 use Rattle.capi.proofs.amseokbin_mend_plan.Tie as tie
 
 returns : tie.Need-returns
-returns c = (unsized (has (c .before .before .before .before .args .plan .now) 204) (c .if1 .taken) _, unsized-left (has (c .before .before .before .before .args .plan .now) 204) (c .if1 .taken) _ _)
+returns c =
+    let start = c .before .before .before .before in
+    (unsized (has (start .args .plan .now) 204) (c .if1 .taken) _, unsized-left (has (start .args .plan .now) 204) (c .if1 .taken) _ _)
 
 work-out-requires : tie.Need-work-out-requires
 work-out-requires c κs = search needs
@@ -38,19 +40,27 @@ put-requires : tie.Need-put-requires
 put-requires c κs = search needs
 
 returns-2 : tie.Need-returns-2
-returns-2 c = answered mendingNumber encodedMend (c .before .before .before .before .before .before .before .before .args .plan .now) (has (c .before .before .before .before .before .before .before .before .args .plan .now) 204) (c .before .before .before .before .if1 .left) _ _ _ (c .before .before .before .work-out .ensures) (c .before .a .given .1) _ _ refl refl
+returns-2 c =
+    let start = c .before .before .before .before .before .before .before .before in
+    answered mendingNumber encodedMend (start .args .plan .now) (has (start .args .plan .now) 204) (c .before .before .before .before .if1 .left) _ _ _ (c .before .before .before .work-out .ensures) (c .before .a .given .1) _ _ refl refl
 
 same-length : tie.Need-same-length
 same-length c = search needs
 
 returns-3 : tie.Need-returns-3
-returns-3 c = answered mendingNumber encodedMend (c .before .before .before .before .before .before .before .before .before .before .before .args .plan .now) (has (c .before .before .before .before .before .before .before .before .before .before .before .args .plan .now) 204) (c .before .before .before .before .before .before .before .if1 .left) _ _ _ (c .before .before .before .before .before .before .work-out .ensures) (c .before .before .before .before .enum-told .given .1) _ _ refl (c .before .before .clear .ensures ∙ ap zeros (long (c .before .before .before .before .before .before .before .before .before .before .before .args .plan .now) 204 (c .before .before .before .before .before .before .before .if1 .left)))
+returns-3 c =
+    let p1 = c .before .before .before .before .before .before .before in
+    let start = p1 .before .before .before .before in
+    answered mendingNumber encodedMend (start .args .plan .now) (has (start .args .plan .now) 204) (p1 .if1 .left) _ _ _ (c .before .before .before .before .before .before .work-out .ensures) (c .before .before .before .before .enum-told .given .1) _ _ refl (c .before .before .clear .ensures ∙ ap zeros (long (start .args .plan .now) 204 (p1 .if1 .left)))
 
 same-length-2 : tie.Need-same-length-2
 same-length-2 c = search needs
 
 returns-4 : tie.Need-returns-4
-returns-4 c = answered mendingNumber encodedMend (c .before .before .before .before .before .before .before .before .before .before .before .before .before .before .args .plan .now) (has (c .before .before .before .before .before .before .before .before .before .before .before .before .before .before .args .plan .now) 204) (c .before .before .before .before .before .before .before .before .before .before .if1 .left) _ _ _ (c .before .before .before .before .before .before .before .before .before .work-out .ensures) (c .before .before .before .before .before .before .before .a2 .given .1) _ _ refl (filled (c .before .before .before .before .before .before .before .before .before .before .before .before .before .before .args .plan .now) _ _ _ (c .before .before .put .ensures .1) (c .before .before .before .before .before .encode-rewrite .ensures) (rewrite-long _ ∙ sym (long (c .before .before .before .before .before .before .before .before .before .before .before .before .before .before .args .plan .now) 204 (c .before .before .before .before .before .before .before .before .before .before .if1 .left))))
+returns-4 c =
+    let p1 = c .before .before .before .before .before .before .before .before .before .before in
+    let start = p1 .before .before .before .before in
+    answered mendingNumber encodedMend (start .args .plan .now) (has (start .args .plan .now) 204) (p1 .if1 .left) _ _ _ (c .before .before .before .before .before .before .before .before .before .work-out .ensures) (c .before .before .before .before .before .before .before .a2 .given .1) _ _ refl (filled (start .args .plan .now) _ _ _ (c .before .before .put .ensures .1) (c .before .before .before .before .before .encode-rewrite .ensures) (rewrite-long _ ∙ sym (long (start .args .plan .now) 204 (p1 .if1 .left))))
 
 pub amseokbin-mend-plan-spec : {M : Type 1} → statement M
 amseokbin-mend-plan-spec =

@@ -26,13 +26,18 @@ set-requires : tie.Need-set-requires
 set-requires c κs = search needs
 
 returns-2 : tie.Need-returns-2
-returns-2 c = answered placementNumber placementLeft (c .before .before .before .before .before .before .args .places .now) (has (c .before .before .before .before .before .before .args .places .now) 12) (c .before .before .before .before .if1 .left) _ _ _ (c .before .before .before .locate .ensures) (c .before .p .given .1) _ _ refl refl
+returns-2 c =
+    let start = c .before .before .before .before .before .before in
+    answered placementNumber placementLeft (start .args .places .now) (has (start .args .places .now) 12) (c .before .before .before .before .if1 .left) _ _ _ (c .before .before .before .locate .ensures) (c .before .p .given .1) _ _ refl refl
 
 same-length : tie.Need-same-length
 same-length c = search needs
 
 returns-3 : tie.Need-returns-3
-returns-3 c = answered placementNumber placementLeft (c .before .before .before .before .before .before .before .before .before .before .before .before .before .args .places .now) (has (c .before .before .before .before .before .before .before .before .before .before .before .before .before .args .places .now) 12) (c .before .before .before .before .before .before .before .before .before .before .before .if1 .left) _ _ _ (c .before .before .before .before .before .before .before .before .before .before .locate .ensures) (c .before .before .before .before .before .before .before .before .p2 .given .1) _ _ refl (c .before .before .set .ensures ∙ whole (c .before .before .before .before .before .before .before .before .before .before .before .before .before .args .places .now) _ (long (c .before .before .before .before .before .before .before .before .before .before .before .before .before .args .places .now) 12 (c .before .before .before .before .before .before .before .before .before .before .before .if1 .left)))
+returns-3 c =
+    let p1 = c .before .before .before .before .before .before .before .before .before .before .before in
+    let start = p1 .before .before in
+    answered placementNumber placementLeft (start .args .places .now) (has (start .args .places .now) 12) (p1 .if1 .left) _ _ _ (c .before .before .before .before .before .before .before .before .before .before .locate .ensures) (c .before .before .before .before .before .before .before .before .p2 .given .1) _ _ refl (c .before .before .set .ensures ∙ whole (start .args .places .now) _ (long (start .args .places .now) 12 (p1 .if1 .left)))
 
 pub amseokbin-places-spec : {M : Type 1} → statement M
 amseokbin-places-spec =

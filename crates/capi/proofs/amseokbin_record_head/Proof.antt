@@ -9,7 +9,9 @@ use Rattle.capi.proofs.amseokbin_record_head.Statement.{statement}
 use Rattle.capi.proofs.amseokbin_record_head.Tie as tie
 
 returns : tie.Need-returns
-returns c = (unsized (has (c .before .before .before .args .head .now) 2) (c .if1 .taken) _, unsized-left (has (c .before .before .before .args .head .now) 2) (c .if1 .taken) _ _)
+returns c =
+    let start = c .before .before .before in
+    (unsized (has (start .args .head .now) 2) (c .if1 .taken) _, unsized-left (has (start .args .head .now) 2) (c .if1 .taken) _ _)
 
 check-requires : tie.Need-check-requires
 check-requires c κs = search needs
@@ -36,7 +38,10 @@ same-length : tie.Need-same-length
 same-length c = search needs
 
 returns-3 : tie.Need-returns-3
-returns-3 c = number-made (c .before .before .before .before .before .before .before .before .before .before .before .before .args .head .now) _ 2 _ _ (c .before .before .before .before .before .before .before .before .before .if1 .left) (c .before .before .before .before .before .before .before .before .check .ensures) (c .before .before .before .before .before .before .before .if2 .left) _ (c .before .before .set .ensures ∙ (whole (c .before .before .before .before .before .before .before .before .before .before .before .before .args .head .now) _ (long (c .before .before .before .before .before .before .before .before .before .before .before .before .args .head .now) 2 (c .before .before .before .before .before .before .before .before .before .if1 .left)) ∙ ap₂ (λ (i j : ℕ). i ∷ j ∷ []) (c .before .before .before .before .before .before .block-size-of .ensures) (c .before .before .before .before .before .count-of .ensures)))
+returns-3 c =
+    let p1 = c .before .before .before .before .before .before .before .before .before in
+    let start = p1 .before .before .before in
+    number-made (start .args .head .now) _ 2 _ _ (p1 .if1 .left) (c .before .before .before .before .before .before .before .before .check .ensures) (c .before .before .before .before .before .before .before .if2 .left) _ (c .before .before .set .ensures ∙ (whole (start .args .head .now) _ (long (start .args .head .now) 2 (p1 .if1 .left)) ∙ ap₂ (λ (i j : ℕ). i ∷ j ∷ []) (c .before .before .before .before .before .before .block-size-of .ensures) (c .before .before .before .before .before .count-of .ensures)))
 
 pub amseokbin-record-head-spec : {M : Type 1} → statement M
 amseokbin-record-head-spec =

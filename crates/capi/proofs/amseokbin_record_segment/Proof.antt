@@ -8,7 +8,9 @@ use Rattle.capi.proofs.amseokbin_record_segment.Statement.{statement}
 use Rattle.capi.proofs.amseokbin_record_segment.Tie as tie
 
 returns : tie.Need-returns
-returns c = (unsized (has (c .before .before .before .args .segment .now) 3) (c .if1 .taken) _, unsized-left (has (c .before .before .before .args .segment .now) 3) (c .if1 .taken) _ _)
+returns c =
+    let start = c .before .before .before in
+    (unsized (has (start .args .segment .now) 3) (c .if1 .taken) _, unsized-left (has (start .args .segment .now) 3) (c .if1 .taken) _ _)
 
 read-segment-requires : tie.Need-read-segment-requires
 read-segment-requires c κs = search needs
@@ -29,13 +31,18 @@ set-requires : tie.Need-set-requires
 set-requires c κs = search needs
 
 returns-2 : tie.Need-returns-2
-returns-2 c = answered segmentNumber segmentLeft (c .before .before .before .before .before .before .before .args .segment .now) (has (c .before .before .before .before .before .before .before .args .segment .now) 3) (c .before .before .before .before .if1 .left) _ _ _ (c .before .before .before .read-segment .ensures) (c .before .a .given .1) _ _ refl refl
+returns-2 c =
+    let start = c .before .before .before .before .before .before .before in
+    answered segmentNumber segmentLeft (start .args .segment .now) (has (start .args .segment .now) 3) (c .before .before .before .before .if1 .left) _ _ _ (c .before .before .before .read-segment .ensures) (c .before .a .given .1) _ _ refl refl
 
 same-length : tie.Need-same-length
 same-length c = search needs
 
 returns-3 : tie.Need-returns-3
-returns-3 c = answered segmentNumber segmentLeft (c .before .before .before .before .before .before .before .before .before .before .before .before .before .args .segment .now) (has (c .before .before .before .before .before .before .before .before .before .before .before .before .before .args .segment .now) 3) (c .before .before .before .before .before .before .before .before .before .before .if1 .left) _ _ _ (c .before .before .before .before .before .before .before .before .before .read-segment .ensures) (c .before .before .before .before .before .before .before .a2 .given .1) _ _ refl (c .before .before .set .ensures ∙ whole (c .before .before .before .before .before .before .before .before .before .before .before .before .before .args .segment .now) _ (long (c .before .before .before .before .before .before .before .before .before .before .before .before .before .args .segment .now) 3 (c .before .before .before .before .before .before .before .before .before .before .if1 .left)))
+returns-3 c =
+    let p1 = c .before .before .before .before .before .before .before .before .before .before in
+    let start = p1 .before .before .before in
+    answered segmentNumber segmentLeft (start .args .segment .now) (has (start .args .segment .now) 3) (p1 .if1 .left) _ _ _ (c .before .before .before .before .before .before .before .before .before .read-segment .ensures) (c .before .before .before .before .before .before .before .a2 .given .1) _ _ refl (c .before .before .set .ensures ∙ whole (start .args .segment .now) _ (long (start .args .segment .now) 3 (p1 .if1 .left)))
 
 pub amseokbin-record-segment-spec : {M : Type 1} → statement M
 amseokbin-record-segment-spec =

@@ -47,7 +47,9 @@ same-length : tie.Need-same-length
 same-length c = search needs
 
 returns-2 : tie.Need-returns-2
-returns-2 c = found-told (c .before .before .before .before .before .before .before .before .before .before .before .before .before .before .args .a) (c .before .before .before .before .before .before .before .before .before .before .before .before .before .before .args .found .now) (c .before .before .before .before .before .before .before .before .before .before .before .before .before .before .pre) _ _ (c .before .before .before .before .before .before .before .before .before .before .before .a2 .given .1) _ _ _ (c .before .before .before .before .before .before .before .before .before .side-number .ensures) (c .before .before .before .before .before .before .before .before .area-number .ensures) (c .before .before .before .before .before .other-number .ensures) _ (c .before .before .set .ensures)
+returns-2 c =
+    let start = c .before .before .before .before .before .before .before .before .before .before .before .before .before .before in
+    found-told (start .args .a) (start .args .found .now) (start .pre) _ _ (c .before .before .before .before .before .before .before .before .before .before .before .a2 .given .1) _ _ _ (c .before .before .before .before .before .before .before .before .before .side-number .ensures) (c .before .before .before .before .before .before .before .before .area-number .ensures) (c .before .before .before .before .before .other-number .ensures) _ (c .before .before .set .ensures)
 
 pub tell-spec : {M : Type 1} → statement M
 tell-spec =

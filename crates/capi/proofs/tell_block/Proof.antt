@@ -44,7 +44,9 @@ same-length : tie.Need-same-length
 same-length c = search needs
 
 returns : tie.Need-returns
-returns c = block-numbers (c .before .before .before .before .before .before .before .before .before .before .before .before .before .before .before .before .before .args .x) (c .before .before .before .before .before .before .before .before .before .before .before .before .before .before .before .before .before .args .numbers .now) (c .before .before .before .before .before .before .before .before .before .before .before .before .before .before .before .before .before .pre) _ _ (c .before .before .before .before .before .before .before .before .before .before .before .before .before .before .holding-of .ensures) (c .before .before .before .before .before .before .before .before .before .before .before .before .before .holding-of2 .ensures) _ (c .before .before .set .ensures)
+returns c =
+    let start = c .before .before .before .before .before .before .before .before .before .before .before .before .before .before .before .before .before in
+    block-numbers (start .args .x) (start .args .numbers .now) (start .pre) _ _ (c .before .before .before .before .before .before .before .before .before .before .before .before .before .before .holding-of .ensures) (c .before .before .before .before .before .before .before .before .before .before .before .before .before .holding-of2 .ensures) _ (c .before .before .set .ensures)
 
 pub tell-block-spec : {M : Type 1} → statement M
 tell-block-spec =
