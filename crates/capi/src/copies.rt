@@ -15,6 +15,7 @@ use discovery::Other;
 use layout::Area;
 use layout::Device;
 
+// C's number of the other copy: 0, or its refusal number.
 fn other_number(o: Other) -> u8
     ensures { λ n. ⌜ n ≡ otherNumber o ⌝ }
 {
