@@ -31,9 +31,15 @@ use Rattle.capi.specs.Plans.{encodedPlan, decodedPlan, encodedMend, deco
 use Rattle.capi.specs.Calls.{givenNumber, givenLeft, plannedNumber, plannedLeft, updateStoreNumber, updateStoreBytes, updateStoreSector, mendPlanLeft, mendingNumber, mendStoreNumber, mendStoreBytes, mendStoreSector}
 use Rattle.capi.specs.Demand as Claims
 use Rattle.capi.specs.Demand.{updatePlan}
-use Rattle.capi.proofs.Codec.{plan-long, plan-decoded}
+use Rattle.capi.proofs.Codec.{plan-long, plan-decoded, mend-decoded, in-step-decoded}
 use Rattle.capi.proofs.Coding.{chosen}
-use Rattle.capi.proofs.Fitting.{plan-fit, mend-fit}
+use Rattle.capi.proofs.Fitting.{plan-fit, rewrite-fit, mend-fit}
+
+pub read-back : Claims.ReadBack
+read-back = (plan-decoded, (mend-decoded, in-step-decoded))
+
+pub fitting : Claims.Fitting
+fitting = (plan-fit, rewrite-fit)
 
 -- A store x that is y, with bytes u that are w, as the call gives it: its plan s has j bytes, its sector goes to m.
 module _ (s m : List ℕ) (j : ℕ) (long : length s ≡ j) (one : length m ≡ 1) (x y : Given) (e : x ≡ y) (u w out : List ℕ) (eu : u ≡ w) where

@@ -106,7 +106,7 @@ module _ (f b : List ℕ) (q : Record) (o : Other) (e : discovery f b ≡ Answer
       let m : recordLimit < 2 ^ 32 = limit-fits in
       omega arith
 
-  rewrite-fit : RewriteFit (rewriteOf c q)
+  pub rewrite-fit : RewriteFit (rewriteOf c q)
   rewrite-fit = (
     bytes-fit,
     sectors-fit (q .bytes) bytes-fit,

@@ -9,7 +9,8 @@ use Rattle.endian.specs.Bytes.{splice}
 use Rattle.endian.proofs.Parts.{splice-whole}
 use Rattle.endian.proofs.Tests.{and-right}
 use Rattle.refusal.proofs.Order.{answer-no, answer-yes}
-use Rattle.capi.specs.Lent.{has, numberIf, leftIf, leftAfter, replaced}
+use Rattle.record.specs.Making.{unless}
+use Rattle.capi.specs.Lent.{has, numberIf, leftIf, replaced}
 
 -- a size that is not right gives 1 and leaves what was there
 module _ (t : Bool) (h : not t ≡ true) where
@@ -45,13 +46,13 @@ module _ {A : Type 0} (number : A → ℕ) (left : A → List ℕ → List ℕ) 
 
 -- an array of k numbers with a number m alone
 module _ (s made : List ℕ) (k n m : ℕ) (h : not (has s k) ≡ false) (e : n ≡ m) where
-  pub number-refused : (n ≡ 0 → ⊥) → (n ≡ numberIf (has s k) m) × (s ≡ leftIf (has s k) (leftAfter m made s) s)
-  number-refused z = (sized (has s k) h n m e, sized-left (has s k) h s (leftAfter m made s) s (answer-no made (λ (i : ℕ). s) n m e z))
+  pub number-refused : (n ≡ 0 → ⊥) → (n ≡ numberIf (has s k) m) × (s ≡ leftIf (has s k) (unless m made s) s)
+  number-refused z = (sized (has s k) h n m e, sized-left (has s k) h s (unless m made s) s (answer-no made (λ (i : ℕ). s) n m e z))
 
-  pub number-made : n ≡ 0 → (w : List ℕ) → w ≡ made → (0 ≡ numberIf (has s k) m) × (w ≡ leftIf (has s k) (leftAfter m made s) s)
+  pub number-made : n ≡ 0 → (w : List ℕ) → w ≡ made → (0 ≡ numberIf (has s k) m) × (w ≡ leftIf (has s k) (unless m made s) s)
   number-made z w ew = (
     sized (has s k) h 0 m (sym z ∙ e),
-    sized-left (has s k) h w (leftAfter m made s) s (ew ∙ answer-yes made (λ (i : ℕ). s) n m e z),
+    sized-left (has s k) h w (unless m made s) s (ew ∙ answer-yes made (λ (i : ℕ). s) n m e z),
   )
 
 -- an array of that size takes the numbers

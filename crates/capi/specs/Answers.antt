@@ -73,10 +73,6 @@ blockNumbers x =
     ∷ holdingOf (x .b) .checksum
     ∷ []
 
-abbrev pub verdictNumber : Verdict → ℕ
-verdictNumber (Verdict.Accepted x) = 0
-verdictNumber (Verdict.Refused n) = n
-
 abbrev pub verdictLeft : Verdict → List ℕ → List ℕ
 verdictLeft (Verdict.Accepted x) s = blockNumbers x
 verdictLeft (Verdict.Refused n) s = s

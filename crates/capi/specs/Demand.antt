@@ -1,21 +1,42 @@
--- What the C calls on plans give, from the libraries' claims: `proofs/Demand.antt` proves `Giving` and `Mending`. The slices are
--- lent with their sizes: a plan of 148 or 204 bytes, 512 bytes for a store, one number for its sector. Assumes nothing.
-use Prim.Native.Nat.{ℕ, suc, _≤_, _<_}
+-- What the C calls on plans give, from the libraries' claims: `proofs/Demand.antt` proves `ReadBack`, `Fitting`, `Giving` and
+-- `Mending`. The slices are lent with their sizes: a plan of 148 or 204 bytes, 512 bytes for a store, one number for its sector. Assumes nothing.
+use Prim.Native.Nat.{ℕ, suc, _^_, _≤_, _<_}
 use mathlib.Core.Path.{_≡_}
 use mathlib.Core.List.{List, [], _∷_}
 use lib.ListN.{length}
+use Rattle.endian.specs.Bytes.{zeros}
 use Rattle.refusal.specs.Numbers.{noStore}
 use Rattle.layout.specs.declared.Device.{Device}
 use Rattle.layout.specs.declared.Side.the-variants.{Front, Back}
 use Rattle.block.specs.declared.Time.{Time}
 use Rattle.device.specs.Device.{Sectors, stores, storeIn, groupStart, copyFrom}
+use Rattle.update.specs.declared.Plan.{Plan}
+use Rattle.update.specs.Update.{updateNumber}
+use Rattle.update.specs.Plan.{planOf}
 use Rattle.update.specs.Demand.{Start, groupsOn}
 use Rattle.discovery.specs.declared.Record.{Record}
 use Rattle.discovery.specs.declared.Other.{Other}
 use Rattle.discovery.specs.declared.Answer.the-variants.{Found}
-use Rattle.discovery.specs.Discovery.{discovery}
+use Rattle.discovery.specs.Discovery.{discovery, copyOn}
+use Rattle.mend.specs.declared.Rewrite.{Rewrite}
+use Rattle.mend.specs.declared.Mending.the-variants.{InStep, Needed}
 use Rattle.mend.specs.Mend.{mendGroups}
+use Rattle.mend.specs.Plan.{rewriteOf}
+use Rattle.capi.specs.Plans.{encodedPlan, decodedPlan, encodedRewrite, decodedMend, PlanFit, RewriteFit}
 use Rattle.capi.specs.Calls.{updatePlanNumber, updatePlanLeft, updateCount, updateGroup, updateStoreNumber, updateStoreBytes, updateStoreSector, mendPlanNumber, mendPlanLeft, mendCount, mendGroup, mendStoreNumber, mendStoreBytes, mendStoreSector}
+
+-- Plans whose numbers fit their widths, and whose entries are within the limits, are read back as themselves.
+abbrev pub ReadBack : Type 0
+ReadBack =
+    ((p : Plan) → PlanFit p → decodedPlan (encodedPlan p) ≡ p)
+    × (((p : Rewrite) → RewriteFit p → decodedMend (encodedRewrite p) ≡ Needed p) × (decodedMend (zeros 204) ≡ InStep))
+
+-- Those that the libraries work out are such plans: of an update that is not refused, and of a mend of copies in which discovery
+-- finds a record.
+abbrev pub Fitting : Type 0
+Fitting =
+    ((f b : List ℕ) (t : Time) (r : List ℕ) → updateNumber f b t r ≡ 0 → t .seconds < 2 ^ 64 → PlanFit (planOf f b t r))
+    × ((f b : List ℕ) (q : Record) (o : Other) → discovery f b ≡ Found q o → RewriteFit (rewriteOf (copyOn (q .side) f b) q))
 
 -- the bytes that an update's plan has after the call
 abbrev pub updatePlan : Device → Sectors → Time → List ℕ → List ℕ → List ℕ
@@ -39,7 +60,8 @@ Giving =
     × ((updateStoreBytes (updatePlan v d t r s) (copyFrom Front v d) (copyFrom Back v d) r i out n ≡ out)
     × (updateStoreSector (updatePlan v d t r s) (copyFrom Front v d) (copyFrom Back v d) i out n ≡ n))))))
 
--- For any two copies in which discovery finds a record the calls give exactly the stores of `mend`'s `mendGroups`.
+-- For any two copies in which discovery finds a record the calls give exactly the stores of `mend`'s `mendGroups`; past the last
+-- there is none.
 abbrev pub Mending : Type 0
 Mending =
     (f b s : List ℕ) (q : Record) (o : Other) → discovery f b ≡ Found q o → length s ≡ 204

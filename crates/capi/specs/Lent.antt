@@ -18,10 +18,6 @@ numberIf sized n = cond sized n sliceSize
 abbrev pub leftIf : Bool → List ℕ → List ℕ → List ℕ
 leftIf sized left s = cond sized left s
 
--- what a call that answers number n leaves: what it makes where n is 0, else what was there
-abbrev pub leftAfter : ℕ → List ℕ → List ℕ → List ℕ
-leftAfter n made s = cond (eqb n 0) made s
-
 -- these numbers in an array of exactly so many; an array of another size stays
 unfoldable pub replaced : List ℕ → List ℕ → List ℕ
 replaced s v = cond (eqb (length s) (length v)) v s

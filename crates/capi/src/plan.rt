@@ -14,7 +14,7 @@ use mend::Rewrite;
 use update::Part;
 use update::Plan;
 
-// C's number of a side, and of an area.
+// C's number of a side.
 pub fn side_number(s: Side) -> u8
     ensures { λ n. ⌜ n ≡ sideNumber s ⌝ }
 {
@@ -24,6 +24,7 @@ pub fn side_number(s: Side) -> u8
     }
 }
 
+// C's number of an area.
 pub fn area_number(x: Area) -> u8
     ensures { λ n. ⌜ n ≡ areaNumber x ⌝ }
 {

@@ -17,7 +17,9 @@ decode-fields-requires : tie.Need-decode-fields-requires
 decode-fields-requires c κs = search needs
 
 returns-2 : tie.Need-returns-2
-returns-2 c = last-read (c .before .before .before .before .before .args .k) (c .before .before .before .before .before .args .s .now) (c .before .before .before .if1 .left) _ (c .before .before .read-u64 .ensures) _ (c .before .window .ensures) _ (c .decode-fields .ensures)
+returns-2 c =
+    let start = c .before .before .before .before .before in
+    last-read (start .args .k) (start .args .s .now) (c .before .before .before .if1 .left) _ (c .before .before .read-u64 .ensures) _ (c .before .window .ensures) _ (c .decode-fields .ensures)
 
 pub decode-last-spec : {M : Type 1} → statement M
 decode-last-spec =

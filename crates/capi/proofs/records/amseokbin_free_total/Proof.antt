@@ -1,0 +1,56 @@
+-- `capi::records::amseokbin_free_total` meets its contract. Assumes nothing.
+use Rattle.capi.proofs.Told.{unsized, unsized-left, answered, whole, long}
+use Rattle.capi.specs.Answers.{totalNumber, totalLeft}
+use mathlib.Core.Path.{refl, _∙_}
+use Rattle.capi.specs.Lent.{has}
+use borrow.Author.Needs.{needs}
+use Rattle.capi.proofs.records.amseokbin_free_total.Statement.{statement}
+use Rattle.capi.proofs.records.amseokbin_free_total.Tie as tie
+
+returns : tie.Need-returns
+returns c =
+    let start = c .before .before .before in
+    (unsized (has (start .args .total .now) 1) (c .if1 .taken) _, unsized-left (has (start .args .total .now) 1) (c .if1 .taken) _ _)
+
+free-total-requires : tie.Need-free-total-requires
+free-total-requires c κs = search needs
+
+enum-known-a : tie.Need-enum-known-a
+enum-known-a c = search needs
+
+enum-known-a-2 : tie.Need-enum-known-a-2
+enum-known-a-2 c = search needs
+
+slice-aggregate-set : tie.Need-slice-aggregate-set
+slice-aggregate-set c = search needs
+
+set-requires : tie.Need-set-requires
+set-requires c κs = search needs
+
+returns-2 : tie.Need-returns-2
+returns-2 c =
+    let start = c .before .before .before .before .before .before .before in
+    answered totalNumber totalLeft (start .args .total .now) (has (start .args .total .now) 1) (c .before .before .before .before .if1 .left) _ _ _ (c .before .before .before .free-total .ensures) (c .before .a .given .1) _ _ refl refl
+
+same-length : tie.Need-same-length
+same-length c = search needs
+
+returns-3 : tie.Need-returns-3
+returns-3 c =
+    let p1 = c .before .before .before .before .before .before .before .before .before in
+    let start = p1 .before .before .before in
+    answered totalNumber totalLeft (start .args .total .now) (has (start .args .total .now) 1) (p1 .if1 .left) _ _ _ (c .before .before .before .before .before .before .before .before .free-total .ensures) (c .before .before .before .before .before .before .a2 .given .1) _ _ refl (c .before .before .set .ensures ∙ whole (start .args .total .now) _ (long (start .args .total .now) 1 (p1 .if1 .left)))
+
+pub amseokbin-free-total-spec : {M : Type 1} → statement M
+amseokbin-free-total-spec =
+    tie.close
+    (tie.spec
+    returns
+    free-total-requires
+    enum-known-a
+    enum-known-a-2
+    slice-aggregate-set
+    set-requires
+    returns-2
+    same-length
+    returns-3)

@@ -1,0 +1,142 @@
+// The two copies, as C has them: discovery, reading, laying, formatting. Assumes nothing.
+ghost use mathlib.Core.Path.{_≡_};
+ghost use lib.ListN.{length};
+ghost use Rattle.refusal.specs.Tests.{first};
+ghost use Rattle.format.specs.Format.{formatNumber, formatted};
+ghost use Rattle.update.specs.Plan.{layTests, laid};
+ghost use Rattle.discovery.specs.Discovery.{discovery, inStep, readAnswer, readBytes};
+ghost use Rattle.capi.specs.Lent.{has, numberIf, leftIf};
+ghost use Rattle.capi.specs.Answers.{deviceFrom, timeFrom, areaFrom, otherNumber, answerNumber, answerLeft};
+use crate::lent;
+use crate::plan;
+use block::Time;
+use discovery::Answer;
+use discovery::Other;
+use layout::Area;
+use layout::Device;
+
+// C's number of the other copy: 0, or its refusal number.
+fn other_number(o: Other) -> u8
+    ensures { λ n. ⌜ n ≡ otherNumber o ⌝ }
+{
+    match o {
+        Other::Both => 0,
+        Other::One(n) => n,
+    }
+}
+
+// Discovery's answer, into an array of six numbers.
+fn tell(a: Answer, found: &mut [u64]) -> u8
+    requires { ⌜ length (now found) ≡ 6 ⌝ }
+    ensures { λ n. ⌜ n ≡ answerNumber a ⌝ }
+    ensures { λ _. ⌜ now (found .exit) ≡ answerLeft a (now (found .entry)) ⌝ }
+{
+    match a {
+        Answer::Refused(n) => n,
+        Answer::Found(q, o) => {
+            let side = q.side;
+            let area = q.area;
+            let v = [
+                plan::side_number(side) as u64,
+                plan::area_number(area) as u64,
+                q.bytes as u64,
+                q.seconds,
+                q.nanoseconds as u64,
+                other_number(o) as u64,
+            ];
+            lent::set(found, &v);
+            0
+        }
+    }
+}
+
+// Finds the newest whole record of two copies.
+#[no_mangle]
+pub extern "C" fn amseokbin_discover(front: &[u8], back: &[u8], found: &mut [u64]) -> u8
+    ensures { λ n. ⌜ n ≡ numberIf (has (now (found .entry)) 6) (answerNumber (discovery (now (front .entry)) (now (back .entry)))) ⌝ }
+    ensures { λ _. ⌜ now (found .exit) ≡ leftIf (has (now (found .entry)) 6) (answerLeft (discovery (now (front .entry)) (now (back .entry))) (now (found .entry))) (now (found .entry)) ⌝ }
+{
+    let sized = found.len() == 6;
+    if !sized {
+        return refusal::SLICE_SIZE;
+    }
+    let a = discovery::discover(front, back);
+    tell(a, found)
+}
+
+// The same, and copies the record to the start of a buffer.
+#[no_mangle]
+pub extern "C" fn amseokbin_read_found(
+    front: &[u8],
+    back: &[u8],
+    content: &mut [u8],
+    found: &mut [u64],
+) -> u8
+    ensures { λ n. ⌜ n ≡ numberIf (has (now (found .entry)) 6) (answerNumber (readAnswer (discovery (now (front .entry)) (now (back .entry))) (length (now (content .entry))))) ⌝ }
+    ensures { λ _. ⌜ now (content .exit) ≡ leftIf (has (now (found .entry)) 6) (readBytes (readAnswer (discovery (now (front .entry)) (now (back .entry))) (length (now (content .entry)))) (now (front .entry)) (now (back .entry)) (now (content .entry))) (now (content .entry)) ⌝ }
+    ensures { λ _. ⌜ now (found .exit) ≡ leftIf (has (now (found .entry)) 6) (answerLeft (readAnswer (discovery (now (front .entry)) (now (back .entry))) (length (now (content .entry)))) (now (found .entry))) (now (found .entry)) ⌝ }
+{
+    let sized = found.len() == 6;
+    if !sized {
+        return refusal::SLICE_SIZE;
+    }
+    let a = discovery::read_found(front, back, content);
+    tell(a, found)
+}
+
+// Whether the two copies are in step.
+#[no_mangle]
+pub extern "C" fn amseokbin_in_step(front: &[u8], back: &[u8]) -> bool
+    ensures { λ r. ⌜ r ≡ inStep (now (front .entry)) (now (back .entry)) ⌝ }
+{
+    discovery::in_step(front, back)
+}
+
+// Lays a record into area a of a copy in memory, or into area b.
+#[no_mangle]
+pub extern "C" fn amseokbin_lay(copy: &mut [u8], area_b: bool, content: &[u8]) -> u8
+    ensures { λ n. ⌜ n ≡ first (layTests (now (copy .entry)) (now (content .entry))) ⌝ }
+    ensures { λ _. ⌜ now (copy .exit) ≡ laid (now (copy .entry)) (areaFrom «area_b») (now (content .entry)) ⌝ }
+{
+    update::lay(copy, area_from(area_b), content)
+}
+
+// Area b where it is asked for.
+fn area_from(b: bool) -> Area
+    ensures { λ x. ⌜ x ≡ areaFrom b ⌝ }
+{
+    if b {
+        return Area::B;
+    }
+    Area::A
+}
+
+// Fills both copies.
+#[no_mangle]
+pub extern "C" fn amseokbin_format(
+    front: &mut [u8],
+    back: &mut [u8],
+    sectors: u64,
+    metadata: u32,
+    reserved: u32,
+    pool: &[u8],
+    device: &[u8],
+    seconds: u64,
+    nanoseconds: u32,
+    content: &[u8],
+) -> u8
+    ensures { λ n. ⌜ n ≡ formatNumber (now (front .entry)) (now (back .entry)) (deviceFrom sectors metadata reserved) (now (pool .entry)) (now (device .entry)) (timeFrom seconds nanoseconds) (now (content .entry)) ⌝ }
+    ensures { λ _. ⌜ now (front .exit) ≡ formatted (now (front .entry)) (now (front .entry)) (now (back .entry)) (deviceFrom sectors metadata reserved) (now (pool .entry)) (now (device .entry)) (timeFrom seconds nanoseconds) (now (content .entry)) ⌝ }
+    ensures { λ _. ⌜ now (back .exit) ≡ formatted (now (back .entry)) (now (front .entry)) (now (back .entry)) (deviceFrom sectors metadata reserved) (now (pool .entry)) (now (device .entry)) (timeFrom seconds nanoseconds) (now (content .entry)) ⌝ }
+{
+    let d = Device {
+        sectors,
+        metadata,
+        reserved,
+    };
+    let t = Time {
+        seconds,
+        nanoseconds,
+    };
+    format::format_copies(front, back, d, pool, device, t, content)
+}

@@ -1,0 +1,215 @@
+// Records and free room, as C has them. Assumes nothing.
+ghost use mathlib.Core.Path.{_≡_};
+ghost use mathlib.Core.List.{[], _∷_};
+ghost use lib.ListN.{length};
+ghost use Rattle.refusal.specs.Tests.{first};
+ghost use Rattle.record.specs.Items.{blockSize, count};
+ghost use Rattle.record.specs.Accept.{recordTests};
+ghost use Rattle.record.specs.Answers.{segmentAnswer};
+ghost use Rattle.record.specs.Making.{beginTests, begun, unless};
+ghost use Rattle.room.specs.Answers.{totalAnswer};
+ghost use Rattle.room.specs.Change.{allocateAnswer, allocateLeft, releaseAnswer, releaseLeft};
+ghost use Rattle.capi.specs.Lent.{has, numberIf, leftIf};
+ghost use Rattle.capi.specs.Answers.{deviceFrom, segmentNumber, segmentLeft, totalNumber, totalLeft, allocationNumber, allocationLeft, releaseNumber, releaseNumbers};
+use crate::lent;
+use layout::Device;
+use record::Found;
+use room::Allocation;
+use room::FreeTotal;
+use room::Released;
+
+// Checks a record on a device.
+#[no_mangle]
+pub extern "C" fn amseokbin_record_check(
+    sectors: u64,
+    metadata: u32,
+    reserved: u32,
+    content: &[u8],
+) -> u8
+    ensures { λ n. ⌜ n ≡ first (recordTests (deviceFrom sectors metadata reserved) (now (content .entry))) ⌝ }
+{
+    let d = Device {
+        sectors,
+        metadata,
+        reserved,
+    };
+    record::check(d, content)
+}
+
+// What an accepted record says: its data block size, its number of segments.
+#[no_mangle]
+pub extern "C" fn amseokbin_record_head(
+    sectors: u64,
+    metadata: u32,
+    reserved: u32,
+    content: &[u8],
+    head: &mut [u64],
+) -> u8
+    ensures { λ n. ⌜ n ≡ numberIf (has (now (head .entry)) 2) (first (recordTests (deviceFrom sectors metadata reserved) (now (content .entry)))) ⌝ }
+    ensures { λ _. ⌜ now (head .exit) ≡ leftIf (has (now (head .entry)) 2) (unless (first (recordTests (deviceFrom sectors metadata reserved) (now (content .entry)))) (blockSize (now (content .entry)) ∷ count (now (content .entry)) ∷ []) (now (head .entry))) (now (head .entry)) ⌝ }
+{
+    let sized = head.len() == 2;
+    if !sized {
+        return refusal::SLICE_SIZE;
+    }
+    let d = Device {
+        sectors,
+        metadata,
+        reserved,
+    };
+    let n = record::check(d, content);
+    if n != 0 {
+        return n;
+    }
+    let v = [
+        record::block_size_of(content) as u64,
+        record::count_of(content) as u64,
+    ];
+    lent::set(head, &v);
+    0
+}
+
+// The segment at a position, counted from 0: kind, start, length in sectors.
+#[no_mangle]
+pub extern "C" fn amseokbin_record_segment(
+    sectors: u64,
+    metadata: u32,
+    reserved: u32,
+    content: &[u8],
+    position: u64,
+    segment: &mut [u64],
+) -> u8
+    ensures { λ n. ⌜ n ≡ numberIf (has (now (segment .entry)) 3) (segmentNumber (segmentAnswer (deviceFrom sectors metadata reserved) (now (content .entry)) position)) ⌝ }
+    ensures { λ _. ⌜ now (segment .exit) ≡ leftIf (has (now (segment .entry)) 3) (segmentLeft (segmentAnswer (deviceFrom sectors metadata reserved) (now (content .entry)) position) (now (segment .entry))) (now (segment .entry)) ⌝ }
+{
+    let sized = segment.len() == 3;
+    if !sized {
+        return refusal::SLICE_SIZE;
+    }
+    let d = Device {
+        sectors,
+        metadata,
+        reserved,
+    };
+    let a = record::read_segment(d, content, position as usize);
+    match a {
+        Found::Refused(n) => n,
+        Found::At(g) => {
+            let v = [g.kind as u64, g.start, g.sectors];
+            lent::set(segment, &v);
+            0
+        }
+    }
+}
+
+// Begins a record with its data block size.
+#[no_mangle]
+pub extern "C" fn amseokbin_record_begin(content: &mut [u8], block_size: u32) -> u8
+    ensures { λ n. ⌜ n ≡ first (beginTests (now (content .entry)) «block_size») ⌝ }
+    ensures { λ _. ⌜ now (content .exit) ≡ begun (now (content .entry)) «block_size» ⌝ }
+{
+    record::begin(content, block_size)
+}
+
+// Free sectors.
+#[no_mangle]
+pub extern "C" fn amseokbin_free_total(
+    sectors: u64,
+    metadata: u32,
+    reserved: u32,
+    content: &[u8],
+    total: &mut [u64],
+) -> u8
+    ensures { λ n. ⌜ n ≡ numberIf (has (now (total .entry)) 1) (totalNumber (totalAnswer (deviceFrom sectors metadata reserved) (now (content .entry)))) ⌝ }
+    ensures { λ _. ⌜ now (total .exit) ≡ leftIf (has (now (total .entry)) 1) (totalLeft (totalAnswer (deviceFrom sectors metadata reserved) (now (content .entry))) (now (total .entry))) (now (total .entry)) ⌝ }
+{
+    let sized = total.len() == 1;
+    if !sized {
+        return refusal::SLICE_SIZE;
+    }
+    let d = Device {
+        sectors,
+        metadata,
+        reserved,
+    };
+    let a = room::free_total(d, content);
+    match a {
+        FreeTotal::Refused(n) => n,
+        FreeTotal::Sectors(k) => {
+            let v = [k];
+            lent::set(total, &v);
+            0
+        }
+    }
+}
+
+// Appends a segment: the new record to a buffer, its first sector and the new record's length to an array of two.
+#[no_mangle]
+pub extern "C" fn amseokbin_allocate(
+    sectors: u64,
+    metadata: u32,
+    reserved: u32,
+    content: &[u8],
+    kind: u16,
+    wanted: u64,
+    changed: &mut [u8],
+    answer: &mut [u64],
+) -> u8
+    ensures { λ n. ⌜ n ≡ numberIf (has (now (answer .entry)) 2) (allocationNumber (allocateAnswer (deviceFrom sectors metadata reserved) (now (content .entry)) kind wanted (length (now (changed .entry))))) ⌝ }
+    ensures { λ _. ⌜ now (changed .exit) ≡ leftIf (has (now (answer .entry)) 2) (allocateLeft (deviceFrom sectors metadata reserved) (now (content .entry)) kind wanted (now (changed .entry))) (now (changed .entry)) ⌝ }
+    ensures { λ _. ⌜ now (answer .exit) ≡ leftIf (has (now (answer .entry)) 2) (allocationLeft (allocateAnswer (deviceFrom sectors metadata reserved) (now (content .entry)) kind wanted (length (now (changed .entry)))) (now (answer .entry))) (now (answer .entry)) ⌝ }
+{
+    let sized = answer.len() == 2;
+    if !sized {
+        return refusal::SLICE_SIZE;
+    }
+    let d = Device {
+        sectors,
+        metadata,
+        reserved,
+    };
+    let a = room::allocate(d, content, kind, wanted, changed);
+    match a {
+        Allocation::Refused(n) => n,
+        Allocation::Placed(start, len) => {
+            let v = [start, len as u64];
+            lent::set(answer, &v);
+            0
+        }
+    }
+}
+
+// Removes the segment at a position: the new record to a buffer, its length to an array of one.
+#[no_mangle]
+pub extern "C" fn amseokbin_release(
+    sectors: u64,
+    metadata: u32,
+    reserved: u32,
+    content: &[u8],
+    position: u64,
+    changed: &mut [u8],
+    answer: &mut [u64],
+) -> u8
+    ensures { λ n. ⌜ n ≡ numberIf (has (now (answer .entry)) 1) (releaseNumber (releaseAnswer (deviceFrom sectors metadata reserved) (now (content .entry)) position (length (now (changed .entry))))) ⌝ }
+    ensures { λ _. ⌜ now (changed .exit) ≡ leftIf (has (now (answer .entry)) 1) (releaseLeft (deviceFrom sectors metadata reserved) (now (content .entry)) position (now (changed .entry))) (now (changed .entry)) ⌝ }
+    ensures { λ _. ⌜ now (answer .exit) ≡ leftIf (has (now (answer .entry)) 1) (releaseNumbers (releaseAnswer (deviceFrom sectors metadata reserved) (now (content .entry)) position (length (now (changed .entry)))) (now (answer .entry))) (now (answer .entry)) ⌝ }
+{
+    let sized = answer.len() == 1;
+    if !sized {
+        return refusal::SLICE_SIZE;
+    }
+    let d = Device {
+        sectors,
+        metadata,
+        reserved,
+    };
+    let a = room::release(d, content, position as usize, changed);
+    match a {
+        Released::Refused(n) => n,
+        Released::Length(len) => {
+            let v = [len as u64];
+            lent::set(answer, &v);
+            0
+        }
+    }
+}
