@@ -173,7 +173,12 @@ impl Run {
         for (call, listed) in CALLS {
             let counts = |number: &u64| self.answers.get(&(*call, *number)).copied().unwrap_or(0);
             let line: Vec<String> = listed.iter().map(|n| format!("{n}:{}", counts(n))).collect();
-            println!("{call:20} {}", line.join(" "));
+            if listed.is_empty() {
+                let total: u64 = self.answers.iter().filter(|(key, _)| key.0 == *call).map(|(_, n)| n).sum();
+                println!("{call:20} {total} calls");
+            } else {
+                println!("{call:20} {}", line.join(" "));
+            }
         }
         for case in LAST {
             let count = self.answers.get(&(*case, 1)).copied().unwrap_or(0);
