@@ -25,6 +25,8 @@ use Rattle.discovery.specs.declared.Answer.{Answer}
 use Rattle.discovery.specs.declared.Answer.the-variants as Answer
 use Rattle.record.specs.declared.Found.{Found}
 use Rattle.record.specs.declared.Found.the-variants as Found
+use Rattle.room.specs.declared.RunNumber.{RunNumber}
+use Rattle.room.specs.declared.RunNumber.the-variants as RunNumber
 use Rattle.room.specs.declared.FreeTotal.{FreeTotal}
 use Rattle.room.specs.declared.FreeTotal.the-variants as FreeTotal
 use Rattle.room.specs.declared.Allocation.{Allocation}
@@ -132,6 +134,15 @@ totalNumber (FreeTotal.Refused n) = n
 abbrev pub totalLeft : FreeTotal → List ℕ → List ℕ
 totalLeft (FreeTotal.Sectors k) s = k ∷ []
 totalLeft (FreeTotal.Refused n) s = s
+
+-- the free runs: how many there are
+abbrev pub runsNumber : RunNumber → ℕ
+runsNumber (RunNumber.Runs k) = 0
+runsNumber (RunNumber.Refused n) = n
+
+abbrev pub runsLeft : RunNumber → List ℕ → List ℕ
+runsLeft (RunNumber.Runs k) s = k ∷ []
+runsLeft (RunNumber.Refused n) s = s
 
 -- an allocation: the new segment's first sector, the new record's length
 abbrev pub allocationNumber : Allocation → ℕ

@@ -8,15 +8,17 @@ ghost use Rattle.record.specs.Accept.{recordTests};
 ghost use Rattle.record.specs.Answers.{segmentAnswer};
 ghost use Rattle.record.specs.Making.{beginTests, begun, unless};
 ghost use Rattle.room.specs.Answers.{totalAnswer};
+ghost use Rattle.room.specs.Table.{numbersAnswer, numbersLeft};
 ghost use Rattle.room.specs.Change.{allocateAnswer, allocateLeft, releaseAnswer, releaseLeft};
 ghost use Rattle.capi.specs.Lent.{has, numberIf, leftIf};
-ghost use Rattle.capi.specs.Answers.{deviceFrom, segmentNumber, segmentLeft, totalNumber, totalLeft, allocationNumber, allocationLeft, releaseNumber, releaseNumbers};
+ghost use Rattle.capi.specs.Answers.{deviceFrom, segmentNumber, segmentLeft, totalNumber, totalLeft, runsNumber, runsLeft, allocationNumber, allocationLeft, releaseNumber, releaseNumbers};
 use crate::lent;
 use layout::Device;
 use record::Found;
 use room::Allocation;
 use room::FreeTotal;
 use room::Released;
+use room::RunNumber;
 
 // Checks a record on a device.
 #[no_mangle]
@@ -138,6 +140,40 @@ pub extern "C" fn amseokbin_free_total(
         FreeTotal::Sectors(k) => {
             let v = [k];
             lent::set(total, &v);
+            0
+        }
+    }
+}
+
+// The free runs, ascending, to a table of numbers, a start and a length for each; how many there are, to an array of one.
+#[no_mangle]
+pub extern "C" fn amseokbin_free_runs(
+    sectors: u64,
+    metadata: u32,
+    reserved: u32,
+    content: &[u8],
+    table: &mut [u64],
+    runs: &mut [u64],
+) -> u8
+    ensures { λ n. ⌜ n ≡ numberIf (has (now (runs .entry)) 1) (runsNumber (numbersAnswer (deviceFrom sectors metadata reserved) (now (content .entry)) (length (now (table .entry))))) ⌝ }
+    ensures { λ _. ⌜ now (table .exit) ≡ leftIf (has (now (runs .entry)) 1) (numbersLeft (deviceFrom sectors metadata reserved) (now (content .entry)) (now (table .entry))) (now (table .entry)) ⌝ }
+    ensures { λ _. ⌜ now (runs .exit) ≡ leftIf (has (now (runs .entry)) 1) (runsLeft (numbersAnswer (deviceFrom sectors metadata reserved) (now (content .entry)) (length (now (table .entry)))) (now (runs .entry))) (now (runs .entry)) ⌝ }
+{
+    let sized = runs.len() == 1;
+    if !sized {
+        return refusal::SLICE_SIZE;
+    }
+    let d = Device {
+        sectors,
+        metadata,
+        reserved,
+    };
+    let a = room::free_run_numbers(d, content, table);
+    match a {
+        RunNumber::Refused(n) => n,
+        RunNumber::Runs(k) => {
+            let v = [k];
+            lent::set(runs, &v);
             0
         }
     }
