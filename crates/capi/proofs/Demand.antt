@@ -4,6 +4,7 @@ use mathlib.Core.Path.{_≡_, sym, ap, _∙_}
 use mathlib.Core.Bool.{Bool, true, _&&_}
 use mathlib.Core.List.{List}
 use borrow.Author.Tests.{eq-eqb}
+use lib.Dec.{eqb}
 use lib.ListN.{length}
 use Rattle.endian.proofs.Tests.{and-both}
 use Rattle.layout.specs.declared.Device.{Device}
@@ -12,7 +13,7 @@ use Rattle.block.specs.declared.Time.{Time}
 use Rattle.discovery.specs.declared.Record.{Record}
 use Rattle.discovery.specs.declared.Other.{Other}
 use Rattle.discovery.specs.declared.Answer.the-variants.{Found}
-use Rattle.discovery.specs.Discovery.{discovery}
+use Rattle.discovery.specs.Discovery.{sized, discovery}
 use Rattle.device.specs.Device.{Sectors, stores, copyFrom}
 use Rattle.update.specs.declared.Plan.{Plan}
 use Rattle.update.specs.declared.Planned.{Planned}
@@ -22,9 +23,11 @@ use Rattle.update.specs.declared.Given.the-variants as Given
 use Rattle.update.specs.Plan as Update
 use Rattle.update.specs.Demand.{Start, planOn, groupsOn}
 use Rattle.update.proofs.Choosing.{no-store}
+use Rattle.update.proofs.Facts.{sized-copies}
 use Rattle.update.proofs.Demand as Updates
 use Rattle.mend.specs.declared.Mending.{Mending}
 use Rattle.mend.specs.Plan as Mend
+use Rattle.mend.proofs.Kept.{found-sized}
 use Rattle.mend.proofs.Giving as Mends
 use Rattle.capi.specs.Lent.{has, numberIf, leftIf}
 use Rattle.capi.specs.Plans.{encodedPlan, decodedPlan, encodedMend, decodedMend}
@@ -95,7 +98,8 @@ giving v d t r s st n =
             λ i out m l room one. update-stored v d t r s st n i out m one (Given.Refused 23) out (
                 let q : (Given.Refused 23 ≡ Update.storeAnswer (planOn v d t r) (copyFrom Front v d) (copyFrom Back v d) i out)
                 × (out ≡ Update.storeBytes (planOn v d t r) (copyFrom Front v d) (copyFrom Back v d) r i out) =
-                no-store (planOn v d t r) (copyFrom Front v d) (copyFrom Back v d) r i out room _ (sym k) l in
+                no-store (planOn v d t r) (copyFrom Front v d) (copyFrom Back v d) r i out
+                (and-both (sized (copyFrom Front v d) (copyFrom Back v d)) (eqb (length out) 512) (sized-copies v d d (st .sound) (st .sound)) (eq-eqb (length out) 512 room)) _ (sym k) l in
                 (sym (q .0), sym (q .1))
                 ),
           ),
@@ -135,7 +139,7 @@ mending f b s q o e n =
               ∙ (ap (λ (p : Mending). Mend.groupOf p i) (mend-read f b s q o e n) ∙ Mends.giving f b .1 .0 g i h a z),
           (
             λ i out m l room one. mend-stored f b s q o e n i out m one _ _ (Mends.giving f b .1 .1 .0 i out l room),
-            λ i out m l room one. mend-stored f b s q o e n i out m one _ _ (Mends.giving f b .1 .1 .1 i out l room),
+            λ i out m l room one. mend-stored f b s q o e n i out m one _ _ (Mends.giving f b .1 .1 .1 i out l (found-sized f b q o e) room),
           ),
         ),
       ),

@@ -6,7 +6,6 @@ use mathlib.Core.List.{List}
 use native.Mathlib.Omega.{arith}
 use borrow.Author.Tests.{lt-ltb, le-ltb, le-leb, lt-leb, eq-eqb, ne-eqb}
 use lib.Dec.{leb, eqb}
-use lib.ListN.{length}
 use Rattle.endian.specs.Bytes.{window}
 use Rattle.refusal.specs.Numbers.{noStore}
 use Rattle.layout.specs.declared.Side.{Side}
@@ -16,7 +15,7 @@ use Rattle.discovery.specs.Copy.{areaBytes}
 use Rattle.discovery.specs.Discovery.{copyOn}
 use Rattle.update.specs.declared.Given.{Given}
 use Rattle.update.specs.declared.Given.the-variants as Given
-use Rattle.update.specs.Plan.{blockAnswer, blockBytes, partAnswer, partBytes}
+use Rattle.update.specs.Plan.{lentRight, blockAnswer, blockBytes, partAnswer, partBytes}
 use Rattle.mend.specs.declared.Last.{Last}
 use Rattle.mend.specs.declared.Last.the-variants as Last
 use Rattle.mend.specs.declared.Rewrite.{Rewrite}
@@ -109,22 +108,22 @@ no-such p c i out h =
     tested p c i out (Given.Refused 23) out false false false (ne-eqb i 0 z) (lt-leb i (p .sectors + 1) a) (lt-leb i (p .sectors + 2) h) refl refl
 
 module _ (m : Mending) (f b : List ℕ) (i : ℕ) (out : List ℕ) where
-  pub wrong-size : (length out ≡ 512 → ⊥) → (Given.Refused 1 ≡ storeAnswer m f b i out) × (out ≡ storeBytes m f b i out)
+  pub wrong-size : lentRight f b out ≡ false → (Given.Refused 1 ≡ storeAnswer m f b i out) × (out ≡ storeBytes m f b i out)
   wrong-size h = (
-    sym (ap (λ (t : Bool). cond t (mendAnswer m f b i out) (Given.Refused 1)) (ne-eqb (length out) 512 h)),
-    sym (ap (λ (t : Bool). cond t (mendBytes m f b i out) out) (ne-eqb (length out) 512 h)),
+    sym (ap (λ (t : Bool). cond t (mendAnswer m f b i out) (Given.Refused 1)) h),
+    sym (ap (λ (t : Bool). cond t (mendBytes m f b i out) out) h),
   )
 
-  pub right-size : length out ≡ 512 → (g : Given) (w : List ℕ) (n : Mending) → m ≡ n → g ≡ mendAnswer n f b i out → w ≡ mendBytes n f b i out
+  pub right-size : lentRight f b out ≡ true → (g : Given) (w : List ℕ) (n : Mending) → m ≡ n → g ≡ mendAnswer n f b i out → w ≡ mendBytes n f b i out
       → (g ≡ storeAnswer m f b i out) × (w ≡ storeBytes m f b i out)
   right-size h g w n e x y = (
     x
         ∙ (ap (λ (z : Mending). mendAnswer z f b i out) (sym e)
-        ∙ sym (ap (λ (t : Bool). cond t (mendAnswer m f b i out) (Given.Refused 1)) (eq-eqb (length out) 512 h))),
-    y ∙ (ap (λ (z : Mending). mendBytes z f b i out) (sym e) ∙ sym (ap (λ (t : Bool). cond t (mendBytes m f b i out) out) (eq-eqb (length out) 512 h))),
+        ∙ sym (ap (λ (t : Bool). cond t (mendAnswer m f b i out) (Given.Refused 1)) h)),
+    y ∙ (ap (λ (z : Mending). mendBytes z f b i out) (sym e) ∙ sym (ap (λ (t : Bool). cond t (mendBytes m f b i out) out) h)),
   )
 
-  pub kept-store : length out ≡ 512 → (g : Given) (w : List ℕ) (p : Rewrite) → m ≡ Mending.Needed p → (s : Side) → p .kept ≡ s
+  pub kept-store : lentRight f b out ≡ true → (g : Given) (w : List ℕ) (p : Rewrite) → m ≡ Mending.Needed p → (s : Side) → p .kept ≡ s
       → g ≡ rewriteAnswer p (copyOn s f b) i out → w ≡ rewriteBytes p (copyOn s f b) i out
       → (g ≡ storeAnswer m f b i out) × (w ≡ storeBytes m f b i out)
   kept-store h g w p e s k x y =

@@ -7,7 +7,10 @@ use mathlib.Core.List.{List, [], _∷_, map}
 use native.Mathlib.Nat.{not-suc-le-zero, add-zero}
 use native.Mathlib.Decide.{decLe}
 use native.Mathlib.Omega.{arith}
+use borrow.Author.Tests.{eq-eqb}
+use lib.Dec.{eqb}
 use lib.ListN.{length, take}
+use Rattle.endian.proofs.Tests.{and-both}
 use Rattle.refusal.specs.Numbers.{noStore}
 use Rattle.layout.specs.declared.Area.the-variants.{A}
 use Rattle.layout.specs.Limits.{recordLimit}
@@ -19,14 +22,14 @@ use Rattle.discovery.specs.declared.Other.{Other}
 use Rattle.discovery.specs.declared.Answer.{Answer}
 use Rattle.discovery.specs.declared.Answer.the-variants as Answer
 use Rattle.discovery.specs.Copy.{blockIn, otherSide}
-use Rattle.discovery.specs.Discovery.{discovery, inStep, copyOn, recordBytes}
+use Rattle.discovery.specs.Discovery.{sized, discovery, inStep, copyOn, recordBytes}
 use Rattle.device.specs.Device.{Store, Groups, stores, storeIn, groupStart, areaSectors}
 use Rattle.device.proofs.Copies.{limit-sectors, limit-small}
 use Rattle.device.proofs.Groups.{total}
 use Rattle.update.specs.declared.Given.{Given}
 use Rattle.update.specs.declared.Given.the-variants as Given
 use Rattle.update.specs.Update.{deviceIn, sectorsOf}
-use Rattle.update.specs.Plan.{blockAnswer, blockBytes, partAnswer, partBytes}
+use Rattle.update.specs.Plan.{lentRight, blockAnswer, blockBytes, partAnswer, partBytes}
 use Rattle.update.proofs.NewBlock.{number-fits}
 use Rattle.update.proofs.Padding.{sectors-most}
 use Rattle.update.proofs.Places.{Sizes, sizes-accepted, area-below}
@@ -40,7 +43,7 @@ use Rattle.mend.specs.Mend.{blockLike, blanked, laterWhole, rewriting, g
 use Rattle.mend.specs.Plan.{rewriteOf, mendingAfter, mending, lastCount, storesIn, groupIn, groupOf, lastAnswer, lastBytes, rewriteAnswer, rewriteBytes, mendAnswer, mendBytes, storeAnswer, storeBytes}
 use Rattle.mend.specs.Demand.{Giving}
 use Rattle.mend.proofs.Choosing.{right-size, first-store, part-store, last-stored, no-such, in-first, in-record, in-second, in-last}
-use Rattle.mend.proofs.Kept.{Kept, held, kept, found-long}
+use Rattle.mend.proofs.Kept.{Kept, found-sized, held, kept, found-long}
 use Rattle.mend.proofs.Stores.{filledBlock, at-first, at-sector, at-second, at-last, last-none, last-one, count-whole, count-blank, group-starts, which}
 use Rattle.mend.proofs.Blocks.{Right, right-empty, right-filled, right-blank, like-writes, like-written}
 
@@ -51,8 +54,11 @@ Agrees f b m gs =
     × (((g i : ℕ) → g < 4 → groupStart gs g ≤ i → i < groupStart gs (suc g) → groupOf m i ≡ g)
     × (((i : ℕ) (out : List ℕ) → i < length (stores gs) → length out ≡ 512
     → (storeAnswer m f b i out ≡ Given.At (storeIn gs i .sector)) × (storeBytes m f b i out ≡ storeIn gs i .content))
-    × ((i : ℕ) (out : List ℕ) → length (stores gs) ≤ i → length out ≡ 512
+    × ((i : ℕ) (out : List ℕ) → length (stores gs) ≤ i → sized f b ≡ true → length out ≡ 512
     → (storeAnswer m f b i out ≡ Given.Refused noStore) × (storeBytes m f b i out ≡ out))))
+
+lent : (f b out : List ℕ) → sized f b ≡ true → length out ≡ 512 → lentRight f b out ≡ true
+lent f b out z room = and-both (sized f b) (eqb (length out) 512) z (eq-eqb (length out) 512 room)
 
 -- nothing to store
 starts-none : (g : ℕ) → groupStart [] g ≡ 0
@@ -69,9 +75,9 @@ nothing f b m e h = (
     λ g i l p q. absurd (not-suc-le-zero (subst (λ (n : ℕ). i < n) (starts-none (suc g)) q)),
     (
       λ i out l room. absurd (not-suc-le-zero l),
-      λ i out l room.
+      λ i out l z room.
           let a : (mendAnswer m f b i out ≡ storeAnswer m f b i out) × (mendBytes m f b i out ≡ storeBytes m f b i out) =
-          right-size m f b i out room _ _ m refl refl refl in
+          right-size m f b i out (lent f b out z room) _ _ m refl refl refl in
           (sym (a .0) ∙ h i out .0, sym (a .1) ∙ h i out .1),
     ),
   ),
@@ -175,7 +181,7 @@ module _ (f b : List ℕ) (q : Record) (o : Other) (e : discovery f b ≡ Answer
     -- what the plan's answers are at a number
     answers : (i : ℕ) (g : Given) (w : List ℕ) → (g ≡ rewriteAnswer p c i out) × (w ≡ rewriteBytes p c i out)
         → (g ≡ storeAnswer (Mending.Needed p) f b i out) × (w ≡ storeBytes (Mending.Needed p) f b i out)
-    answers i g w h = right-size (Mending.Needed p) f b i out room g w (Mending.Needed p) refl (h .0) (h .1)
+    answers i g w h = right-size (Mending.Needed p) f b i out (lent f b out (found-sized f b q o e) room) g w (Mending.Needed p) refl (h .0) (h .1)
 
     joined : (i : ℕ) (g : Given) (w : List ℕ) (s : Store) → (g ≡ rewriteAnswer p c i out) × (w ≡ rewriteBytes p c i out) → (g ≡ Given.At (s .sector)) × (w ≡ s .content)
         → storeIn gs i ≡ s
@@ -250,7 +256,7 @@ module _ (f b : List ℕ) (q : Record) (o : Other) (e : discovery f b ≡ Answer
             absurd (let z : _≡_ {A = ℕ} 0 1 = omega arith in omega arith)
 
   needed : Agrees f b (Mending.Needed p) gs
-  needed = (counted, (grouped, (λ i out l room. given out room i l, λ i out l room. past out room i l)))
+  needed = (counted, (grouped, (λ i out l room. given out room i l, λ i out l z room. past out room i l)))
 
 module _ (f b : List ℕ) where
   by-answer : (a : Answer) → discovery f b ≡ a → Agrees f b (mendingAfter a f b) (groupsAfter a f b)

@@ -3,6 +3,7 @@
 use Prim.Native.Nat.{ℕ, suc, _+_, _≤_, _<_}
 use mathlib.Core.Path.{_≡_}
 use mathlib.Core.Logic.{_⊎_}
+use mathlib.Core.Bool.{true}
 use mathlib.Core.List.{List}
 use lib.ListN.{length}
 use Rattle.refusal.specs.Numbers.{noStore}
@@ -14,7 +15,7 @@ use Rattle.discovery.specs.declared.Record.{Record}
 use Rattle.discovery.specs.declared.Other.{Other}
 use Rattle.discovery.specs.declared.Answer.the-variants.{Found}
 use Rattle.discovery.specs.Copy.{otherSide}
-use Rattle.discovery.specs.Discovery.{discovery, recordBytes}
+use Rattle.discovery.specs.Discovery.{sized, discovery, recordBytes}
 use Rattle.discovery.specs.Newest.{timeAt}
 use Rattle.device.specs.Device.{Sectors, Sound, stores, storeIn, groupStart, allLanded, copyFrom}
 use Rattle.update.specs.declared.Given.the-variants.{At, Refused}
@@ -57,7 +58,7 @@ Touching =
     × (storeIn (mendGroups (copyFrom Front v d) (copyFrom Back v d)) i .sector ≡ blockSector (q .side) v)))
 
 -- What the calls give, for any two copies: the count is the length of the list of stores, each store is in its group, each is
--- given with its sector and its 512 bytes, and past the last there is none.
+-- given with its sector and its 512 bytes, and past the last there is none of copies by their size.
 abbrev pub Giving : Type 0
 Giving =
     (f b : List ℕ)
@@ -65,5 +66,5 @@ Giving =
     × (((g i : ℕ) → g < 4 → groupStart (mendGroups f b) g ≤ i → i < groupStart (mendGroups f b) (suc g) → groupOf (mending f b) i ≡ g)
     × (((i : ℕ) (out : List ℕ) → i < length (stores (mendGroups f b)) → length out ≡ 512
     → (storeAnswer (mending f b) f b i out ≡ At (storeIn (mendGroups f b) i .sector)) × (storeBytes (mending f b) f b i out ≡ storeIn (mendGroups f b) i .content))
-    × ((i : ℕ) (out : List ℕ) → length (stores (mendGroups f b)) ≤ i → length out ≡ 512
+    × ((i : ℕ) (out : List ℕ) → length (stores (mendGroups f b)) ≤ i → sized f b ≡ true → length out ≡ 512
     → (storeAnswer (mending f b) f b i out ≡ Refused noStore) × (storeBytes (mending f b) f b i out ≡ out))))

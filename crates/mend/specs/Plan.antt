@@ -5,7 +5,6 @@ use Prim.Native.Nat.{ℕ, _+_, _-_}
 use mathlib.Core.Bool.{cond}
 use mathlib.Core.List.{List}
 use lib.Dec.{leb, ltb, eqb}
-use lib.ListN.{length}
 use Rattle.refusal.specs.Numbers.{sliceSize, noStore}
 use Rattle.layout.specs.declared.Side.{Side}
 use Rattle.layout.specs.declared.Area.the-variants.{A}
@@ -19,7 +18,7 @@ use Rattle.discovery.specs.Discovery.{discovery, inStep, copyOn}
 use Rattle.update.specs.declared.Given.{Given}
 use Rattle.update.specs.declared.Given.the-variants as Given
 use Rattle.update.specs.Update.{deviceIn, sectorsOf}
-use Rattle.update.specs.Plan.{blockAnswer, blockBytes, partAnswer, partBytes}
+use Rattle.update.specs.Plan.{lentRight, blockAnswer, blockBytes, partAnswer, partBytes}
 use Rattle.mend.specs.declared.Last.{Last}
 use Rattle.mend.specs.declared.Last.the-variants as Last
 use Rattle.mend.specs.declared.Rewrite.{Rewrite}
@@ -99,7 +98,7 @@ rewriteBytes p c i out =
     (cond (leb i (p .sectors + 1)) (partBytes (p .part) (p .sectors) c (areaBytes c (p .area) (p .bytes)) (i - 1) out)
     (cond (leb i (p .sectors + 2)) (lastBytes (p .last) c out) out))
 
--- what `store` answers and leaves: 1 unless 512 bytes are lent, 23 past the last store
+-- what `store` answers and leaves, where the slices have their sizes: 23 past the last store
 abbrev pub mendAnswer : Mending → List ℕ → List ℕ → ℕ → List ℕ → Given
 mendAnswer Mending.InStep f b i out = Given.Refused noStore
 mendAnswer (Mending.Needed p) f b i out = rewriteAnswer p (copyOn (p .kept) f b) i out
@@ -110,8 +109,9 @@ mendBytes Mending.InStep f b i out = out
 mendBytes (Mending.Needed p) f b i out = rewriteBytes p (copyOn (p .kept) f b) i out
 mendBytes (Mending.Refused n) f b i out = out
 
+-- 1 for a slice of another size
 abbrev pub storeAnswer : Mending → List ℕ → List ℕ → ℕ → List ℕ → Given
-storeAnswer m f b i out = cond (eqb (length out) 512) (mendAnswer m f b i out) (Given.Refused sliceSize)
+storeAnswer m f b i out = cond (lentRight f b out) (mendAnswer m f b i out) (Given.Refused sliceSize)
 
 abbrev pub storeBytes : Mending → List ℕ → List ℕ → ℕ → List ℕ → List ℕ
-storeBytes m f b i out = cond (eqb (length out) 512) (mendBytes m f b i out) out
+storeBytes m f b i out = cond (lentRight f b out) (mendBytes m f b i out) out

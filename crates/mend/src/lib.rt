@@ -205,13 +205,15 @@ fn put_rewrite(p: Rewrite, c: &[u8], i: u64, out: &mut [u8]) -> Given
 }
 
 // The store of a mend with number i, counted from 0: its 512 bytes into out, its sector as the answer. The copies are those
-// that the mend was worked out from. 1 unless out has 512 bytes, 23 past the last store; a block that the writer refuses
+// that the mend was worked out from. 1 for a slice of another size, 23 past the last store; a block that the writer refuses
 // gives its number. Then out stays.
 pub fn store(m: Mending, f: &[u8], b: &[u8], i: u64, out: &mut [u8]) -> Given
     ensures { λ g. ⌜ g ≡ storeAnswer m (now (f .entry)) (now (b .entry)) i (now (out .entry)) ⌝ }
     ensures { λ _. ⌜ now (out .exit) ≡ storeBytes m (now (f .entry)) (now (b .entry)) i (now (out .entry)) ⌝ }
 {
-    if out.len() != 512 {
+    let n = layout::copy_bytes();
+    let sized = ((f.len() == n) & (b.len() == n)) & (out.len() == 512);
+    if !sized {
         return Given::Refused(refusal::SLICE_SIZE);
     }
     match m {

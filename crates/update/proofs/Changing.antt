@@ -6,19 +6,17 @@ use native.Mathlib.Decide.{decLe}
 use native.Mathlib.Omega.{arith}
 use lib.ListN.{length, getD, length-append, List·getD-append}
 use lib.Seq.{getD-append-add}
-use Rattle.endian.specs.Bytes.{Bytes, toLe, zeros}
+use Rattle.endian.specs.Bytes.{toLe, zeros}
 use Rattle.endian.proofs.Numbers.{length-toLe}
 use Rattle.endian.proofs.Parts.{length-window-fits}
 use Rattle.endian.proofs.Tests.{length-zeros}
 use Rattle.checksum.specs.Crc.{checksum}
-use Rattle.refusal.specs.Tests.{first}
 use Rattle.layout.specs.declared.Area.{Area}
 use Rattle.layout.specs.declared.Area.the-variants.{A, B}
-use Rattle.block.specs.declared.Holding.{Holding}
 use Rattle.block.specs.declared.Entry.{Entry}
 use Rattle.block.specs.declared.Entry.the-variants.{Used}
 use Rattle.block.specs.declared.BlockFields.{BlockFields}
-use Rattle.block.specs.Block.{signatureBytes, poolOf, uuidOf, fieldsOf, readTests}
+use Rattle.block.specs.Block.{signatureBytes, poolOf, uuidOf, fieldsOf}
 use Rattle.block.specs.Writing.{holdingOf, join, bodyFields, blockOf}
 use Rattle.block.proofs.Readings.{accepted-length}
 use Rattle.block.proofs.Exactly.{obeys}

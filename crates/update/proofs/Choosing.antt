@@ -1,13 +1,14 @@
 -- Which case of the answers applies, from what the code has tested. Assumes nothing.
 use Prim.Native.Nat.{ℕ, _+_, _-_, _*_, _≤_, _<_}
 use mathlib.Core.Path.{_≡_, refl, sym, ap, ap₂, _∙_}
-use mathlib.Core.Bool.{Bool, true, false, cond}
+use mathlib.Core.Bool.{Bool, true, false, cond, not, _&&_}
 use mathlib.Core.List.{List}
-use borrow.Author.Tests.{lt-ltb, le-ltb, le-leb, lt-leb, eq-eqb, ne-eqb}
+use borrow.Author.Tests.{lt-ltb, le-ltb, le-leb, lt-leb, eq-eqb, ne-eqb, not-true, not-false}
 use lib.Dec.{leb, ltb, eqb}
 use lib.ListN.{length}
 use Rattle.refusal.specs.Numbers.{noStore}
 use Rattle.refusal.specs.Tests.{first}
+use Rattle.layout.specs.Places.{copyBytes}
 use Rattle.block.specs.declared.BlockFields.{BlockFields}
 use Rattle.block.specs.Block.{poolOf, uuidOf}
 use Rattle.block.specs.Writing.{writeTests, written}
@@ -17,7 +18,7 @@ use Rattle.update.specs.declared.Plan.{Plan}
 use Rattle.update.specs.declared.Given.{Given}
 use Rattle.update.specs.declared.Given.the-variants as Given
 use Rattle.update.specs.Update.{sectorOf}
-use Rattle.update.specs.Plan.{storesIn, groupOf, sectorIn, within, unlessRefused, blockAnswer, blockBytes, partAnswer, partBytes, storeAnswer, storeBytes}
+use Rattle.update.specs.Plan.{storesIn, groupOf, sectorIn, within, unlessRefused, blockAnswer, blockBytes, partAnswer, partBytes, storeAnswer, storeBytes, lentRight}
 use Rattle.update.proofs.Padding.{sector-laid}
 
 -- the first two of three tests hold
@@ -97,13 +98,24 @@ module _ (p : Part) (k : ℕ) (c r : List ℕ) (j : ℕ) (out : List ℕ) where
       part-block p k c r j out h _ _ refl refl in
       (sym (g .0) ∙ x .0, sym (g .1) ∙ x .1)
 
-module _ (p : Plan) (f b r : List ℕ) (i : ℕ) (out : List ℕ) where
-  pub wrong-size : (length out ≡ 512 → ⊥) → (Given.Refused 1 ≡ storeAnswer p f b i out) × (out ≡ storeBytes p f b r i out)
-  wrong-size h = (rw (ne-eqb (length out) 512 h), rw (ne-eqb (length out) 512 h))
+-- the sizes of the slices, as the code tests them with the size m of a copy
+module _ (f b out : List ℕ) (m : ℕ) (e : m ≡ copyBytes) where
+  sizes : ((eqb (length f) m && eqb (length b) m) && eqb (length out) 512) ≡ lentRight f b out
+  sizes = ap (λ (n : ℕ). (eqb (length f) n && eqb (length b) n) && eqb (length out) 512) e
 
-  module _ (s : length out ≡ 512) (n : ℕ) (e : n ≡ storesIn p) where
+  pub sizes-wrong : not ((eqb (length f) m && eqb (length b) m) && eqb (length out) 512) ≡ true → lentRight f b out ≡ false
+  sizes-wrong h = sym sizes ∙ not-true ((eqb (length f) m && eqb (length b) m) && eqb (length out) 512) h
+
+  pub sizes-right : not ((eqb (length f) m && eqb (length b) m) && eqb (length out) 512) ≡ false → lentRight f b out ≡ true
+  sizes-right h = sym sizes ∙ not-false ((eqb (length f) m && eqb (length b) m) && eqb (length out) 512) h
+
+module _ (p : Plan) (f b r : List ℕ) (i : ℕ) (out : List ℕ) where
+  pub wrong-size : lentRight f b out ≡ false → (Given.Refused 1 ≡ storeAnswer p f b i out) × (out ≡ storeBytes p f b r i out)
+  wrong-size h = (rw h, rw h)
+
+  module _ (s : lentRight f b out ≡ true) (n : ℕ) (e : n ≡ storesIn p) where
     pub no-store : n ≤ i → (Given.Refused 23 ≡ storeAnswer p f b i out) × (out ≡ storeBytes p f b r i out)
-    no-store h = (rw (eq-eqb (length out) 512 s, sym (ap (ltb i) e), le-ltb i n h), rw (eq-eqb (length out) 512 s, sym (ap (ltb i) e), le-ltb i n h))
+    no-store h = (rw (s, sym (ap (ltb i) e), le-ltb i n h), rw (s, sym (ap (ltb i) e), le-ltb i n h))
 
     module _ (l : i < n) (g : Given) (w : List ℕ) where
       below : ltb i (storesIn p) ≡ true
@@ -114,8 +126,8 @@ module _ (p : Plan) (f b r : List ℕ) (i : ℕ) (out : List ℕ) where
           → w ≡ cond v (partBytes (p .front) (p .sectors) f r i out) (partBytes (p .back) (p .sectors) b r (i - (p .sectors + 1)) out)
           → (g ≡ storeAnswer p f b i out) × (w ≡ storeBytes p f b r i out)
       half-store v h x y = (
-        x ∙ sym (chosen (eqb (length out) 512) (ltb i (storesIn p)) (leb i (p .sectors)) v _ _ _ _ (eq-eqb (length out) 512 s) below h),
-        y ∙ sym (chosen (eqb (length out) 512) (ltb i (storesIn p)) (leb i (p .sectors)) v _ _ _ _ (eq-eqb (length out) 512 s) below h),
+        x ∙ sym (chosen (lentRight f b out) (ltb i (storesIn p)) (leb i (p .sectors)) v _ _ _ _ s below h),
+        y ∙ sym (chosen (lentRight f b out) (ltb i (storesIn p)) (leb i (p .sectors)) v _ _ _ _ s below h),
       )
 
       pub front-store : i ≤ p .sectors → g ≡ partAnswer (p .front) (p .sectors) f i out → w ≡ partBytes (p .front) (p .sectors) f r i out

@@ -7,8 +7,10 @@ use mathlib.Core.List.{List}
 use native.Mathlib.Decide.{ℕ-discrete}
 use native.Mathlib.Nat.{le-refl}
 use native.Mathlib.Omega.{arith}
-use lib.Dec.{leb, lit<}
+use borrow.Author.Tests.{eq-eqb}
+use lib.Dec.{leb, lit<, eqb}
 use lib.ListN.{length}
+use Rattle.endian.proofs.Tests.{and-both}
 use Rattle.refusal.specs.Tests.{first, AllHold}
 use Rattle.refusal.proofs.Order.{first-holds, answer-yes}
 use Rattle.layout.specs.declared.Device.{Device}
@@ -40,7 +42,7 @@ use Rattle.update.specs.declared.Plan.{Plan}
 use Rattle.update.specs.declared.Given.{Given}
 use Rattle.update.specs.declared.Given.the-variants as Given
 use Rattle.update.specs.declared.Planned.the-variants as Planned
-use Rattle.update.specs.Plan.{partOf, storesIn, partAnswer, partBytes, storeAnswer, storeBytes}
+use Rattle.update.specs.Plan.{partOf, storesIn, partAnswer, partBytes, storeAnswer, storeBytes, lentRight}
 use Rattle.update.specs.Demand.{Gives, heldIn, recordIn, InStepOn, Start, Excused, groupsOn, planOn, Cutting, after, Landing, Giving}
 use Rattle.update.proofs.NewBlock.{number-fits, device-kept, new-reads, new-writes, new-written}
 use Rattle.update.proofs.Holding.{Holds, newest-changed}
@@ -409,6 +411,9 @@ module _ (v : Device) (d : Sectors) (t : Time) (r : List ℕ) (s : Start v d t r
     )
 
   module _ (out : List ℕ) (room : length out ≡ 512) where
+    lent : lentRight (copy Front) (copy Back) out ≡ true
+    lent = and-both (sized (copy Front) (copy Back)) (eqb (length out) 512) (stepped .sizes) (eq-eqb (length out) 512 room)
+
     -- the plan gives it at that number
     plan-gives : (w : Side) (j : ℕ) → j ≤ k
         → (partAnswer (part w (deviceIn (copy Front))) k (copy w) j out ≡ storeAnswer plan (copy Front) (copy Back) (begin k w + j) out)
@@ -416,13 +421,13 @@ module _ (v : Device) (d : Sectors) (t : Time) (r : List ℕ) (s : Start v d t r
     plan-gives Front j l =
         let n : j ≡ 0 + j = omega arith in
         let z : 0 + j < storesIn plan = omega arith in
-        front-store plan (copy Front) (copy Back) r (0 + j) out room _ refl z _ _ (omega arith)
+        front-store plan (copy Front) (copy Back) r (0 + j) out lent _ refl z _ _ (omega arith)
         (ap (λ (i : ℕ). partAnswer (part Front (deviceIn (copy Front))) k (copy Front) i out) n)
         (ap (λ (i : ℕ). partBytes (part Front (deviceIn (copy Front))) k (copy Front) r i out) n)
     plan-gives Back j l =
         let n : j ≡ k + 1 + j - (k + 1) = omega arith in
         let z : k + 1 + j < storesIn plan = omega arith in
-        back-store plan (copy Front) (copy Back) r (k + 1 + j) out room _ refl z _ _ (omega arith)
+        back-store plan (copy Front) (copy Back) r (k + 1 + j) out lent _ refl z _ _ (omega arith)
         (ap (λ (i : ℕ). partAnswer (part Back (deviceIn (copy Front))) k (copy Back) i out) n)
         (ap (λ (i : ℕ). partBytes (part Back (deviceIn (copy Front))) k (copy Back) r i out) n)
 

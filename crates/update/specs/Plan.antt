@@ -1,7 +1,7 @@
 -- What the calls of an update answer: a plan worked out once, and its stores by their number. A plan may be anything a
 -- caller makes up; `Demand.Giving` says that the stores of an update's plan are those of `Update.updateGroups`. Assumes nothing.
 use Prim.Native.Nat.{ℕ, _+_, _-_, _*_}
-use mathlib.Core.Bool.{Bool, cond}
+use mathlib.Core.Bool.{Bool, cond, _&&_}
 use mathlib.Core.List.{List, [], _∷_, _++_}
 use lib.Dec.{leb, ltb, eqb}
 use lib.ListN.{length}
@@ -21,6 +21,7 @@ use Rattle.block.specs.declared.BlockFields.{BlockFields}
 use Rattle.block.specs.Block.{poolOf, uuidOf, fieldsOf}
 use Rattle.block.specs.Writing.{writeTests, written}
 use Rattle.discovery.specs.Copy.{blockIn}
+use Rattle.discovery.specs.Discovery.{sized}
 use Rattle.update.specs.declared.Part.{Part}
 use Rattle.update.specs.declared.Plan.{Plan}
 use Rattle.update.specs.declared.Planned.{Planned}
@@ -86,10 +87,14 @@ partBytes p k c r j out =
     cond (ltb j k) (cond (within (p .area) j) (sectorIn r j out) out)
     (blockBytes (p .fields) c out)
 
--- what `store` answers and leaves: 1 unless 512 bytes are lent, 23 past the last store, else the front's and then the back's
+-- the slices have their sizes: two copies, and 512 bytes
+abbrev pub lentRight : List ℕ → List ℕ → List ℕ → Bool
+lentRight f b out = sized f b && eqb (length out) 512
+
+-- what `store` answers and leaves: 1 for a slice of another size, 23 past the last store, else the front's and then the back's
 abbrev pub storeAnswer : Plan → List ℕ → List ℕ → ℕ → List ℕ → Given
 storeAnswer p f b i out =
-    cond (eqb (length out) 512)
+    cond (lentRight f b out)
     (cond (ltb i (storesIn p))
     (cond (leb i (p .sectors)) (partAnswer (p .front) (p .sectors) f i out) (partAnswer (p .back) (p .sectors) b (i - (p .sectors + 1)) out))
     (Given.Refused noStore))
@@ -97,7 +102,7 @@ storeAnswer p f b i out =
 
 abbrev pub storeBytes : Plan → List ℕ → List ℕ → List ℕ → ℕ → List ℕ → List ℕ
 storeBytes p f b r i out =
-    cond (eqb (length out) 512)
+    cond (lentRight f b out)
     (cond (ltb i (storesIn p))
     (cond (leb i (p .sectors)) (partBytes (p .front) (p .sectors) f r i out) (partBytes (p .back) (p .sectors) b r (i - (p .sectors + 1)) out))
     out)

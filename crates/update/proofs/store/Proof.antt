@@ -1,17 +1,20 @@
 -- `update::store` meets its contract. Assumes nothing.
-use Rattle.update.proofs.Choosing.{wrong-size, no-store, front-store, back-store}
+use Rattle.update.proofs.Choosing.{sizes-wrong, sizes-right, wrong-size, no-store, front-store, back-store}
 use borrow.Author.Needs.{needs}
 use Rattle.update.proofs.store.Statement.{statement}
 use Rattle.update.proofs.store.Tie as tie
 
+copy-bytes-requires : tie.Need-copy-bytes-requires
+copy-bytes-requires c κs = search needs
+
 returns : tie.Need-returns
-returns c = wrong-size (c .before .before .before .before .before .args .p) (c .before .before .before .before .before .args .f .now) (c .before .before .before .before .before .args .b .now) (c .before .before .before .before .before .args .r .now) (c .before .before .before .before .before .args .i) (c .before .before .before .before .before .args .out .now) (c .if1 .taken)
+returns c = wrong-size (c .before .before .before .before .before .before .args .p) (c .before .before .before .before .before .before .args .f .now) (c .before .before .before .before .before .before .args .b .now) (c .before .before .before .before .before .before .args .r .now) (c .before .before .before .before .before .before .args .i) (c .before .before .before .before .before .before .args .out .now) (sizes-wrong (c .before .before .before .before .before .before .args .f .now) (c .before .before .before .before .before .before .args .b .now) (c .before .before .before .before .before .before .args .out .now) (c .before .copy-bytes .result) (c .before .copy-bytes .ensures) (c .if1 .taken))
 
 count-requires : tie.Need-count-requires
 count-requires c κs = search needs
 
 returns-2 : tie.Need-returns-2
-returns-2 c = no-store (c .before .before .before .before .before .before .before .args .p) (c .before .before .before .before .before .before .before .args .f .now) (c .before .before .before .before .before .before .before .args .b .now) (c .before .before .before .before .before .before .before .args .r .now) (c .before .before .before .before .before .before .before .args .i) (c .before .before .before .before .before .before .before .args .out .now) (c .before .before .if1 .left) (c .before .count .result) (c .before .count .ensures) (c .if2 .taken)
+returns-2 c = no-store (c .before .before .before .before .before .before .before .before .args .p) (c .before .before .before .before .before .before .before .before .args .f .now) (c .before .before .before .before .before .before .before .before .args .b .now) (c .before .before .before .before .before .before .before .before .args .r .now) (c .before .before .before .before .before .before .before .before .args .i) (c .before .before .before .before .before .before .before .before .args .out .now) (sizes-right (c .before .before .before .before .before .before .before .before .args .f .now) (c .before .before .before .before .before .before .before .before .args .b .now) (c .before .before .before .before .before .before .before .before .args .out .now) (c .before .before .before .copy-bytes .result) (c .before .before .before .copy-bytes .ensures) (c .before .before .if1 .left)) (c .before .count .result) (c .before .count .ensures) (c .if2 .taken)
 
 cast-if3 : tie.Need-cast-if3
 cast-if3 c = search needs
@@ -23,7 +26,7 @@ same-length : tie.Need-same-length
 same-length c = search needs
 
 returns-3 : tie.Need-returns-3
-returns-3 c = front-store (c .before .before .before .before .before .before .before .before .before .before .before .before .args .p) (c .before .before .before .before .before .before .before .before .before .before .before .before .args .f .now) (c .before .before .before .before .before .before .before .before .before .before .before .before .args .b .now) (c .before .before .before .before .before .before .before .before .before .before .before .before .args .r .now) (c .before .before .before .before .before .before .before .before .before .before .before .before .args .i) (c .before .before .before .before .before .before .before .before .before .before .before .before .args .out .now) (c .before .before .before .before .before .before .before .if1 .left) (c .before .before .before .before .before .before .count .result) (c .before .before .before .before .before .before .count .ensures) (c .before .before .before .before .before .if2 .left) _ _ (c .before .before .before .before .if3 .taken) (c .before .before .put-part .ensures .0) (c .before .before .put-part .ensures .1)
+returns-3 c = front-store (c .before .before .before .before .before .before .before .before .before .before .before .before .before .args .p) (c .before .before .before .before .before .before .before .before .before .before .before .before .before .args .f .now) (c .before .before .before .before .before .before .before .before .before .before .before .before .before .args .b .now) (c .before .before .before .before .before .before .before .before .before .before .before .before .before .args .r .now) (c .before .before .before .before .before .before .before .before .before .before .before .before .before .args .i) (c .before .before .before .before .before .before .before .before .before .before .before .before .before .args .out .now) (sizes-right (c .before .before .before .before .before .before .before .before .before .before .before .before .before .args .f .now) (c .before .before .before .before .before .before .before .before .before .before .before .before .before .args .b .now) (c .before .before .before .before .before .before .before .before .before .before .before .before .before .args .out .now) (c .before .before .before .before .before .before .before .before .copy-bytes .result) (c .before .before .before .before .before .before .before .before .copy-bytes .ensures) (c .before .before .before .before .before .before .before .if1 .left)) (c .before .before .before .before .before .before .count .result) (c .before .before .before .before .before .before .count .ensures) (c .before .before .before .before .before .if2 .left) _ _ (c .before .before .before .before .if3 .taken) (c .before .before .put-part .ensures .0) (c .before .before .put-part .ensures .1)
 
 cast-put-part : tie.Need-cast-put-part
 cast-put-part c = search needs
@@ -41,12 +44,13 @@ same-length-2 : tie.Need-same-length-2
 same-length-2 c = search needs
 
 returns-4 : tie.Need-returns-4
-returns-4 c = back-store (c .before .before .before .before .before .before .before .before .before .before .before .before .args .p) (c .before .before .before .before .before .before .before .before .before .before .before .before .args .f .now) (c .before .before .before .before .before .before .before .before .before .before .before .before .args .b .now) (c .before .before .before .before .before .before .before .before .before .before .before .before .args .r .now) (c .before .before .before .before .before .before .before .before .before .before .before .before .args .i) (c .before .before .before .before .before .before .before .before .before .before .before .before .args .out .now) (c .before .before .before .before .before .before .before .if1 .left) (c .before .before .before .before .before .before .count .result) (c .before .before .before .before .before .before .count .ensures) (c .before .before .before .before .before .if2 .left) _ _ (c .before .before .before .before .if3 .left) (c .before .before .put-part2 .ensures .0) (c .before .before .put-part2 .ensures .1)
+returns-4 c = back-store (c .before .before .before .before .before .before .before .before .before .before .before .before .before .args .p) (c .before .before .before .before .before .before .before .before .before .before .before .before .before .args .f .now) (c .before .before .before .before .before .before .before .before .before .before .before .before .before .args .b .now) (c .before .before .before .before .before .before .before .before .before .before .before .before .before .args .r .now) (c .before .before .before .before .before .before .before .before .before .before .before .before .before .args .i) (c .before .before .before .before .before .before .before .before .before .before .before .before .before .args .out .now) (sizes-right (c .before .before .before .before .before .before .before .before .before .before .before .before .before .args .f .now) (c .before .before .before .before .before .before .before .before .before .before .before .before .before .args .b .now) (c .before .before .before .before .before .before .before .before .before .before .before .before .before .args .out .now) (c .before .before .before .before .before .before .before .before .copy-bytes .result) (c .before .before .before .before .before .before .before .before .copy-bytes .ensures) (c .before .before .before .before .before .before .before .if1 .left)) (c .before .before .before .before .before .before .count .result) (c .before .before .before .before .before .before .count .ensures) (c .before .before .before .before .before .if2 .left) _ _ (c .before .before .before .before .if3 .left) (c .before .before .put-part2 .ensures .0) (c .before .before .put-part2 .ensures .1)
 
 pub store-spec : {M : Type 1} → statement M
 store-spec =
     tie.close
     (tie.spec
+    copy-bytes-requires
     returns
     count-requires
     returns-2
