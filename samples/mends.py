@@ -117,11 +117,11 @@ def mended(front, back, kept, stores):
 
 
 def lines_of(m, stores):
-    """What is printed of a mend: its answer, its stores, and what comes after the last."""
+    """What is printed of a mend: its answer, its stores, and what comes after the last: 23, or 1 for a copy of another size."""
     yield m
     for i, (group, sector, data) in enumerate(stores):
         yield f"store {i} {group} {sector} {zlib.crc32(data):08x}"
-    yield f"store {len(stores)} 4 refused 23 {zlib.crc32(LENT * SECTOR):08x}"
+    yield f"store {len(stores)} 4 refused {1 if m == 'refused 1' else 23} {zlib.crc32(LENT * SECTOR):08x}"
 
 
 # The samples: name, front, back, which copy is kept and what mending answers.
