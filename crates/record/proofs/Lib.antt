@@ -8,3 +8,4 @@ pub mod Meaning
 pub mod Partition
 pub mod RoundTrip
 pub mod Change
+pub mod Ascending

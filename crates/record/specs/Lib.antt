@@ -5,3 +5,4 @@ pub mod Accept
 pub mod Answers
 pub mod Making
 pub mod Sectors
+pub mod Ascending

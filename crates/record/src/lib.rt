@@ -1,7 +1,11 @@
 // The segment record: a head, then segments, each an item with its length first, then its kind. Checked against a device's
 // numbers, read by position, and made. Assumes nothing.
+pub mod sorting;
+
 use layout::Device;
+use sorting::Order;
 ghost use mathlib.Core.Path.{_≡_};
+ghost use mathlib.Core.Bool.{true};
 ghost use Prim.Native.Nat.{_+_, min};
 ghost use lib.ListN.{length};
 ghost use lib.Dec.{ltb};
@@ -11,6 +15,7 @@ ghost use Rattle.record.specs.Search.{every};
 ghost use Rattle.record.specs.Items.{itemOf, isSegment, isHead, kindKnown, headBytes, blockSize, blockSizeAllowed, headRight, itemBytes, count, place, sizeAt, kindAt, startAt, sectorsAt, segmentAt};
 ghost use Rattle.record.specs.Accept.{mostSegments, itemRight, wellFormed, inRange, allInRange, meets, laterOf, apart, contentTests, recordTests};
 ghost use Rattle.record.specs.Answers.{firstClash, segmentAnswer, countAnswer, headAnswer};
+ghost use Rattle.record.specs.Ascending.{noOrder, checked};
 ghost use Rattle.record.specs.Making.{segmentBytes, beginTests, begun};
 
 // Bytes of a segment's item.
@@ -37,6 +42,12 @@ pub enum Item {
 pub enum Clash {
     Pair(usize, usize),
     Nothing,
+}
+
+// What `check_in_order` answers: the refusal number, and an order of the segments.
+pub struct Checked {
+    pub number: u8,
+    pub order: Order,
 }
 
 // What `read_segment` answers.
@@ -317,44 +328,74 @@ pub fn first_clash(s: &[u8]) -> Clash
     Clash::Nothing
 }
 
-// Whether no two segments share a sector.
-fn all_apart(s: &[u8]) -> bool
+// A refusal, with no order.
+fn unordered(number: u8) -> Checked
+    ensures { λ r. ⌜ r ≡ record { number = number; order = noOrder } ⌝ }
+{
+    let order = sorting::none();
+    Checked { number, order }
+}
+
+// Whether no two segments share a sector. Where they have an order that is seen at once; else by the search.
+fn all_apart(s: &[u8], ascending: bool) -> bool
+    requires { ⌜ (ascending ≡ true → apart (now s) ≡ true) ⌝ }
     ensures { λ r. ⌜ r ≡ apart (now (s .entry)) ⌝ }
 {
+    if ascending {
+        return true;
+    }
     match first_clash(s) {
         Clash::Pair(_, _) => false,
         Clash::Nothing => true,
     }
 }
 
+// The check of a record on a device whose numbers are allowed: 15, 17, 18 or 19, the first that applies; else 0, and an order.
+fn content_in_order(d: Device, s: &[u8]) -> Checked
+    ensures { λ r. ⌜ r ≡ checked (first (contentTests d (now (s .entry)))) (now (s .entry)) (r .order .at) ⌝ }
+{
+    if !layout::length_allowed(s.len() as u64) {
+        return unordered(refusal::RECORD_LENGTH);
+    }
+    if !well_formed(s) {
+        return unordered(refusal::RECORD_FORM);
+    }
+    if !all_in_range(d, s) {
+        return unordered(refusal::SEGMENT_PLACE);
+    }
+    let order = sorting::order_of(s);
+    if !all_apart(s, order.ascending) {
+        return unordered(refusal::SEGMENT_CLASH);
+    }
+    Checked {
+        number: refusal::NONE,
+        order,
+    }
+}
+
+// The check of device numbers and a record: 4, 7, 8, 15, 17, 18 or 19, the first that applies; else 0, and an order of its segments.
+pub fn check_in_order(d: Device, s: &[u8]) -> Checked
+    ensures { λ r. ⌜ r ≡ checked (first (recordTests d (now (s .entry)))) (now (s .entry)) (r .order .at) ⌝ }
+{
+    let n = layout::check(d);
+    if n != 0 {
+        return unordered(n);
+    }
+    content_in_order(d, s)
+}
+
 // The refusal number of a record on a device whose numbers are allowed: 15, 17, 18 or 19, the first that applies; else 0.
 pub fn check_content(d: Device, s: &[u8]) -> u8
     ensures { λ r. ⌜ r ≡ first (contentTests d (now (s .entry))) ⌝ }
 {
-    if !layout::length_allowed(s.len() as u64) {
-        return refusal::RECORD_LENGTH;
-    }
-    if !well_formed(s) {
-        return refusal::RECORD_FORM;
-    }
-    if !all_in_range(d, s) {
-        return refusal::SEGMENT_PLACE;
-    }
-    if !all_apart(s) {
-        return refusal::SEGMENT_CLASH;
-    }
-    refusal::NONE
+    content_in_order(d, s).number
 }
 
 // The refusal number of device numbers and a record: 4, 7, 8, 15, 17, 18 or 19, the first that applies; 0 where it is accepted.
 pub fn check(d: Device, s: &[u8]) -> u8
     ensures { λ r. ⌜ r ≡ first (recordTests d (now (s .entry))) ⌝ }
 {
-    let n = layout::check(d);
-    if n != 0 {
-        return n;
-    }
-    check_content(d, s)
+    check_in_order(d, s).number
 }
 
 // The segment at a position, counted from 0.

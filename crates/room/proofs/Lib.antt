@@ -1,5 +1,6 @@
 -- The laws that callers cite.
 pub mod Runs
+pub mod Ordered
 pub mod Answers
 pub mod Change
 pub mod Table

@@ -286,7 +286,7 @@ held-more s a y i w l h z m k =
     ]
 
 -- what has been passed, from x on, is not free
-passed-not-free : (d : Device) (s : List ℕ) (x a y : ℕ) → a ≡ max x (dataStart d) → HeldUpTo s a y → (z : ℕ) → x ≤ z → z < y → isFree d s z ≡ false
+pub passed-not-free : (d : Device) (s : List ℕ) (x a y : ℕ) → a ≡ max x (dataStart d) → HeldUpTo s a y → (z : ℕ) → x ≤ z → z < y → isFree d s z ≡ false
 passed-not-free d s x a y e w z l k =
     elim (decLt z (dataStart d)) [
       | yes q ↦ low-not-free d s z q

@@ -1,13 +1,15 @@
 -- Free runs: the longest runs of unallocated sectors in the data range, ascending. Assumes nothing.
 use Prim.Native.Nat.{ℕ, zero, suc, _-_}
-use mathlib.Core.Bool.{Bool, cond, not, _&&_}
+use mathlib.Core.Bool.{Bool, cond, not, _&&_, _||_}
 use mathlib.Core.List.{List}
 use lib.Dec.{leb, ltb, eqb}
+use lib.ListN.{getD}
 use Rattle.layout.specs.declared.Device.{Device}
 use Rattle.layout.specs.Places.{dataEnd}
 use Rattle.record.specs.Search.{least}
 use Rattle.record.specs.Items.{count, startAt, segmentAt}
 use Rattle.record.specs.Sectors.{holds, isFree}
+use Rattle.record.specs.Ascending.{edgeAt}
 use Rattle.room.specs.declared.Run.{Run}
 
 -- y is a free sector, from x on
@@ -75,6 +77,10 @@ heldAt s x i = holds (segmentAt s i) x
 
 unfoldable pub holderOf : List ℕ → ℕ → ℕ
 holderOf s x = least (heldAt s x) (count s)
+
+-- in an order p of the segments, the first k end at y or before, and the one after them begins there or later
+unfoldable pub standsAt : List ℕ → List ℕ → ℕ → ℕ → Bool
+standsAt s p k y = leb k (count s) && (leb (edgeAt s p k) y && (leb (count s) k || leb y (startAt s (getD p k 0))))
 
 -- a, if it is from y up to, not including, b; else b
 abbrev pub lower : ℕ → ℕ → ℕ → ℕ

@@ -4,14 +4,17 @@ use layout::Device;
 use record::Segment;
 ghost use mathlib.Core.Path.{_≡_};
 ghost use Prim.Native.Nat.{_+_, _*_, _^_, _≤_, _<_, max};
-ghost use lib.ListN.{length, take, drop};
+ghost use mathlib.Core.Bool.{true, _||_};
+ghost use lib.Dec.{leb};
+ghost use lib.ListN.{length, take, drop, getD};
 ghost use Rattle.refusal.specs.Tests.{first};
 ghost use Rattle.endian.specs.Bytes.{splice};
-ghost use Rattle.layout.specs.Places.{dataEnd};
-ghost use Rattle.record.specs.Items.{itemBytes, count};
+ghost use Rattle.layout.specs.Places.{dataStart, dataEnd};
+ghost use Rattle.record.specs.Items.{itemBytes, count, startAt};
 ghost use Rattle.record.specs.Accept.{recordTests};
+ghost use Rattle.record.specs.Ascending.{edgeAt, ascends};
 ghost use Rattle.record.specs.Sectors.{holds, allocated};
-ghost use Rattle.room.specs.Runs.{nextFree, runFrom, runAt, runCount, fitRun, holderOf, lower, lowestStart};
+ghost use Rattle.room.specs.Runs.{nextFree, runFrom, runAt, runCount, fitRun, holderOf, standsAt, lower, lowestStart};
 ghost use Rattle.room.specs.Answers.{runsAnswer, orNone, runAnswer, totalAnswer, fitAnswer};
 ghost use Rattle.room.specs.Change.{allocateAnswer, allocateLeft, releaseAnswer, releaseLeft};
 ghost use Rattle.room.specs.Table.{filled, tableAnswer, tableLeft, entriesOf, filledNumbers, numbersAnswer, numbersLeft};
@@ -148,50 +151,170 @@ fn next_run(d: Device, s: &[u8], x: u64) -> Run
     }
 }
 
-// Run number k, counted from 0; 0 sectors where there is none.
-fn run_of(d: Device, s: &[u8], k: u64) -> Run
+// A free run, and a hint for the one after it: how many segments of an order end before it.
+struct Step {
+    run: Run,
+    rank: usize,
+}
+
+// Position k of an order; 0 past its end.
+fn position_at(at: &[u16], k: usize) -> usize
+    ensures { λ r. ⌜ r ≡ getD (now (at .entry)) k 0 ⌝ }
+{
+    if k < at.len() {
+        return at[k] as usize;
+    }
+    0
+}
+
+// Whether the segment before place k of an order ends at y or before.
+fn ended(s: &[u8], at: &[u16], k: usize, y: u64) -> bool
+    ensures { λ r. ⌜ r ≡ leb (edgeAt (now (s .entry)) (now (at .entry)) k) y ⌝ }
+{
+    if k == 0 {
+        return true;
+    }
+    let i = position_at(at, k - 1);
+    let a = record::start_at(s, i);
+    if y < a {
+        return false;
+    }
+    record::sectors_at(s, i) <= y - a
+}
+
+// Whether the segment at place k of an order begins at y or later, if there is one.
+fn ahead(s: &[u8], at: &[u16], k: usize, y: u64) -> bool
+    ensures { λ r. ⌜ r ≡ leb (count (now (s .entry))) k || leb y (startAt (now (s .entry)) (getD (now (at .entry)) k 0)) ⌝ }
+{
+    let past = record::count_of(s) <= k;
+    past | (y <= record::start_at(s, position_at(at, k)))
+}
+
+// Whether y lies between the first k segments of an order and the others.
+fn stands(s: &[u8], at: &[u16], k: usize, y: u64) -> bool
+    ensures { λ r. ⌜ r ≡ standsAt (now (s .entry)) (now (at .entry)) k y ⌝ }
+{
+    (k <= record::count_of(s)) & (ended(s, at, k, y) & ahead(s, at, k, y))
+}
+
+// The first free run from x on, where the segments have the order `at` and k is how many of them end before it is looked for.
+fn run_in_order(d: Device, s: &[u8], at: &[u16], k: usize, x: u64) -> Step
     requires { ⌜ first (recordTests d (now s)) ≡ 0 ⌝ }
+    requires { ⌜ ascends (now s) (now at) ≡ true ⌝ }
+    requires { ⌜ standsAt (now s) (now at) k (max x (dataStart d)) ≡ true ⌝ }
+    ensures { λ r. ⌜ r .run ≡ runFrom d (now (s .entry)) x ⌝ }
+{
+    let end = layout::data_end(d);
+    let n = record::count_of(s);
+    let mut y = larger(x, layout::data_start(d));
+    let mut j = k;
+    while j < n {
+        let i = position_at(at, j);
+        let a = record::start_at(s, i);
+        if y < a {
+            return Step {
+                run: Run {
+                    start: y,
+                    sectors: a - y,
+                },
+                rank: j,
+            };
+        }
+        y = a + record::sectors_at(s, i);
+        j += 1;
+    }
+    if end <= y {
+        return Step {
+            run: Run {
+                start: end,
+                sectors: 0,
+            },
+            rank: j,
+        };
+    }
+    Step {
+        run: Run {
+            start: y,
+            sectors: end - y,
+        },
+        rank: j,
+    }
+}
+
+// The first free run from x on; 0 sectors where there is none. k is a hint: where the segments have the order `at`, and k of them
+// end before x, the run is found there; else it is searched for.
+fn run_on(d: Device, s: &[u8], at: &[u16], ascending: bool, k: usize, x: u64) -> Step
+    requires { ⌜ first (recordTests d (now s)) ≡ 0 ⌝ }
+    requires { ⌜ (ascending ≡ true → ascends (now s) (now at) ≡ true) ⌝ }
+    ensures { λ r. ⌜ r .run ≡ runFrom d (now (s .entry)) x ⌝ }
+{
+    if ascending {
+        if stands(s, at, k, larger(x, layout::data_start(d))) {
+            return run_in_order(d, s, at, k, x);
+        }
+    }
+    Step {
+        run: next_run(d, s, x),
+        rank: 0,
+    }
+}
+
+// Run number k, counted from 0; 0 sectors where there is none.
+fn run_of(d: Device, s: &[u8], at: &[u16], ascending: bool, k: u64) -> Run
+    requires { ⌜ first (recordTests d (now s)) ≡ 0 ⌝ }
+    requires { ⌜ (ascending ≡ true → ascends (now s) (now at) ≡ true) ⌝ }
     ensures { λ r. ⌜ r ≡ runAt d (now (s .entry)) k ⌝ }
 {
     let mut x: u64 = 0;
+    let mut rank = 0;
     let mut j: u64 = 0;
     while j < k {
-        let r = next_run(d, s, x);
+        let g = run_on(d, s, at, ascending, rank, x);
+        let r = g.run;
         if r.sectors == 0 {
             return r;
         }
         x = r.start + r.sectors;
+        rank = g.rank;
         j += 1;
     }
-    next_run(d, s, x)
+    let g = run_on(d, s, at, ascending, rank, x);
+    g.run
 }
 
 // The number of free runs.
-fn runs_of(d: Device, s: &[u8]) -> u64
+fn runs_of(d: Device, s: &[u8], at: &[u16], ascending: bool) -> u64
     requires { ⌜ first (recordTests d (now s)) ≡ 0 ⌝ }
+    requires { ⌜ (ascending ≡ true → ascends (now s) (now at) ≡ true) ⌝ }
     ensures { λ r. ⌜ r ≡ runCount d (now (s .entry)) ⌝ }
 {
     let mut x: u64 = 0;
+    let mut rank = 0;
     let mut j: u64 = 0;
     loop {
-        let r = next_run(d, s, x);
+        let g = run_on(d, s, at, ascending, rank, x);
+        let r = g.run;
         if r.sectors == 0 {
             return j;
         }
         x = r.start + r.sectors;
+        rank = g.rank;
         j += 1;
     }
 }
 
 // The first run of m sectors or more; 0 sectors where there is none.
-fn fit_of(d: Device, s: &[u8], m: u64) -> Run
+fn fit_of(d: Device, s: &[u8], at: &[u16], ascending: bool, m: u64) -> Run
     requires { ⌜ first (recordTests d (now s)) ≡ 0 ⌝ }
+    requires { ⌜ (ascending ≡ true → ascends (now s) (now at) ≡ true) ⌝ }
     requires { ⌜ 1 ≤ m ⌝ }
     ensures { λ r. ⌜ r ≡ fitRun d (now (s .entry)) m ⌝ }
 {
     let mut x: u64 = 0;
+    let mut rank = 0;
     loop {
-        let r = next_run(d, s, x);
+        let g = run_on(d, s, at, ascending, rank, x);
+        let r = g.run;
         if r.sectors == 0 {
             return r;
         }
@@ -199,6 +322,7 @@ fn fit_of(d: Device, s: &[u8], m: u64) -> Run
             return r;
         }
         x = r.start + r.sectors;
+        rank = g.rank;
     }
 }
 
@@ -221,11 +345,14 @@ fn allocated_of(s: &[u8]) -> u64
 pub fn count_runs(d: Device, s: &[u8]) -> RunNumber
     ensures { λ r. ⌜ r ≡ runsAnswer d (now (s .entry)) ⌝ }
 {
-    let n = record::check(d, s);
+    let c = record::check_in_order(d, s);
+    let n = c.number;
     if n != 0 {
         return RunNumber::Refused(n);
     }
-    RunNumber::Runs(runs_of(d, s))
+    let o = c.order;
+    let at = o.at;
+    RunNumber::Runs(runs_of(d, s, &at, o.ascending))
 }
 
 // A run, or zero in both fields for one of no sectors.
@@ -245,11 +372,14 @@ fn or_none(r: Run) -> Run
 pub fn run_at(d: Device, s: &[u8], k: u64) -> RunFound
     ensures { λ r. ⌜ r ≡ runAnswer d (now (s .entry)) k ⌝ }
 {
-    let n = record::check(d, s);
+    let c = record::check_in_order(d, s);
+    let n = c.number;
     if n != 0 {
         return RunFound::Refused(n);
     }
-    RunFound::At(or_none(run_of(d, s, k)))
+    let o = c.order;
+    let at = o.at;
+    RunFound::At(or_none(run_of(d, s, &at, o.ascending, k)))
 }
 
 // The number of free sectors.
@@ -268,14 +398,17 @@ pub fn free_total(d: Device, s: &[u8]) -> FreeTotal
 pub fn first_fit(d: Device, s: &[u8], m: u64) -> RunFound
     ensures { λ r. ⌜ r ≡ fitAnswer d (now (s .entry)) m ⌝ }
 {
-    let n = record::check(d, s);
+    let c = record::check_in_order(d, s);
+    let n = c.number;
     if n != 0 {
         return RunFound::Refused(n);
     }
     if m < 1 {
         return RunFound::Refused(refusal::SEGMENT_PLACE);
     }
-    let r = fit_of(d, s, m);
+    let o = c.order;
+    let at = o.at;
+    let r = fit_of(d, s, &at, o.ascending, m);
     if r.sectors == 0 {
         return RunFound::Refused(refusal::NO_ROOM);
     }
@@ -295,7 +428,8 @@ fn lay_without(out: &mut [u8], s: &[u8], at: usize)
 fn allocation_of(d: Device, s: &[u8], kind: u16, m: u64, w: usize) -> Allocation
     ensures { λ r. ⌜ r ≡ allocateAnswer d (now (s .entry)) kind m w ⌝ }
 {
-    let n = record::check(d, s);
+    let c = record::check_in_order(d, s);
+    let n = c.number;
     if n != 0 {
         return Allocation::Refused(n);
     }
@@ -308,7 +442,9 @@ fn allocation_of(d: Device, s: &[u8], kind: u16, m: u64, w: usize) -> Allocation
     if record::most_segments(s) <= record::count_of(s) {
         return Allocation::Refused(refusal::RECORD_FULL);
     }
-    let r = fit_of(d, s, m);
+    let o = c.order;
+    let at = o.at;
+    let r = fit_of(d, s, &at, o.ascending, m);
     if r.sectors == 0 {
         return Allocation::Refused(refusal::NO_ROOM);
     }
@@ -380,11 +516,14 @@ fn end_of(r: Run) -> u64
 fn table_answer(d: Device, s: &[u8], w: usize) -> RunNumber
     ensures { λ r. ⌜ r ≡ tableAnswer d (now (s .entry)) w ⌝ }
 {
-    let n = record::check(d, s);
+    let c = record::check_in_order(d, s);
+    let n = c.number;
     if n != 0 {
         return RunNumber::Refused(n);
     }
-    let k = runs_of(d, s);
+    let o = c.order;
+    let at = o.at;
+    let k = runs_of(d, s, &at, o.ascending);
     if (w as u64) < k {
         return RunNumber::Refused(refusal::SLICE_SIZE);
     }

@@ -5,6 +5,9 @@ use borrow.Author.Needs.{needs}
 use Rattle.record.proofs.all_apart.Statement.{statement}
 use Rattle.record.proofs.all_apart.Tie as tie
 
+returns : tie.Need-returns
+returns c = sym (c .before .before .pre (c .if1 .taken))
+
 first-clash-requires : tie.Need-first-clash-requires
 first-clash-requires c κs = search needs
 
@@ -14,13 +17,14 @@ enum-told c = search needs
 enum-told-2 : tie.Need-enum-told-2
 enum-told-2 c = search needs
 
-returns : tie.Need-returns
-returns c =
-    ap isNothing (sym (c .enum-told .given .1)) ∙ apart-by (c .before .before .before .before .args .s .now) (c .before .before .first-clash .result) (c .before .before .first-clash .ensures)
-
 returns-2 : tie.Need-returns-2
 returns-2 c =
-    ap isNothing (sym (c .enum-told2 .given .1)) ∙ apart-by (c .before .before .before .before .args .s .now) (c .before .before .first-clash .result) (c .before .before .first-clash .ensures)
+    ap isNothing (sym (c .enum-told .given .1)) ∙ apart-by (c .before .before .before .before .before .args .s .now) (c .before .before .first-clash .result) (c .before .before .first-clash .ensures)
+
+returns-3 : tie.Need-returns-3
+returns-3 c =
+    ap isNothing (sym (c .enum-told2 .given .1)) ∙ apart-by (c .before .before .before .before .before .args .s .now) (c .before .before .first-clash .result) (c .before .before .first-clash .ensures)
 
 pub all-apart-spec : {M : Type 1} → statement M
-all-apart-spec = tie.close (tie.spec first-clash-requires enum-told enum-told-2 returns returns-2)
+all-apart-spec =
+    tie.close (tie.spec returns first-clash-requires enum-told enum-told-2 returns-2 returns-3)

@@ -13,52 +13,52 @@ use Rattle.room.proofs.runs_of.Statement.{statement}
 use Rattle.room.proofs.runs_of.Tie as tie
 
 abbrev Inv-loop : tie.InvT-loop
-Inv-loop d s x₀ j₀ x j = AtRun d s j x × (least (noRun d s) j ≡ j)
+Inv-loop d s at ascending x₀ rank₀ j₀ x rank j = AtRun d s j x × (least (noRun d s) j ≡ j)
 
 abbrev μ-loop : tie.MeasureT-loop
-μ-loop d s x₀ j₀ x j = dataEnd d - x
+μ-loop d s at ascending x₀ rank₀ j₀ x rank j = dataEnd d - x
 
 loop-holds : tie.Need-loop-holds Inv-loop μ-loop
 loop-holds c =
-    (at-first (c .before .args .d) (c .before .args .s .now), least-zero (noRun (c .before .args .d) (c .before .args .s .now)))
+    (at-first (c .before .before .args .d) (c .before .before .args .s .now), least-zero (noRun (c .before .before .args .d) (c .before .before .args .s .now)))
 
-next-run-requires : tie.Need-next-run-requires Inv-loop μ-loop
-next-run-requires c κs = search needs
+run-on-requires : tie.Need-run-on-requires Inv-loop μ-loop
+run-on-requires c κs = (search needs, search needs)
 
 returns : tie.Need-returns Inv-loop μ-loop
 returns c =
-    count-done (c .before .before .before .before .before .args .d) (c .before .before .before .before .before .args .s .now) (c .before .before .before .loop .j) (c .before .before .before .loop .x) (c .before .before .next-run .result)
-    (accepted (c .before .before .before .before .before .args .d) (c .before .before .before .before .before .args .s .now) (c .before .before .before .before .before .pre)) (c .before .before .before .loop .inv .0) (c .before .before .next-run .ensures) (c .if1 .taken) (c .before .before .before .loop .inv .1)
+    count-done (c .before .before .before .before .before .before .before .args .d) (c .before .before .before .before .before .before .before .args .s .now) (c .before .before .before .before .loop .j) (c .before .before .before .before .loop .x) (c .before .before .before .run-on .result .run)
+    (accepted (c .before .before .before .before .before .before .before .args .d) (c .before .before .before .before .before .before .before .args .s .now) (c .before .before .before .before .before .before .before .pre .0)) (c .before .before .before .before .loop .inv .0) (c .before .before .before .run-on .ensures) (c .if1 .taken) (c .before .before .before .before .loop .inv .1)
 
 -- on to the end of the run
 on : (c : tie.After-struct-known2 Inv-loop μ-loop)
-    → OnRun (c .before .before .before .before .before .before .args .d) (c .before .before .before .before .before .before .args .s .now) (c .before .before .before .before .loop .j) (c .before .before .before .before .loop .x) (c .before .before .before .next-run .result .start + c .before .before .before .next-run .result .sectors)
+    → OnRun (c .before .before .before .before .before .before .before .before .args .d) (c .before .before .before .before .before .before .before .before .args .s .now) (c .before .before .before .before .before .loop .j) (c .before .before .before .before .before .loop .x) (c .before .before .before .before .run-on .result .run .start + c .before .before .before .before .run-on .result .run .sectors)
 on c =
-    on-run (c .before .before .before .before .before .before .args .d) (c .before .before .before .before .before .before .args .s .now) (c .before .before .before .before .loop .j) (c .before .before .before .before .loop .x) (c .before .before .before .next-run .result) (c .before .before .before .before .loop .inv .0)
-    (c .before .before .before .next-run .ensures) (c .before .if1 .left)
+    on-run (c .before .before .before .before .before .before .before .before .args .d) (c .before .before .before .before .before .before .before .before .args .s .now) (c .before .before .before .before .before .loop .j) (c .before .before .before .before .before .loop .x) (c .before .before .before .before .run-on .result .run) (c .before .before .before .before .before .loop .inv .0)
+    (c .before .before .before .before .run-on .ensures) (c .before .if1 .left)
 
 add-x : tie.Need-add-x Inv-loop μ-loop
 add-x c =
-    let w : c .before .before .before .next-run .result .start + c .before .before .before .next-run .result .sectors ≤ dataEnd (c .before .before .before .before .before .before .args .d) = on c .next .inside in
+    let w : c .before .before .before .before .run-on .result .run .start + c .before .before .before .before .run-on .result .run .sectors ≤ dataEnd (c .before .before .before .before .before .before .before .before .args .d) = on c .next .inside in
     record { fits = omega arith }
 
 add-j : tie.Need-add-j Inv-loop μ-loop
 add-j c =
-    let w : c .before .before .before .next-run .result .start + c .before .before .before .next-run .result .sectors ≤ dataEnd (c .before .before .before .before .before .before .args .d) = on c .next .inside in
-    let v : c .before .before .before .before .loop .j + 1 ≤ c .before .before .before .next-run .result .start + c .before .before .before .next-run .result .sectors = on c .next .few in
+    let w : c .before .before .before .before .run-on .result .run .start + c .before .before .before .before .run-on .result .run .sectors ≤ dataEnd (c .before .before .before .before .before .before .before .before .args .d) = on c .next .inside in
+    let v : c .before .before .before .before .before .loop .j + 1 ≤ c .before .before .before .before .run-on .result .run .start + c .before .before .before .before .run-on .result .run .sectors = on c .next .few in
     record { fits = omega arith }
 
 loop-less : tie.Need-loop-less Inv-loop μ-loop
 loop-less c =
-    let w : c .before .before .before .next-run .result .start + c .before .before .before .next-run .result .sectors ≤ dataEnd (c .before .before .before .before .before .before .args .d) = on c .next .inside in
-    let v : c .before .before .before .before .loop .x < c .before .before .before .next-run .result .start + c .before .before .before .next-run .result .sectors = on c .further in
+    let w : c .before .before .before .before .run-on .result .run .start + c .before .before .before .before .run-on .result .run .sectors ≤ dataEnd (c .before .before .before .before .before .before .before .before .args .d) = on c .next .inside in
+    let v : c .before .before .before .before .before .loop .x < c .before .before .before .before .run-on .result .run .start + c .before .before .before .before .run-on .result .run .sectors = on c .further in
     omega arith
 
 loop-again : tie.Need-loop-again Inv-loop μ-loop
 loop-again c = (
   on c .next,
-  count-more (c .before .before .before .before .before .before .args .d) (c .before .before .before .before .before .before .args .s .now) (c .before .before .before .before .loop .j) (c .before .before .before .before .loop .x) (c .before .before .before .next-run .result) (c .before .before .before .before .loop .inv .0)
-      (c .before .before .before .next-run .ensures) (c .before .if1 .left) (c .before .before .before .before .loop .inv .1),
+  count-more (c .before .before .before .before .before .before .before .before .args .d) (c .before .before .before .before .before .before .before .before .args .s .now) (c .before .before .before .before .before .loop .j) (c .before .before .before .before .before .loop .x) (c .before .before .before .before .run-on .result .run) (c .before .before .before .before .before .loop .inv .0)
+      (c .before .before .before .before .run-on .ensures) (c .before .if1 .left) (c .before .before .before .before .before .loop .inv .1),
 )
 
 pub runs-of-spec : {M : Type 1} → statement M
@@ -68,7 +68,7 @@ runs-of-spec =
     Inv-loop
     μ-loop
     loop-holds
-    next-run-requires
+    run-on-requires
     returns
     add-x
     add-j
