@@ -1,5 +1,5 @@
--- An accepted signature block, as a plain conjunction read off document 01's table and limits, with no order of tests.
--- The theorem `Exactly.exactly` says that reading accepts these blocks and no others. Assumes nothing.
+-- Document 01's 'accepted' signature block, as a plain conjunction read off its table and limits, with no order of tests.
+-- The theorem `exactly` of `proofs/Demand.antt` says that reading accepts these blocks and no others. Assumes nothing.
 use Prim.Native.Nat.{ℕ, _%_, _≤_, _<_}
 use mathlib.Core.Path.{_≡_}
 use mathlib.Core.Logic.{_⊎_}

@@ -20,7 +20,7 @@ sameTime t u = eqb (t .seconds) (u .seconds) && eqb (t .nanoseconds) (u .nanosec
 abbrev pub timeOf : Holding → Time
 timeOf h = record { seconds = h .seconds; nanoseconds = h .nanoseconds }
 
--- an area entry is unused when all four of its fields are zero, otherwise used
+-- document 01's 'unused' and 'used': an area entry is unused when all four of its fields are zero, otherwise used
 unfoldable pub entryOf : ℕ → ℕ → ℕ → ℕ → Entry
 entryOf s n u c =
     cond (eqb s 0 && (eqb n 0 && (eqb u 0 && eqb c 0))) Unused

@@ -11,7 +11,7 @@ ghost use Rattle.block.specs.Laid.{entryLaid, bodyLaid};
 ghost use Rattle.block.specs.Entry.{laterThan, sameTime, entryOf, entryAllowed, differentTimes, entriesAllowed};
 use layout::Device;
 
-// A moment, as the box stamps it.
+// A time, in seconds and nanoseconds.
 pub struct Time {
     pub seconds: u64,
     pub nanoseconds: u32,

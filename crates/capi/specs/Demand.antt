@@ -1,5 +1,6 @@
 -- What the C calls on plans give, from the libraries' claims: `proofs/Demand.antt` proves `ReadBack`, `Fitting`, `Giving` and
--- `Mending`. The slices are lent with their sizes: a plan of 148 or 204 bytes, 512 bytes for a store, one number for its sector. Assumes nothing.
+-- `Mending`. The slices are lent with their sizes: a plan of 148 or 204 bytes, 512 bytes for a store, one number for its
+-- sector. Assumes nothing.
 use Prim.Native.Nat.{ℕ, suc, _^_, _≤_, _<_}
 use mathlib.Core.Path.{_≡_}
 use mathlib.Core.List.{List, [], _∷_}

@@ -2,6 +2,7 @@
 // 16, for half a byte. The entries follow from the polynomial; the proof computes each of them. Assumes nothing.
 ghost use Rattle.checksum.specs.Table.{Table};
 
+// The table, row after row.
 pub fn entries() -> [u32; 1152]
     ensures { λ r. ⌜ Table r ⌝ }
 {

@@ -20,7 +20,7 @@ Sectors = ℕ → List ℕ
 pub record Sound (d : Sectors) : Type 0 where
   pub size : (n : ℕ) → length (d n) ≡ sectorBytes
 
--- a store is a device sector number and 512 bytes
+-- document 01's 'store': a device sector number and 512 bytes
 pub record Store : Type 0 where
   pub sector : ℕ
   pub content : List ℕ
@@ -38,9 +38,9 @@ landed st (suc i) d = put (landed st i d) (st i)
 abbrev pub Stored : (ℕ → Store) → ℕ → ℕ → ℕ → Type 0
 Stored st i j n = (k : ℕ) × (i ≤ k) × (k < j) × (st k .sector ≡ n)
 
--- A cut in the group of the stores from number i up to, not including, j. Earlier groups have landed whole, later ones have
--- not begun. Each sector is old (as before that group) or new (as stored), each for itself; at most one that the group
--- stores to, the wild one, holds any 512 bytes.
+-- Document 01's 'cut' in the group of the stores from number i up to, not including, j, its 'running' group. Earlier groups
+-- have landed whole, later ones have not begun. Each sector is 'old' (as before that group) or 'new' (as stored), each for
+-- itself; at most one that the group stores to, the 'wild' one, holds any 512 bytes.
 pub record Cut (st : ℕ → Store) (i j : ℕ) (d e : Sectors) : Type 0 where
   pub wild : ℕ
   pub sound : Sound e

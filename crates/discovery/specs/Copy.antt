@@ -41,7 +41,7 @@ abbrev pub otherSide : Side → Side
 otherSide Front = Back
 otherSide Back = Front
 
--- an area is whole when its entry is used and its first used bytes match the entry's CRC
+-- document 01's 'whole': an area's entry is used, and its first used bytes match the entry's CRC
 abbrev pub wholeEntry : List ℕ → Area → Entry → Bool
 wholeEntry c x Unused = false
 wholeEntry c x (Used h) = eqb (checksum (areaBytes c x (h .bytes))) (h .checksum)
@@ -59,7 +59,7 @@ newer (Used h) (Used k) = laterThan (timeOf h) (timeOf k)
 unfoldable pub newest : BlockFields → Area
 newest f = cond (newer (f .b) (f .a)) B A
 
--- a copy's present record is its whole area with the later time
+-- document 01's 'present record' of a copy: its whole area with the later time
 abbrev pub presentFrom : List ℕ → BlockFields → Area → Present
 presentFrom c f x =
     cond (whole c f x) (At x (holdingOf (entryIn f x)))

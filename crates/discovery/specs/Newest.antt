@@ -1,5 +1,5 @@
--- What a found record is: the present record of an accepted copy, whole, and no whole area of an accepted copy is later. The theorem is
--- `proofs/Latest.antt`, `newest-found`. Assumes nothing.
+-- What a found record is: the present record of an accepted copy, whole, and no whole area of an accepted copy is later.
+-- The theorem is `proofs/Latest.antt`, `newest-found`. Assumes nothing.
 use Prim.Native.Nat.{ℕ}
 use mathlib.Core.Path.{_≡_}
 use mathlib.Core.Bool.{true, false}

@@ -145,6 +145,7 @@ pub fn present_in(c: &[u8], f: BlockFields) -> Present
     Present::Nothing
 }
 
+// A record by its copy and area, with the length and time that its entry says.
 fn record_at(side: Side, area: Area, h: Holding) -> Record
     ensures { λ r. ⌜ r ≡ recordAt side area h ⌝ }
 {

@@ -71,6 +71,6 @@ placesOf d = record { front = copyOf Front d; back = copyOf Back d; start = data
 abbrev pub placed : ℕ → Places → Placement
 placed n p = cond (eqb n 0) (At p) (Refused n)
 
--- what `locate` answers: this paper's number, or the places
+-- what `locate` answers: document 01's number, or the places
 abbrev pub placement : Device → Placement
 placement d = placed (first (deviceTests d)) (placesOf d)

@@ -1,4 +1,5 @@
--- Mending: what it stores, in which groups. Document 01, 'Updates, formatting and mending'. Assumes nothing.
+-- Mending, document 01's word for repair: what it stores, in which groups. Document 01, 'Updates, formatting and mending'.
+-- Assumes nothing.
 use Prim.Native.Nat.{ℕ}
 use mathlib.Core.Bool.{Bool, cond}
 use mathlib.Core.List.{List, [], _∷_}

@@ -1,4 +1,4 @@
-// Formats an image: two new copies, with a record that has no segments.
+// Formats an image: two new copies, with a record that has no segments. Assumes what `io`, `os` and `libc` do.
 use crate::find;
 use crate::image;
 use crate::words::complain;
@@ -33,6 +33,7 @@ fn store(fd: i32, d: Device, front: &[u8], back: &[u8]) -> bool {
     (b & f) & (s == 0)
 }
 
+// Makes both copies of a device of so many sectors, writes them and prints what is then found.
 fn fill(fd: i32, path: &[u8], sectors: u64, pool: &[u8], uuid: &[u8]) {
     let d = Device {
         sectors: sectors,
@@ -61,6 +62,7 @@ fn are_uuids(pool: &[u8], uuid: &[u8]) -> bool {
     sized & (block::all_hex(pool) & block::all_hex(uuid))
 }
 
+// Formats an open image, unless it is too short or holds a pool and that is not to be replaced.
 fn make(fd: i32, path: &[u8], pool: &[u8], uuid: &[u8], anyway: bool) {
     let n = image::sectors(fd);
     if n < find::SMALLEST {
@@ -83,6 +85,7 @@ fn make(fd: i32, path: &[u8], pool: &[u8], uuid: &[u8], anyway: bool) {
     fill(fd, path, n, pool, uuid);
 }
 
+// Formats the image at a path, with the UUIDs that the command line has.
 pub fn run(path: &[u8]) {
     let mut pool = [0u8; 64];
     let mut uuid = [0u8; 64];

@@ -1,4 +1,4 @@
-// What discovery says of an image.
+// What discovery says of an image. Assumes what `io`, `os` and `libc` do.
 use crate::image;
 use crate::words::complain;
 use crate::words::number;
@@ -95,6 +95,7 @@ fn show_copies(fd: i32, d: Device) {
     print_found(&front, &back);
 }
 
+// Prints what is found in an open image.
 fn show(fd: i32, path: &[u8]) {
     let n = image::sectors(fd);
     if n < SMALLEST {
@@ -119,6 +120,7 @@ fn show(fd: i32, path: &[u8]) {
     show_copies(fd, d);
 }
 
+// Prints what is found in the image at a path.
 pub fn run(path: &[u8]) {
     let fd = os::open_read(path);
     if fd < 0 {

@@ -1,4 +1,4 @@
-// Sectors and copies of an image that is open as a file descriptor.
+// Sectors and copies of an image that is open as a file descriptor. Assumes what `io` and `libc` do.
 use layout::Area;
 use layout::Copy;
 use layout::Device;
@@ -42,7 +42,7 @@ pub fn write(fd: i32, sector: u64, s: &[u8]) -> bool {
     io::write_all(fd, s)
 }
 
-// The places of a side's copy.
+// The first sector of a side's header.
 fn header(side: Side, d: Device) -> u64 {
     match side {
         Side::Front => 0,

@@ -7,8 +7,9 @@
 // `find` reads both copies at the places that the front block gives, or, where it is refused, the block at the device's end,
 // and prints what discovery says. `format` writes two new copies with an empty record: POOL and DEVICE are UUIDs of 32 hex
 // digits; an image that holds a pool already is left alone unless the word replace is given. `mend` brings the two copies in
-// step on the record that discovery finds. Anything that cannot be done gets a line on standard error, and nothing is
-// written. That the program is safe and ends is proved; what it does is tested. Assumes what `io`, `os` and `libc` do.
+// step on the record that discovery finds. What is refused gets a line on standard error, and nothing is written; a write
+// that fails gets one too, and what was written before it stays. That the program is safe and ends is proved; what it does
+// is tested. Assumes what `io`, `os` and `libc` do.
 mod create;
 mod find;
 mod image;
@@ -18,6 +19,7 @@ mod words;
 use words::is_word;
 use words::say;
 
+// Says what the program takes.
 fn usage() {
     say(b"usage: pool find IMAGE | pool format IMAGE POOL DEVICE [replace] | pool mend IMAGE\n");
 }

@@ -1,4 +1,4 @@
-// Mends an image: stores what a mend says, with a flush after each group.
+// Mends an image: stores what a mend says, with a flush after each group. Assumes what `io`, `os` and `libc` do.
 use crate::find;
 use crate::image;
 use crate::words::complain;
@@ -43,6 +43,7 @@ fn store_all(fd: i32, m: Mending, front: &[u8], back: &[u8]) -> bool {
     true
 }
 
+// Mends two copies and prints how many stores it took.
 fn mend_copies(fd: i32, path: &[u8], front: &[u8], back: &[u8]) {
     let m = mend::work_out(front, back);
     match m {
@@ -60,6 +61,7 @@ fn mend_copies(fd: i32, path: &[u8], front: &[u8], back: &[u8]) {
     }
 }
 
+// Mends an open image, where both copies' places lie within it.
 fn work(fd: i32, path: &[u8]) {
     let n = image::sectors(fd);
     if !find::readable(fd, n) {
@@ -83,6 +85,7 @@ fn work(fd: i32, path: &[u8]) {
     mend_copies(fd, path, &front, &back);
 }
 
+// Mends the image at a path.
 pub fn run(path: &[u8]) {
     let fd = os::open_update(path);
     if fd < 0 {

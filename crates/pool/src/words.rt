@@ -1,4 +1,4 @@
-// Lines on standard error and output, and words of the command line.
+// Lines on standard error and output, and words of the command line. Assumes what `io` and `libc` do.
 
 // A line on standard error.
 pub fn say(s: &[u8]) {
@@ -10,6 +10,7 @@ pub fn print(s: &[u8]) {
     io::write_all(libc::STDOUT_FILENO, s);
 }
 
+// A number on standard output.
 pub fn number(n: u64) {
     io::print_decimal(libc::STDOUT_FILENO, n);
 }
@@ -30,6 +31,7 @@ pub fn refused(path: &[u8], n: u8) {
     say(b"\n");
 }
 
+// Whether a is the word b.
 pub fn is_word(a: &[u8], b: &[u8]) -> bool {
     endian::same(a, b)
 }

@@ -1,4 +1,5 @@
--- Free runs: the longest runs of unallocated sectors in the data range, ascending. Assumes nothing.
+-- Document 01's 'free runs': the longest runs of unallocated sectors in the data range, ascending. What stands below `fitting`
+-- is for the contracts of private functions. Assumes nothing.
 use Prim.Native.Nat.{ℕ, zero, suc, _-_}
 use mathlib.Core.Bool.{Bool, cond, not, _&&_, _||_}
 use mathlib.Core.List.{List}

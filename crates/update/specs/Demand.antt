@@ -29,8 +29,8 @@ use Rattle.update.specs.declared.Given.the-variants.{At}
 use Rattle.update.specs.Plan.{planOf, planned, storesIn, groupOf, storeAnswer, storeBytes}
 use Rattle.update.specs.Update.{deviceIn, updateNumber, sectorsOf, spare, newBlock, updateGroups}
 
--- Discovery gives a record: it answers that length and time, the area it names starts with those bytes, and reading what it
--- found into a buffer with room copies them to the buffer's start.
+-- Document 01's 'discovery gives a record': it answers that length and time, the area it names starts with those bytes, and
+-- reading what it found into a buffer with room copies them to the buffer's start.
 pub record Gives (f b : List ℕ) (t : Time) (r : List ℕ) : Type 0 where
   pub found : Record
   pub other : Other
@@ -49,7 +49,7 @@ heldIn c = holdingOf (entryIn (fieldsOf (blockIn c)) (newest (fieldsOf (blockIn 
 abbrev pub recordIn : List ℕ → List ℕ
 recordIn c = areaBytes c (newest (fieldsOf (blockIn c))) (heldIn c .bytes)
 
--- In step on a record: in step, and it is the present record of both.
+-- Document 01's 'in step on a record': in step, and it is the present record of both.
 abbrev pub InStepOn : List ℕ → List ℕ → Time → List ℕ → Type 0
 InStepOn f b t r = (inStep f b ≡ true) × ((s : Side) → (recordIn (copyOn s f b) ≡ r) × (timeOf (heldIn (copyOn s f b)) ≡ t))
 
@@ -61,7 +61,7 @@ pub record Start (v : Device) (d : Sectors) (t : Time) (r : List ℕ) : Type 0 w
   pub fits : t .seconds < 2 ^ 64
   pub not-refused : updateNumber (copyFrom Front v d) (copyFrom Back v d) t r ≡ 0
 
--- a signature block equals neither of its versions and is still accepted
+-- a signature block equals neither of its versions, document 01's word for its old and its new bytes, and is still accepted
 abbrev pub Excused : Device → Sectors → Sectors → Time → List ℕ → Type 0
 Excused v d e t r =
     (s : Side)

@@ -2,9 +2,9 @@
 // has and for each store its number, group, sector and the checksum of its 512 bytes; then what the store after the last
 // is refused with. Standard input has the front copy, the back copy, and the updates: seconds in 8 bytes, nanoseconds in 4,
 // the record's length in 2, then the record. At the end the last update runs again with a byte of the back copy's record
-// changed, and with a front copy that is a byte short; then a record is laid into the front copy. What must be printed is the file stdout; samples/updates.py makes
-// both and shares nothing with the library. That the program is safe and ends is proved; that it prints the right thing is
-// tested. Assumes what `io` and `libc` do.
+// changed, and with a front copy that is a byte short; then a record is laid into the front copy. What must be printed is
+// the file stdout; samples/updates.py makes both and shares nothing with the library. That the program is safe and ends is
+// proved; that it prints the right thing is tested. Assumes what `io` and `libc` do.
 ghost use Prim.Native.Nat.{_≤_, _<_};
 ghost use lib.ListN.{length};
 use block::Time;

@@ -1,5 +1,5 @@
-use borrow.Author.Needs.{needs}
 -- `block::all_hex` meets its contract: the bytes passed do not change the answer. Assumes nothing.
+use borrow.Author.Needs.{needs}
 use Prim.Native.Nat.{ℕ, _-_, _≤_}
 use mathlib.Core.Path.{_≡_, refl, sym, ap, _∙_}
 use native.Mathlib.Omega.{arith}

@@ -1,5 +1,5 @@
-use borrow.Author.Needs.{needs}
 -- `record::head_bytes` meets its contract. Assumes nothing.
+use borrow.Author.Needs.{needs}
 use Rattle.record.specs.Items.{headBytes}
 use Rattle.record.proofs.head_bytes.Statement.{statement}
 use Rattle.record.proofs.head_bytes.Tie as tie

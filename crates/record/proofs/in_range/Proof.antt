@@ -1,6 +1,6 @@
+-- `record::in_range` meets its contract. Assumes nothing.
 use Rattle.layout.specs.Places.{dataEnd}
 use Prim.Native.Nat.{_<_, _≤_}
--- `record::in_range` meets its contract. Assumes nothing.
 use Rattle.record.proofs.Accept.{range-past, range-by}
 use native.Mathlib.Omega.{arith}
 use mathlib.Core.Path.{sym}

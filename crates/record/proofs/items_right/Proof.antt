@@ -1,5 +1,5 @@
-use Rattle.record.proofs.Search.{every-zero, every-step, every-stop, every-done}
 -- `record::items_right` meets its contract: the items passed are right. Assumes nothing.
+use Rattle.record.proofs.Search.{every-zero, every-step, every-stop, every-done}
 use Rattle.record.specs.Accept.{itemRight}
 use Rattle.record.specs.Items.{count}
 use Rattle.record.specs.Search.{every}

@@ -1,5 +1,5 @@
-use Rattle.record.proofs.Order.{position-past, position-there}
 -- `record::read_segment` meets its contract. Assumes nothing.
+use Rattle.record.proofs.Order.{position-past, position-there}
 use Rattle.refusal.proofs.Order.{answer-no, answer-yes}
 use Rattle.record.proofs.Order.{more-no, more-yes}
 use Rattle.record.specs.Answers.{positionTests}

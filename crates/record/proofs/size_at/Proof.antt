@@ -1,10 +1,10 @@
+-- `record::size_at` meets its contract. Assumes nothing.
 use Rattle.record.proofs.Items.{read-at}
 use Rattle.endian.specs.Bytes.{le, window}
 use mathlib.Core.List.{List}
 use mathlib.Core.Path.{sym, ap, _∙_}
 use native.Mathlib.Nat.{add-zero}
 use Prim.Native.Nat.{ℕ}
--- `record::size_at` meets its contract. Assumes nothing.
 use Rattle.record.specs.Items.{sizeAt, place}
 use borrow.Author.Needs.{needs}
 use Rattle.record.proofs.size_at.Statement.{statement}

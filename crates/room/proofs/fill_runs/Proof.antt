@@ -1,7 +1,7 @@
--- `room::fill_runs` meets its contract: a walk of its MIR, by hand, since the borrow checker covers no slice of structs.
--- The table's borrow is opened once, before the loop, and closed once, after it. In a turn the entry at i is taken out of the row of entries, run i is stored there, and it is put back: the row is then the table with i + 1 runs (`filled`).
--- All that the proof knows of `next_run` and of `end_of` is that each meets its contract.
--- Assumes nothing.
+-- `room::fill_runs` meets its contract: a walk of its MIR, by hand, since the borrow checker covers no slice of structs. The
+-- table's borrow is opened once, before the loop, and closed once, after it. In a turn the entry at i is taken out of the row
+-- of entries, run i is stored there, and it is put back: the row is then the table with i + 1 runs (`filled`). All that the
+-- proof knows of `next_run` and of `end_of` is that each meets its contract. Assumes nothing.
 use mathlib.Core.Path.{_≡_, refl, sym, ap, _∙_, subst}
 use Prim.Native.Nat.{ℕ, zero, suc, _+_, _*_, _<_, _≤_, _^_}
 use native.Mathlib.Nat.{zero-add, lt-irrefl, lt-suc-self}
@@ -186,7 +186,8 @@ module _ {M : Type 1} (𝓤 : URA M) (H : Heap 𝓤) (A : Atoms 𝓤) (W : Given
       abbrev En : Env 𝓤 H
       En = (tyUnit, l₀) ∷ (D′.mir, l₁) ∷ (bytes, l₂) ∷ (word, l₃) ∷ (entries, l₄) ∷ (word, l₅) ∷ (word, l₆) ∷ (R′.mir, l₇) ∷ (tyBool, l₈) ∷ (word, l₉) ∷ (tyPtr, l₁₀) ∷ []
 
-      -- what no turn touches: the token and what the record's bytes own, the parameters' locals, the result's, the open borrow, and that each local dies
+      -- what no turn touches: the token and what the record's bytes own, the parameters' locals, the result's, the open borrow,
+      -- and that each local dies
       abbrev Frame : List (Item 𝓤)
       Frame = ‵ (flft κ q) ∷ ‵ Own ∷ ‵ (fat fullShare D′.mir l₁ 0 dv) ∷ ‵ (fat fullShare bytes l₂ 0 sv) ∷ ‵ (fat fullShare word l₃ 0 (vint w64 n)) ∷ ‵ (fat fullShare entries l₄ 0 tv) ∷ ‵ (froom tyUnit l₀ 0)
           ∷ ‵ (fobor κ′ q′ (Held R.the-row (length ys) b o γ)) ∷ ‵ (fobs γ (codedHoleys R.the-row .code (heres R.the-row ys))) ∷ ‵ (fauth γ (codedHoleys R.the-row .code (heres R.the-row ys)))

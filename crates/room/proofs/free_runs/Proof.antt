@@ -1,7 +1,8 @@
 -- `room::free_runs` meets its contract: a walk of its MIR, by hand, since the borrow checker covers no slice of structs.
--- `table_answer` decides, `entries_of` turns its answer into a number of entries, and `fill_runs` is called at the table's own lifetime, share and ghost name: the borrow is given up for good, and what `fill_runs` says of its last list is what is said here (`Table.antt`'s `filling`).
--- All that the proof knows of the three is that each meets its contract.
--- Assumes nothing.
+-- `table_answer` decides, `entries_of` turns its answer into a number of entries, and `fill_runs` is called at the table's
+-- own lifetime, share and ghost name: the borrow is given up for good, and what `fill_runs` says of its last list is what is
+-- said here (`Table.antt`'s `filling`). All that the proof knows of the three is that each meets its contract. Assumes
+-- nothing.
 use mathlib.Core.Path.{_≡_, refl, ap, _∙_, subst}
 use Prim.Native.Nat.{ℕ, _<_, _^_}
 use mathlib.Core.List.{List, [], _∷_}

@@ -1,6 +1,6 @@
--- `room::free_runs_of` meets its contract: a walk of its MIR, by hand, since the borrow checker covers no slice of structs. The device numbers are put together, and `free_runs` is called at the table's own lifetime, share and ghost name.
--- All that the proof knows of `free_runs` is that it meets its contract.
--- Assumes nothing.
+-- `room::free_runs_of` meets its contract: a walk of its MIR, by hand, since the borrow checker covers no slice of structs.
+-- The device numbers are put together, and `free_runs` is called at the table's own lifetime, share and ghost name. All that
+-- the proof knows of `free_runs` is that it meets its contract. Assumes nothing.
 use mathlib.Core.Path.{_≡_, refl, subst}
 use Prim.Native.Nat.{ℕ, _<_, _^_}
 use mathlib.Core.List.{List, [], _∷_}

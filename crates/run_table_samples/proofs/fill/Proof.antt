@@ -1,6 +1,6 @@
--- `run_table_samples::fill` meets its contract: a walk of its MIR, by hand, since the borrow checker covers no slice of structs. The array is lent for a lifetime that is made for the call, and is taken back at the entries that `free_runs_of` left.
--- All that the proof knows of `free_runs_of` is that it meets its contract.
--- Assumes nothing.
+-- `run_table_samples::fill` meets its contract: a walk of its MIR, by hand, since the borrow checker covers no slice of
+-- structs. The array is lent for a lifetime that is made for the call, and is taken back at the entries that `free_runs_of`
+-- left. All that the proof knows of `free_runs_of` is that it meets its contract. Assumes nothing.
 use mathlib.Core.Path.{_≡_, refl, sym, subst, _∙_}
 use Prim.Native.Nat.{ℕ, _<_, _^_}
 use mathlib.Core.List.{List, [], _∷_, map}
