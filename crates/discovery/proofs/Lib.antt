@@ -4,3 +4,4 @@ pub mod Deciding
 mod Stepping
 pub mod Found
 pub mod Latest
+pub mod Surveying

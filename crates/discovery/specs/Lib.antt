@@ -2,3 +2,4 @@
 pub mod Copy
 pub mod Discovery
 pub mod Newest
+pub mod Survey

@@ -1,11 +1,12 @@
 // Discovery: the newest whole record of two copies, or the number by which there is none; reading it; whether the copies
 // are in step. A copy is lent as the header's 8 sectors and as much of each area as a record can fill. Assumes nothing.
 ghost use mathlib.Core.Path.{_≡_};
-ghost use mathlib.Core.Bool.{true};
+ghost use mathlib.Core.Bool.{true, false};
 ghost use mathlib.Core.List.{[]};
 ghost use lib.ListN.{length};
 ghost use Rattle.discovery.specs.Copy.{entryIn, otherArea, otherSide, wholeEntry, whole, newer, newest, presentFrom, present, readingIn};
-ghost use Rattle.discovery.specs.Discovery.{recordAt, aloneOf, newestOf, togetherOf, sameDevice, sameUuids, numberOf, decide, discovery, agree, stepped, inStepOf, inStep, recordBytes, readAnswer, readBytes};
+ghost use Rattle.discovery.specs.Discovery.{recordAt, aloneOf, newestOf, togetherOf, sameDevice, sameUuids, numberOf, decide, discovery, inStep, recordBytes, readAnswer, readBytes};
+ghost use Rattle.discovery.specs.Survey.{sameArea, current, oneTime, isFound, surveyBoth, surveyOf, surveyed};
 ghost use Rattle.endian.specs.Bytes.{splice};
 ghost use Rattle.block.specs.declared.Verdict.the-variants as Verdict;
 use block::BlockFields;
@@ -42,6 +43,12 @@ pub enum Other {
 pub enum Answer {
     Found(Record, Other),
     Refused(u8),
+}
+
+// What is seen of two copies at once: what discovery answers, and whether they are in step (`step`).
+pub struct View {
+    pub answer: Answer,
+    pub step: bool,
 }
 
 // Whether an area of a copy is whole: its entry is used, and the area's first used bytes have the entry's checksum.
@@ -240,6 +247,16 @@ fn number_of(v: Verdict) -> u8
     }
 }
 
+// Two copies that are not in step.
+fn apart(answer: Answer) -> View
+    ensures { λ s. ⌜ s ≡ record { answer = answer; step = false } ⌝ }
+{
+    View {
+        answer,
+        step: false,
+    }
+}
+
 // The back copy by itself, where the front's block is refused with number m.
 fn back_only(b: &[u8], v: Verdict, m: u8) -> Answer
     ensures { λ r. ⌜ r ≡ decide (Verdict.Refused m) v true [] (now (b .entry)) ⌝ }
@@ -250,42 +267,42 @@ fn back_only(b: &[u8], v: Verdict, m: u8) -> Answer
     alone(Side::Back, present_in(b, y), m)
 }
 
-// What two copies with these readings give.
-fn decide(f: &[u8], b: &[u8], r: Reading, q: Reading) -> Answer
-    ensures { λ a. ⌜ a ≡ decide (r .verdict) (q .verdict) (sameUuids r q) (now (f .entry)) (now (b .entry)) ⌝ }
+// Whether two areas are the same.
+fn same_area(x: Area, y: Area) -> bool
+    ensures { λ r. ⌜ r ≡ sameArea x y ⌝ }
 {
-    let v = r.verdict;
-    let w = q.verdict;
-    let Verdict::Accepted(x) = v else {
-        return back_only(b, w, number_of(v));
-    };
-    let Verdict::Accepted(y) = w else {
-        return alone(Side::Front, present_in(f, x), number_of(w));
-    };
-    let one = same_device(x, y) & same_uuids(r, q);
-    if !one {
-        return Answer::Refused(refusal::IDENTITY);
+    match x {
+        Area::A => match y {
+            Area::A => true,
+            Area::B => false,
+        },
+        Area::B => match y {
+            Area::A => false,
+            Area::B => true,
+        },
     }
-    together(f, b, present_in(f, x), present_in(b, y))
 }
 
-// Finds the newest whole record of a front and a back copy.
-pub fn discover(f: &[u8], b: &[u8]) -> Answer
-    ensures { λ r. ⌜ r ≡ discovery (now (f .entry)) (now (b .entry)) ⌝ }
+// Whether a copy's present record is that of the entry with the later time.
+fn current(f: BlockFields, p: Present) -> bool
+    ensures { λ r. ⌜ r ≡ current f p ⌝ }
 {
-    let sized = (f.len() == layout::copy_bytes()) & (b.len() == layout::copy_bytes());
-    if !sized {
-        return Answer::Refused(refusal::SLICE_SIZE);
-    }
-    let r = block::read(endian::window(f, 512, 512));
-    let q = block::read(endian::window(b, 512, 512));
-    decide(f, b, r, q)
+    let Present::At(x, _) = p else {
+        return false;
+    };
+    same_area(x, newest(f))
 }
 
-// Whether two records have the same time and bytes.
-fn agree(f: &[u8], b: &[u8], x: Area, h: Holding, y: Area, k: Holding) -> bool
-    ensures { λ r. ⌜ r ≡ agree (now (f .entry)) (now (b .entry)) x h y k ⌝ }
+// Whether two present records have one time.
+fn one_time(p: Present, q: Present) -> bool
+    ensures { λ r. ⌜ r ≡ oneTime p q ⌝ }
 {
+    let Present::At(_, h) = p else {
+        return false;
+    };
+    let Present::At(_, k) = q else {
+        return false;
+    };
     let t = Time {
         seconds: h.seconds,
         nanoseconds: h.nanoseconds,
@@ -294,63 +311,80 @@ fn agree(f: &[u8], b: &[u8], x: Area, h: Holding, y: Area, k: Holding) -> bool
         seconds: k.seconds,
         nanoseconds: k.nanoseconds,
     };
-    let p = endian::window(f, layout::area_offset(x), h.bytes as usize);
-    let q = endian::window(b, layout::area_offset(y), k.bytes as usize);
-    block::same_time(t, u) & endian::same(p, q)
+    block::same_time(t, u)
 }
 
-// Whether in each copy the newest entry is whole, and both records agree.
-fn stepped(f: &[u8], x: BlockFields, b: &[u8], y: BlockFields) -> bool
-    ensures { λ r. ⌜ r ≡ stepped (now (f .entry)) x (now (b .entry)) y ⌝ }
+// Whether a record was found.
+fn is_found(a: Answer) -> bool
+    ensures { λ r. ⌜ r ≡ isFound a ⌝ }
 {
-    let m = newest(x);
-    let n = newest(y);
-    if !whole(f, x, m) {
-        return false;
+    match a {
+        Answer::Found(_, _) => true,
+        Answer::Refused(_) => false,
     }
-    if !whole(b, y, n) {
-        return false;
-    }
-    agree(
-        f,
-        b,
-        m,
-        block::holding_of(entry_in(x, m)),
-        n,
-        block::holding_of(entry_in(y, n)),
-    )
 }
 
-// Whether two copies with these readings are in step.
-fn in_step_of(f: &[u8], b: &[u8], r: Reading, q: Reading) -> bool
-    ensures { λ a. ⌜ a ≡ inStepOf (r .verdict) (q .verdict) (sameUuids r q) (now (f .entry)) (now (b .entry)) ⌝ }
+// Two copies of one identity, whose blocks have these fields. They are in step where both present records are current and have
+// one time, and discovery, which compares their bytes then, does not refuse them.
+fn survey_both(f: &[u8], x: BlockFields, b: &[u8], y: BlockFields) -> View
+    ensures { λ s. ⌜ s ≡ surveyBoth (now (f .entry)) x (now (b .entry)) y ⌝ }
+{
+    let p = present_in(f, x);
+    let q = present_in(b, y);
+    let a = together(f, b, p, q);
+    let whole = current(x, p) & current(y, q);
+    View {
+        answer: a,
+        step: whole & (one_time(p, q) & is_found(a)),
+    }
+}
+
+// What is seen of two copies with these readings.
+fn decide(f: &[u8], b: &[u8], r: Reading, q: Reading) -> View
+    ensures { λ a. ⌜ a ≡ surveyOf (r .verdict) (q .verdict) (sameUuids r q) (now (f .entry)) (now (b .entry)) ⌝ }
 {
     let v = r.verdict;
     let w = q.verdict;
     let Verdict::Accepted(x) = v else {
-        return false;
+        return apart(back_only(b, w, number_of(v)));
     };
     let Verdict::Accepted(y) = w else {
-        return false;
+        return apart(alone(Side::Front, present_in(f, x), number_of(w)));
     };
     let one = same_device(x, y) & same_uuids(r, q);
     if !one {
-        return false;
+        return apart(Answer::Refused(refusal::IDENTITY));
     }
-    stepped(f, x, b, y)
+    survey_both(f, x, b, y)
+}
+
+// Looks at a front and a back copy once: the newest whole record, and whether they are in step.
+pub fn survey(f: &[u8], b: &[u8]) -> View
+    ensures { λ s. ⌜ s ≡ surveyed (now (f .entry)) (now (b .entry)) ⌝ }
+{
+    let sized = (f.len() == layout::copy_bytes()) & (b.len() == layout::copy_bytes());
+    if !sized {
+        return apart(Answer::Refused(refusal::SLICE_SIZE));
+    }
+    let r = block::read(endian::window(f, 512, 512));
+    let q = block::read(endian::window(b, 512, 512));
+    decide(f, b, r, q)
+}
+
+// Finds the newest whole record of a front and a back copy.
+pub fn discover(f: &[u8], b: &[u8]) -> Answer
+    ensures { λ r. ⌜ r ≡ discovery (now (f .entry)) (now (b .entry)) ⌝ }
+{
+    let s = survey(f, b);
+    s.answer
 }
 
 // Whether a front and a back copy are in step. Slices that are no copies by their size are not.
 pub fn in_step(f: &[u8], b: &[u8]) -> bool
     ensures { λ r. ⌜ r ≡ inStep (now (f .entry)) (now (b .entry)) ⌝ }
 {
-    let sized = (f.len() == layout::copy_bytes()) & (b.len() == layout::copy_bytes());
-    if !sized {
-        return false;
-    }
-    let r = block::read(endian::window(f, 512, 512));
-    let q = block::read(endian::window(b, 512, 512));
-    in_step_of(f, b, r, q)
+    let s = survey(f, b);
+    s.step
 }
 
 // Copies a record from the copy and area that it names to the start of out; where it has no room, nothing.

@@ -99,11 +99,12 @@ fn plan_for(c: &[u8], q: Record) -> Rewrite
 pub fn work_out(f: &[u8], b: &[u8]) -> Mending
     ensures { λ m. ⌜ m ≡ mending (now (f .entry)) (now (b .entry)) ⌝ }
 {
-    let a = discovery::discover(f, b);
+    let v = discovery::survey(f, b);
+    let a = v.answer;
     match a {
         Answer::Refused(n) => Mending::Refused(n),
         Answer::Found(q, _) => {
-            if discovery::in_step(f, b) {
+            if v.step {
                 return Mending::InStep;
             }
             let side = q.side;

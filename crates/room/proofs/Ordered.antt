@@ -6,7 +6,6 @@ use mathlib.Core.Logic.{⊎-elim}
 use mathlib.Core.List.{List}
 use native.Mathlib.Decide.{decLt}
 use native.Mathlib.Nat.{le-refl, eq-or-lt-of-le, le-of-suc-le-suc, not-suc-le-zero}
-use native.Mathlib.Numerals.{add-one}
 use native.Mathlib.Omega.{arith}
 use borrow.Author.Tests.{leb-true, lt-leb, le-leb}
 use lib.Dec.{leb}
@@ -15,13 +14,12 @@ use Rattle.layout.specs.declared.Device.{Device}
 use Rattle.layout.specs.Places.{dataStart, dataEnd}
 use Rattle.record.specs.Items.{count, startAt, sectorsAt, segmentAt}
 use Rattle.record.specs.Sectors.{holds, isFree}
-use Rattle.record.specs.Ascending.{endAt, edgeAt, ascends}
+use Rattle.record.specs.Ascending.{endAt, edgeAt}
 use Rattle.record.proofs.Search.{and-left, and-right}
 use Rattle.record.proofs.Accept.{leb-shift}
 use Rattle.record.proofs.Ascending.{InOrder, edge-first, edge-more}
 use Rattle.record.proofs.Meaning.{Accepted}
 use Rattle.record.proofs.Partition.{holds-in, not-holds-low, not-holds-high}
-use Rattle.room.specs.declared.Run.{Run}
 use Rattle.room.specs.Runs.{nextFree, nextTaken, runEnd, runFrom, standsAt}
 use Rattle.room.proofs.Runs.{HeldUpTo, held-more, passed-not-free, not-held-free, held-not-free, high-not-free, next-free-found, next-taken-is, next-free-end, run-none}
 

@@ -1,5 +1,6 @@
 -- An update: its refusals, its stores and their groups. Document 01, 'Updates, formatting and mending'. Assumes nothing.
 use Prim.Native.Nat.{ℕ, _+_, _-_, _*_, _/_}
+use mathlib.Core.Bool.{Bool}
 use mathlib.Core.List.{List, [], _∷_, _++_}
 use lib.Dec.{leb}
 use lib.ListN.{length}
@@ -33,10 +34,14 @@ use Rattle.device.specs.Device.{Store, Groups, storesFrom}
 abbrev pub deviceIn : List ℕ → Device
 deviceIn f = deviceOf (blockIn f)
 
--- after discovery: in step, the time's nanoseconds, its order, and the record
+-- the tests after discovery has found a record of time old, where `step` says whether the copies are in step: 16, then 9 for the
+-- nanoseconds of its time, then 14, then those of the record
+abbrev pub testsAfter : Bool → List ℕ → Time → Time → List ℕ → List Test
+testsAfter step f old t r =
+    (step or notInStep) ∷ (leb (t .nanoseconds) 999999999 or areaEntry) ∷ (laterThan t old or notLater) ∷ contentTests (deviceIn f) r
+
 abbrev pub updateTests : List ℕ → List ℕ → Time → Time → List ℕ → List Test
-updateTests f b old t r =
-    (inStep f b or notInStep) ∷ (leb (t .nanoseconds) 999999999 or areaEntry) ∷ (laterThan t old or notLater) ∷ contentTests (deviceIn f) r
+updateTests f b old t r = testsAfter (inStep f b) f old t r
 
 -- discovery's number, or the first of those tests that fails
 abbrev pub numberAfter : Answer → List ℕ → List ℕ → Time → List ℕ → ℕ

@@ -3,7 +3,7 @@ ghost use mathlib.Core.Path.{_≡_};
 ghost use lib.ListN.{length};
 ghost use Rattle.endian.specs.Bytes.{zeros, splice};
 ghost use Rattle.refusal.specs.Tests.{first};
-ghost use Rattle.update.specs.Update.{updateTests, updateNumber, sectorsOf, withEntry};
+ghost use Rattle.update.specs.Update.{testsAfter, updateNumber, sectorsOf, withEntry};
 ghost use Rattle.update.specs.Plan.{partOf, planned, storesIn, groupOf, sectorIn, blockAnswer, blockBytes, partAnswer, partBytes, storeAnswer, storeBytes, layTests, laid};
 use block::BlockFields;
 use block::Entry;
@@ -42,11 +42,11 @@ pub enum Given {
 
 const LAST: u64 = 18446744073709551615;
 
-// The tests after discovery has found a record of time `old`.
-fn check_after(f: &[u8], b: &[u8], old: Time, t: Time, r: &[u8]) -> u8
-    ensures { λ n. ⌜ n ≡ first (updateTests (now (f .entry)) (now (b .entry)) old t (now (r .entry))) ⌝ }
+// The tests after discovery has found a record of time `old`, where `step` says whether the copies are in step.
+fn check_after(f: &[u8], step: bool, old: Time, t: Time, r: &[u8]) -> u8
+    ensures { λ n. ⌜ n ≡ first (testsAfter step (now (f .entry)) old t (now (r .entry))) ⌝ }
 {
-    if !discovery::in_step(f, b) {
+    if !step {
         return refusal::NOT_IN_STEP;
     }
     let within = t.nanoseconds <= 999999999;
@@ -65,7 +65,8 @@ fn check_after(f: &[u8], b: &[u8], old: Time, t: Time, r: &[u8]) -> u8
 pub fn check(f: &[u8], b: &[u8], t: Time, r: &[u8]) -> u8
     ensures { λ n. ⌜ n ≡ updateNumber (now (f .entry)) (now (b .entry)) t (now (r .entry)) ⌝ }
 {
-    let a = discovery::discover(f, b);
+    let v = discovery::survey(f, b);
+    let a = v.answer;
     match a {
         Answer::Refused(n) => n,
         Answer::Found(q, _) => {
@@ -73,7 +74,7 @@ pub fn check(f: &[u8], b: &[u8], t: Time, r: &[u8]) -> u8
                 seconds: q.seconds,
                 nanoseconds: q.nanoseconds,
             };
-            check_after(f, b, old, t, r)
+            check_after(f, v.step, old, t, r)
         }
     }
 }

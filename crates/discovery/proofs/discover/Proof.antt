@@ -1,61 +1,15 @@
 -- `discovery::discover` meets its contract. Assumes nothing.
-use Prim.Native.Nat.{ℕ}
-use mathlib.Core.Path.{sym, ap, ap₂, _∙_}
-use mathlib.Core.Bool.{_&&_}
-use borrow.Author.Tests.{not-true, not-false}
-use lib.Dec.{eqb}
-use lib.ListN.{length}
-use Rattle.block.specs.declared.Reading.{Reading}
-use Rattle.block.specs.Block.{reading}
-use Rattle.discovery.specs.Discovery.{sameUuids, decide}
-use Rattle.discovery.proofs.Deciding.{discovery-unsized, discovery-sized}
+use mathlib.Core.Path.{ap}
+use Rattle.discovery.specs.declared.View.{View}
 use borrow.Author.Needs.{needs}
 use Rattle.discovery.proofs.discover.Statement.{statement}
 use Rattle.discovery.proofs.discover.Tie as tie
 
-copy-bytes-requires : tie.Need-copy-bytes-requires
-copy-bytes-requires c κs = search needs
-
-copy-bytes-requires-2 : tie.Need-copy-bytes-requires-2
-copy-bytes-requires-2 c κs = search needs
+survey-requires : tie.Need-survey-requires
+survey-requires c κs = search needs
 
 returns : tie.Need-returns
-returns c =
-    discovery-unsized (c .before .before .before .before .before .args .f .now) (c .before .before .before .before .before .args .b .now)
-    (sym (ap₂ (λ (m n : ℕ). eqb (length (c .before .before .before .before .before .args .f .now)) m && eqb (length (c .before .before .before .before .before .args .b .now)) n) (c .before .before .copy-bytes .ensures) (c .before .copy-bytes2 .ensures)) ∙ not-true _ (c .if1 .taken))
-
-window-requires : tie.Need-window-requires
-window-requires c κs = search needs
-
-read-requires : tie.Need-read-requires
-read-requires c κs = search needs
-
-window-requires-2 : tie.Need-window-requires-2
-window-requires-2 c κs = search needs
-
-read-requires-2 : tie.Need-read-requires-2
-read-requires-2 c κs = search needs
-
-decide-requires : tie.Need-decide-requires
-decide-requires c κs = search needs
-
-returns-2 : tie.Need-returns-2
-returns-2 c =
-    c .decide .ensures
-    ∙ (ap₂ (λ (r q : Reading). decide (r .verdict) (q .verdict) (sameUuids r q) (c .before .before .before .before .before .before .before .before .before .before .args .f .now) (c .before .before .before .before .before .before .before .before .before .before .args .b .now))
-    (c .before .before .before .read .ensures ∙ ap reading (c .before .before .before .before .window .ensures)) (c .before .read2 .ensures ∙ ap reading (c .before .before .window2 .ensures))
-    ∙ discovery-sized (c .before .before .before .before .before .before .before .before .before .before .args .f .now) (c .before .before .before .before .before .before .before .before .before .before .args .b .now) (sym (ap₂ (λ (m n : ℕ). eqb (length (c .before .before .before .before .before .before .before .before .before .before .args .f .now)) m && eqb (length (c .before .before .before .before .before .before .before .before .before .before .args .b .now)) n) (c .before .before .before .before .before .before .before .copy-bytes .ensures) (c .before .before .before .before .before .before .copy-bytes2 .ensures)) ∙ not-false _ (c .before .before .before .before .before .if1 .left)))
+returns c = ap (λ (v : View). v .answer) (c .survey .ensures)
 
 pub discover-spec : {M : Type 1} → statement M
-discover-spec =
-    tie.close
-    (tie.spec
-    copy-bytes-requires
-    copy-bytes-requires-2
-    returns
-    window-requires
-    read-requires
-    window-requires-2
-    read-requires-2
-    decide-requires
-    returns-2)
+discover-spec = tie.close (tie.spec survey-requires returns)

@@ -1,0 +1,42 @@
+-- `discovery::one_time` meets its contract. Assumes nothing.
+use mathlib.Core.Path.{_∙_}
+use borrow.Author.Needs.{needs}
+use Rattle.discovery.proofs.one_time.Statement.{statement}
+use Rattle.discovery.proofs.one_time.Tie as tie
+
+enum-known-p : tie.Need-enum-known-p
+enum-known-p c = search needs
+
+enum-told : tie.Need-enum-told
+enum-told c = search needs
+
+returns : tie.Need-returns
+returns c = search needs
+
+enum-known-q : tie.Need-enum-known-q
+enum-known-q c = search needs
+
+enum-told-2 : tie.Need-enum-told-2
+enum-told-2 c = search needs
+
+returns-2 : tie.Need-returns-2
+returns-2 c = search needs
+
+same-time-requires : tie.Need-same-time-requires
+same-time-requires c κs = search needs
+
+returns-3 : tie.Need-returns-3
+returns-3 c = c .same-time .ensures ∙ rw (c .before .before .before .before .before .p .given .1, c .before .before .q .given .1)
+
+pub one-time-spec : {M : Type 1} → statement M
+one-time-spec =
+    tie.close
+    (tie.spec
+    enum-known-p
+    enum-told
+    returns
+    enum-known-q
+    enum-told-2
+    returns-2
+    same-time-requires
+    returns-3)
