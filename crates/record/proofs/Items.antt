@@ -1,17 +1,18 @@
 -- Laws of a record's items: where each stands and what is read there. Assumes nothing.
-use Prim.Native.Nat.{ℕ, _+_, _-_, _^_, _<_, min}
+use Prim.Native.Nat.{ℕ, suc, _+_, _-_, _*_, _/_, _%_, _^_, _≤_, _<_, min}
 use mathlib.Core.Path.{_≡_, sym, ap, _∙_}
 use mathlib.Core.Bool.{true, false, true≢false}
 use mathlib.Core.List.{List}
 use native.Mathlib.Decide.{decLe, decLt}
+use native.Mathlib.Nat.{div-add-mod'}
 use native.Mathlib.Omega.{arith}
 use borrow.Author.Tests.{ne-eqb}
 use lib.ListN.{length}
 use Rattle.endian.specs.Bytes.{le, window}
 use Rattle.endian.proofs.Numbers.{le-bound}
-use Rattle.endian.proofs.Parts.{length-window, window-past}
+use Rattle.endian.proofs.Parts.{length-window, window-past, window-window}
 use Rattle.record.specs.declared.Item.the-variants.{Unknown}
-use Rattle.record.specs.Items.{itemOf, isSegment, kindKnown, place, kindAt, startAt, sectorsAt}
+use Rattle.record.specs.Items.{itemOf, isSegment, kindKnown, headBytes, itemBytes, count, place, kindAt, startAt, sectorsAt}
 
 -- a number that is none of the known kinds
 pub item-unknown : (k : ℕ) → (k ≡ 1 → ⊥) → (k ≡ 2 → ⊥) → (k ≡ 3 → ⊥) → (k ≡ 4 → ⊥) → (k ≡ 16 → ⊥) → itemOf k ≡ Unknown
@@ -51,3 +52,15 @@ kind-small k h =
       | no l ↦
           absurd (true≢false (sym h ∙ ap isSegment (item-unknown k (omega arith) (omega arith) (omega arith) (omega arith) (omega arith))))
     ]
+
+-- a segment that is counted is there with all its bytes
+pub item-there : (s : List ℕ) (i : ℕ) → i < count s → headBytes s + itemBytes * i + itemBytes ≤ length s
+unfolding count
+item-there s i h =
+    let k : suc i ≤ (length s - headBytes s) / 20 = h in
+    let l : (length s - headBytes s) / 20 * 20 + (length s - headBytes s) % 20 ≡ length s - headBytes s = div-add-mod' (length s - headBytes s) 20 in
+    omega arith
+
+-- what is read from its item is what is read from the record
+pub in-item : (s t : List ℕ) (i k n r : ℕ) → t ≡ window s (place s i) itemBytes → k + n ≤ itemBytes → r ≡ le (window t k n) → r ≡ le (window s (place s i + k) n)
+in-item s t i k n r e h f = f ∙ (ap (λ (z : List ℕ). le (window z k n)) e ∙ ap le (window-window s (place s i) itemBytes k n h))

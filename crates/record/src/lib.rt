@@ -6,11 +6,11 @@ use layout::Device;
 use sorting::Order;
 ghost use mathlib.Core.Path.{_≡_};
 ghost use mathlib.Core.Bool.{true};
-ghost use Prim.Native.Nat.{_+_, min};
+ghost use Prim.Native.Nat.{_+_, _<_, min};
 ghost use lib.ListN.{length};
 ghost use lib.Dec.{ltb};
 ghost use Rattle.refusal.specs.Tests.{first};
-ghost use Rattle.endian.specs.Bytes.{room, splice};
+ghost use Rattle.endian.specs.Bytes.{window, room, splice};
 ghost use Rattle.record.specs.Search.{every};
 ghost use Rattle.record.specs.Items.{itemOf, isSegment, isHead, kindKnown, headBytes, blockSize, blockSizeAllowed, headRight, itemBytes, count, place, sizeAt, kindAt, startAt, sectorsAt, segmentAt};
 ghost use Rattle.record.specs.Accept.{mostSegments, itemRight, wellFormed, inRange, allInRange, meets, laterOf, apart, contentTests, recordTests};
@@ -212,6 +212,9 @@ pub fn sectors_at(s: &[u8], i: usize) -> u64
 pub fn segment_at(s: &[u8], i: usize) -> Segment
     ensures { λ r. ⌜ r ≡ segmentAt (now (s .entry)) i ⌝ }
 {
+    if i < count_of(s) {
+        return segment_in(s, i);
+    }
     Segment {
         kind: kind_at(s, i),
         start: start_at(s, i),
@@ -219,11 +222,35 @@ pub fn segment_at(s: &[u8], i: usize) -> Segment
     }
 }
 
-// Whether the item at position i is a segment as it has to be.
+// The item at a position that is there: its bytes are found with no test.
+fn item_in(s: &[u8], i: usize) -> &[u8]
+    requires { ⌜ i < count (now s) ⌝ }
+    ensures { λ r. ⌜ now r ≡ window (now (s .entry)) (place (now (s .entry)) i) itemBytes ⌝ }
+{
+    let at = head_bytes(s) + ITEM_BYTES * i;
+    &s[at..at + ITEM_BYTES]
+}
+
+// The segment at a position that is there.
+fn segment_in(s: &[u8], i: usize) -> Segment
+    requires { ⌜ i < count (now s) ⌝ }
+    ensures { λ r. ⌜ r ≡ segmentAt (now (s .entry)) i ⌝ }
+{
+    let t = item_in(s, i);
+    Segment {
+        kind: endian::read_u16(t, 2),
+        start: endian::read_u64(t, 4),
+        sectors: endian::read_u64(t, 12),
+    }
+}
+
+// Whether the item at a position that is there is a segment as it has to be.
 fn item_right(s: &[u8], i: usize) -> bool
+    requires { ⌜ i < count (now s) ⌝ }
     ensures { λ r. ⌜ r ≡ itemRight (now (s .entry)) i ⌝ }
 {
-    (size_at(s, i) == 20) & kind_known(kind_at(s, i))
+    let t = item_in(s, i);
+    (endian::read_u16(t, 0) == 20) & kind_known(endian::read_u16(t, 2))
 }
 
 // Whether every item after the head is a segment as it has to be.
@@ -271,7 +298,7 @@ fn all_in_range(d: Device, s: &[u8]) -> bool
     let n = count_of(s);
     let mut i = 0;
     while i < n {
-        if !in_range(d, segment_at(s, i)) {
+        if !in_range(d, segment_in(s, i)) {
             return false;
         }
         i += 1;

@@ -1,6 +1,7 @@
 -- The laws that callers cite.
 pub mod Runs
 pub mod Ordered
+pub mod Fitting
 pub mod Answers
 pub mod Change
 pub mod Table

@@ -303,18 +303,53 @@ fn runs_of(d: Device, s: &[u8], at: &[u16], ascending: bool) -> u64
     }
 }
 
-// The first run of m sectors or more; 0 sectors where there is none.
+// The first run of m sectors or more, where the segments have the order `at`; 0 sectors where there is none.
+fn fit_in_order(d: Device, s: &[u8], at: &[u16], m: u64) -> Run
+    requires { ⌜ first (recordTests d (now s)) ≡ 0 ⌝ }
+    requires { ⌜ ascends (now s) (now at) ≡ true ⌝ }
+    requires { ⌜ 1 ≤ m ⌝ }
+    ensures { λ r. ⌜ r ≡ fitRun d (now (s .entry)) m ⌝ }
+{
+    let n = record::count_of(s);
+    let mut y = layout::data_start(d);
+    let mut j = 0;
+    while j < n {
+        let g = record::segment_at(s, position_at(at, j));
+        if m <= g.start - y {
+            return Run {
+                start: y,
+                sectors: g.start - y,
+            };
+        }
+        y = g.start + g.sectors;
+        j += 1;
+    }
+    let end = layout::data_end(d);
+    if m <= end - y {
+        return Run {
+            start: y,
+            sectors: end - y,
+        };
+    }
+    Run {
+        start: end,
+        sectors: 0,
+    }
+}
+
+// The first run of m sectors or more; 0 sectors where there is none. Where the segments have no order the runs are searched for.
 fn fit_of(d: Device, s: &[u8], at: &[u16], ascending: bool, m: u64) -> Run
     requires { ⌜ first (recordTests d (now s)) ≡ 0 ⌝ }
     requires { ⌜ (ascending ≡ true → ascends (now s) (now at) ≡ true) ⌝ }
     requires { ⌜ 1 ≤ m ⌝ }
     ensures { λ r. ⌜ r ≡ fitRun d (now (s .entry)) m ⌝ }
 {
+    if ascending {
+        return fit_in_order(d, s, at, m);
+    }
     let mut x: u64 = 0;
-    let mut rank = 0;
     loop {
-        let g = run_on(d, s, at, ascending, rank, x);
-        let r = g.run;
+        let r = next_run(d, s, x);
         if r.sectors == 0 {
             return r;
         }
@@ -322,7 +357,6 @@ fn fit_of(d: Device, s: &[u8], at: &[u16], ascending: bool, m: u64) -> Run
             return r;
         }
         x = r.start + r.sectors;
-        rank = g.rank;
     }
 }
 

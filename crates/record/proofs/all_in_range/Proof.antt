@@ -26,8 +26,8 @@ loop-holds : tie.Need-loop-holds Inv-loop μ-loop
 loop-holds c =
     (omega arith, every-zero (rangeAt (c .before .before .args .d) (c .before .before .args .s .now)))
 
-segment-at-requires : tie.Need-segment-at-requires Inv-loop μ-loop
-segment-at-requires c κs = search needs
+segment-in-requires : tie.Need-segment-in-requires Inv-loop μ-loop
+segment-in-requires c κs = omega arith
 
 in-range-requires : tie.Need-in-range-requires Inv-loop μ-loop
 in-range-requires c κs = search needs
@@ -39,7 +39,7 @@ returns c =
     let d : Device = c .before .before .before .before .before .before .before .args .d in
     every-stop (rangeAt d s) (c .before .before .before .before .loop .i) (c .before .before .before .before .before .count-of .result) (count s)
     (c .before .in-range .result) (c .before .before .before .loop-test .taken) (c .before .before .before .before .before .count-of .ensures)
-    (c .before .in-range .ensures ∙ ap (inRange d) (c .before .before .segment-at .ensures)) (c .if1 .taken)
+    (c .before .in-range .ensures ∙ ap (inRange d) (c .before .before .segment-in .ensures)) (c .if1 .taken)
 
 add-i : tie.Need-add-i Inv-loop μ-loop
 add-i c = omega arith
@@ -53,7 +53,7 @@ loop-again c =
     let d : Device = c .before .before .before .before .before .before .before .args .d in (
       omega arith,
       every-step (rangeAt d s) (c .before .before .before .before .loop .i) (c .before .in-range .result)
-          (c .before .before .before .before .loop .inv .1) (c .before .in-range .ensures ∙ ap (inRange d) (c .before .before .segment-at .ensures)) (c .if1 .left),
+          (c .before .before .before .before .loop .inv .1) (c .before .in-range .ensures ∙ ap (inRange d) (c .before .before .segment-in .ensures)) (c .if1 .left),
     )
 
 returns-2 : tie.Need-returns-2 Inv-loop μ-loop
@@ -72,7 +72,7 @@ all-in-range-spec =
     μ-loop
     count-of-requires
     loop-holds
-    segment-at-requires
+    segment-in-requires
     in-range-requires
     returns
     add-i

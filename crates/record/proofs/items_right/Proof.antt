@@ -25,7 +25,7 @@ loop-holds : tie.Need-loop-holds Inv-loop μ-loop
 loop-holds c = (omega arith, every-zero (itemRight (c .before .before .args .s .now)))
 
 item-right-requires : tie.Need-item-right-requires Inv-loop μ-loop
-item-right-requires c κs = search needs
+item-right-requires c κs = omega arith
 
 returns : tie.Need-returns Inv-loop μ-loop
 returns c =
