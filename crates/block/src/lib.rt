@@ -131,28 +131,26 @@ fn is_hex(x: u8) -> bool
 pub fn all_hex(s: &[u8]) -> bool
     ensures { λ r. ⌜ r ≡ all isHex (now (s .entry)) ⌝ }
 {
+    let mut hex = true;
     let mut i = 0;
     while i < s.len() {
-        if !is_hex(s[i]) {
-            return false;
-        }
+        hex = hex & is_hex(s[i]);
         i += 1;
     }
-    true
+    hex
 }
 
 // Whether all bytes of s are zero.
 fn all_zero(s: &[u8]) -> bool
     ensures { λ r. ⌜ r ≡ allZero (now (s .entry)) ⌝ }
 {
+    let mut zero = true;
     let mut i = 0;
     while i < s.len() {
-        if s[i] != 0 {
-            return false;
-        }
+        zero = zero & (s[i] == 0);
         i += 1;
     }
-    true
+    zero
 }
 
 // Whether the flags and the zero fields of s are zero.

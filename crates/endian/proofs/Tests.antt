@@ -1,14 +1,14 @@
 -- Laws of the tests of lists. Assumes nothing.
-use Prim.Native.Nat.{ℕ, zero, suc, _+_, _-_, _<_}
+use Prim.Native.Nat.{ℕ, zero, suc, _+_, _<_, _≤_}
 use mathlib.Core.Path.{_≡_, refl, sym, ap, ap₂, _∙_}
-use mathlib.Core.Bool.{Bool, true, false, _&&_, true≢false}
+use mathlib.Core.Bool.{Bool, true, false, _&&_, true≢false, and-assoc}
 use mathlib.Core.List.{List, [], _∷_, _++_}
 use native.Mathlib.Nat.{not-suc-le-zero, le-of-suc-le-suc}
 use native.Mathlib.Numerals.{add-one}
 use native.Mathlib.Omega.{arith}
 use borrow.Author.Tests.{eqb-true, eq-eqb, ne-eqb}
 use lib.Dec.{eqb}
-use lib.ListN.{length, getD, drop, length-replicate, replicate-append-replicate}
+use lib.ListN.{length, getD, drop, length-replicate, replicate-append-replicate, drop-of-length-le}
 use lib.Seq.{drop-cons}
 use Rattle.endian.specs.Bytes.{same, all, zeros}
 
@@ -72,6 +72,10 @@ same-differ a b i h k e =
     ∙ (same-cons (getD a i 0) (getD b i 0) (drop (suc i) a) (drop (suc i) b)
     ∙ ap (λ (z : Bool). z && same (drop (suc i) a) (drop (suc i) b)) (ne-eqb (getD a i 0) (getD b i 0) e))
 
+and-true : (r : Bool) → r && true ≡ r
+and-true true = refl
+and-true false = refl
+
 module _ (p : ℕ → Bool) where
   all-cons : (x : ℕ) (xs : List ℕ) → all p (x ∷ xs) ≡ (p x && all p xs)
   unfolding all
@@ -81,18 +85,15 @@ module _ (p : ℕ → Bool) where
   unfolding all
   all-nil = refl
 
-  -- an element that passes does not change what is said of the others
-  pub all-drop : (s : List ℕ) (i : ℕ) → i < length s → p (getD s i 0) ≡ true → all p (drop i s) ≡ all p (drop (i + 1) s)
-  all-drop s i h e =
-      ap (all p) (drop-cons s i 0 h)
-      ∙ (all-cons (getD s i 0) (drop (suc i) s)
-      ∙ (ap (λ (z : Bool). z && all p (drop (suc i) s)) e ∙ ap (λ (n : ℕ). all p (drop n s)) (sym (add-one i))))
+  -- As a loop has it that has tested the elements before i, with answer r: one element more, and the end.
+  pub all-next : (s : List ℕ) (i : ℕ) (r : Bool) → i < length s → (r && p (getD s i 0)) && all p (drop (i + 1) s) ≡ (r && all p (drop i s))
+  all-next s i r h =
+      and-assoc r (p (getD s i 0)) (all p (drop (i + 1) s))
+      ∙ ap (λ (z : Bool). r && z)
+      (sym (ap (all p) (drop-cons s i 0 h) ∙ (all-cons (getD s i 0) (drop (suc i) s) ∙ ap (λ (n : ℕ). p (getD s i 0) && all p (drop n s)) (sym (add-one i)))))
 
-  -- one that fails settles it
-  pub all-fail : (s : List ℕ) (i : ℕ) → i < length s → p (getD s i 0) ≡ false → all p (drop i s) ≡ false
-  all-fail s i h e =
-      ap (all p) (drop-cons s i 0 h)
-      ∙ (all-cons (getD s i 0) (drop (suc i) s) ∙ ap (λ (z : Bool). z && all p (drop (suc i) s)) e)
+  pub all-done : (s : List ℕ) (i : ℕ) (r : Bool) → length s ≤ i → r && all p (drop i s) ≡ r
+  all-done s i r h = ap (λ (z : List ℕ). r && all p z) (drop-of-length-le s h) ∙ (ap (λ (z : Bool). r && z) all-nil ∙ and-true r)
 
   pub all-at : (s : List ℕ) → all p s ≡ true → (i : ℕ) → i < length s → p (getD s i 0) ≡ true
   unfolding all

@@ -619,17 +619,21 @@ pub fn free_runs_of(
 }
 
 // Stores the first n runs in a table of numbers, start and length for each, one walk from run to run.
-fn fill_numbers(d: Device, s: &[u8], n: usize, table: &mut [u64])
+fn fill_numbers(d: Device, s: &[u8], at: &[u16], ascending: bool, n: usize, table: &mut [u64])
     requires { ⌜ (0 < n → first (recordTests d (now s)) ≡ 0) × ((n ≤ runCount d (now s)) × (2 * n ≤ length (now table))) ⌝ }
+    requires { ⌜ (ascending ≡ true → ascends (now s) (now at) ≡ true) ⌝ }
     ensures { λ _. ⌜ now (table .exit) ≡ filledNumbers d (now (s .entry)) n (now (table .entry)) ⌝ }
 {
     let mut x: u64 = 0;
+    let mut rank = 0;
     let mut i = 0;
     while i < n {
-        let r = next_run(d, s, x);
+        let g = run_on(d, s, at, ascending, rank, x);
+        let r = g.run;
         table[2 * i] = r.start;
         table[2 * i + 1] = r.sectors;
         x = end_of(r);
+        rank = g.rank;
         i += 1;
     }
 }
@@ -640,6 +644,8 @@ pub fn free_run_numbers(d: Device, s: &[u8], table: &mut [u64]) -> RunNumber
     ensures { λ _. ⌜ now (table .exit) ≡ numbersLeft d (now (s .entry)) (now (table .entry)) ⌝ }
 {
     let a = table_answer(d, s, table.len() / 2);
-    fill_numbers(d, s, entries_of(a), table);
+    let o = record::sorting::order_of(s);
+    let at = o.at;
+    fill_numbers(d, s, &at, o.ascending, entries_of(a), table);
     a
 }

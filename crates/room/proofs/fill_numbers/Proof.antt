@@ -12,16 +12,16 @@ use Rattle.room.proofs.fill_numbers.Statement.{statement}
 use Rattle.room.proofs.fill_numbers.Tie as tie
 
 abbrev Inv-loop : tie.InvT-loop
-Inv-loop d s n table₀ x₀ i₀ table x i = AtRun d s i x × ((i ≤ n) × (table ≡ filledNumbers d s i table₀))
+Inv-loop d s at ascending n table₀ x₀ rank₀ i₀ table x rank i = AtRun d s i x × ((i ≤ n) × (table ≡ filledNumbers d s i table₀))
 
 abbrev μ-loop : tie.MeasureT-loop
-μ-loop d s n table₀ x₀ i₀ table x i = n - i
+μ-loop d s at ascending n table₀ x₀ rank₀ i₀ table x rank i = n - i
 
 loop-holds : tie.Need-loop-holds Inv-loop μ-loop
-loop-holds c = (at-first (c .before .before .args .d) (c .before .before .args .s .now), (omega arith, sym (numbers-none (c .before .before .args .d) (c .before .before .args .s .now) (c .before .before .args .table .now))))
+loop-holds c = (at-first (c .before .before .before .args .d) (c .before .before .before .args .s .now), (omega arith, sym (numbers-none (c .before .before .before .args .d) (c .before .before .before .args .s .now) (c .before .before .before .args .table .now))))
 
-next-run-requires : tie.Need-next-run-requires Inv-loop μ-loop
-next-run-requires c κs = let l : c .before .loop .i < c .before .before .before .before .args .n = c .loop-test .taken in c .before .before .before .before .pre .0 (omega arith)
+run-on-requires : tie.Need-run-on-requires Inv-loop μ-loop
+run-on-requires c κs = let l : c .before .loop .i < c .before .before .before .before .before .args .n = c .loop-test .taken in (c .before .before .before .before .before .pre .0 .0 (omega arith), c .before .before .before .before .before .pre .1)
 
 mul-table : tie.Need-mul-table Inv-loop μ-loop
 mul-table c = search needs
@@ -30,7 +30,7 @@ mul-table-2 : tie.Need-mul-table-2 Inv-loop μ-loop
 mul-table-2 c = search needs
 
 slice-write-table : tie.Need-slice-write-table Inv-loop μ-loop
-slice-write-table c = (numbers-turn (c .before .before .before .before .before .args .d) (c .before .before .before .before .before .args .s .now) (c .before .before .before .before .before .args .n) (c .before .before .loop .i) (c .before .before .loop .x) (c .before .before .before .before .before .args .table .now) (c .before .before .loop .table) (c .next-run .result) (c .before .before .loop .inv .0) (c .before .before .loop .inv .1 .1) (c .before .loop-test .taken) (c .before .before .before .before .before .pre .1 .0) (c .before .before .before .before .before .pre .1 .1) (c .next-run .ensures)) .first-in
+slice-write-table c = (numbers-turn (c .before .before .before .before .before .before .before .args .d) (c .before .before .before .before .before .before .before .args .s .now) (c .before .before .before .before .before .before .before .args .n) (c .before .before .before .loop .i) (c .before .before .before .loop .x) (c .before .before .before .before .before .before .before .args .table .now) (c .before .before .before .loop .table) (c .before .run-on .result .run) (c .before .before .before .loop .inv .0) (c .before .before .before .loop .inv .1 .1) (c .before .before .loop-test .taken) (c .before .before .before .before .before .before .before .pre .0 .1 .0) (c .before .before .before .before .before .before .before .pre .0 .1 .1) (c .before .run-on .ensures)) .first-in
 
 mul-table-3 : tie.Need-mul-table-3 Inv-loop μ-loop
 mul-table-3 c = search needs
@@ -42,10 +42,10 @@ mul-table-4 : tie.Need-mul-table-4 Inv-loop μ-loop
 mul-table-4 c = search needs
 
 slice-write-table-2 : tie.Need-slice-write-table-2 Inv-loop μ-loop
-slice-write-table-2 c = (numbers-turn (c .before .before .before .before .before .args .d) (c .before .before .before .before .before .args .s .now) (c .before .before .before .before .before .args .n) (c .before .before .loop .i) (c .before .before .loop .x) (c .before .before .before .before .before .args .table .now) (c .before .before .loop .table) (c .next-run .result) (c .before .before .loop .inv .0) (c .before .before .loop .inv .1 .1) (c .before .loop-test .taken) (c .before .before .before .before .before .pre .1 .0) (c .before .before .before .before .before .pre .1 .1) (c .next-run .ensures)) .second-in
+slice-write-table-2 c = (numbers-turn (c .before .before .before .before .before .before .before .args .d) (c .before .before .before .before .before .before .before .args .s .now) (c .before .before .before .before .before .before .before .args .n) (c .before .before .before .loop .i) (c .before .before .before .loop .x) (c .before .before .before .before .before .before .before .args .table .now) (c .before .before .before .loop .table) (c .before .run-on .result .run) (c .before .before .before .loop .inv .0) (c .before .before .before .loop .inv .1 .1) (c .before .before .loop-test .taken) (c .before .before .before .before .before .before .before .pre .0 .1 .0) (c .before .before .before .before .before .before .before .pre .0 .1 .1) (c .before .run-on .ensures)) .second-in
 
 end-of-requires : tie.Need-end-of-requires Inv-loop μ-loop
-end-of-requires c κs = let w : c .next-run .result .start + c .next-run .result .sectors ≤ dataEnd (c .before .before .before .before .before .args .d) = (numbers-turn (c .before .before .before .before .before .args .d) (c .before .before .before .before .before .args .s .now) (c .before .before .before .before .before .args .n) (c .before .before .loop .i) (c .before .before .loop .x) (c .before .before .before .before .before .args .table .now) (c .before .before .loop .table) (c .next-run .result) (c .before .before .loop .inv .0) (c .before .before .loop .inv .1 .1) (c .before .loop-test .taken) (c .before .before .before .before .before .pre .1 .0) (c .before .before .before .before .before .pre .1 .1) (c .next-run .ensures)) .inside in omega arith
+end-of-requires c κs = let w : c .before .run-on .result .run .start + c .before .run-on .result .run .sectors ≤ dataEnd (c .before .before .before .before .before .before .before .args .d) = (numbers-turn (c .before .before .before .before .before .before .before .args .d) (c .before .before .before .before .before .before .before .args .s .now) (c .before .before .before .before .before .before .before .args .n) (c .before .before .before .loop .i) (c .before .before .before .loop .x) (c .before .before .before .before .before .before .before .args .table .now) (c .before .before .before .loop .table) (c .before .run-on .result .run) (c .before .before .before .loop .inv .0) (c .before .before .before .loop .inv .1 .1) (c .before .before .loop-test .taken) (c .before .before .before .before .before .before .before .pre .0 .1 .0) (c .before .before .before .before .before .before .before .pre .0 .1 .1) (c .before .run-on .ensures)) .inside in omega arith
 
 add-i : tie.Need-add-i Inv-loop μ-loop
 add-i c = search needs
@@ -54,13 +54,13 @@ loop-less : tie.Need-loop-less Inv-loop μ-loop
 loop-less c = search needs
 
 loop-again : tie.Need-loop-again Inv-loop μ-loop
-loop-again c = (subst (AtRun (c .before .before .before .before .before .before .args .d) (c .before .before .before .before .before .before .args .s .now) (c .before .before .before .loop .i + 1)) (sym (c .end-of .ensures)) ((numbers-turn (c .before .before .before .before .before .before .args .d) (c .before .before .before .before .before .before .args .s .now) (c .before .before .before .before .before .before .args .n) (c .before .before .before .loop .i) (c .before .before .before .loop .x) (c .before .before .before .before .before .before .args .table .now) (c .before .before .before .loop .table) (c .before .next-run .result) (c .before .before .before .loop .inv .0) (c .before .before .before .loop .inv .1 .1) (c .before .before .loop-test .taken) (c .before .before .before .before .before .before .pre .1 .0) (c .before .before .before .before .before .before .pre .1 .1) (c .before .next-run .ensures)) .next), (omega (arith, c .before .before .loop-test .taken), (numbers-turn (c .before .before .before .before .before .before .args .d) (c .before .before .before .before .before .before .args .s .now) (c .before .before .before .before .before .before .args .n) (c .before .before .before .loop .i) (c .before .before .before .loop .x) (c .before .before .before .before .before .before .args .table .now) (c .before .before .before .loop .table) (c .before .next-run .result) (c .before .before .before .loop .inv .0) (c .before .before .before .loop .inv .1 .1) (c .before .before .loop-test .taken) (c .before .before .before .before .before .before .pre .1 .0) (c .before .before .before .before .before .before .pre .1 .1) (c .before .next-run .ensures)) .stored))
+loop-again c = (subst (AtRun (c .before .before .before .before .before .before .before .before .args .d) (c .before .before .before .before .before .before .before .before .args .s .now) (c .before .before .before .before .loop .i + 1)) (sym (c .end-of .ensures)) ((numbers-turn (c .before .before .before .before .before .before .before .before .args .d) (c .before .before .before .before .before .before .before .before .args .s .now) (c .before .before .before .before .before .before .before .before .args .n) (c .before .before .before .before .loop .i) (c .before .before .before .before .loop .x) (c .before .before .before .before .before .before .before .before .args .table .now) (c .before .before .before .before .loop .table) (c .before .before .run-on .result .run) (c .before .before .before .before .loop .inv .0) (c .before .before .before .before .loop .inv .1 .1) (c .before .before .before .loop-test .taken) (c .before .before .before .before .before .before .before .before .pre .0 .1 .0) (c .before .before .before .before .before .before .before .before .pre .0 .1 .1) (c .before .before .run-on .ensures)) .next), (omega (arith, c .before .before .before .loop-test .taken), (numbers-turn (c .before .before .before .before .before .before .before .before .args .d) (c .before .before .before .before .before .before .before .before .args .s .now) (c .before .before .before .before .before .before .before .before .args .n) (c .before .before .before .before .loop .i) (c .before .before .before .before .loop .x) (c .before .before .before .before .before .before .before .before .args .table .now) (c .before .before .before .before .loop .table) (c .before .before .run-on .result .run) (c .before .before .before .before .loop .inv .0) (c .before .before .before .before .loop .inv .1 .1) (c .before .before .before .loop-test .taken) (c .before .before .before .before .before .before .before .before .pre .0 .1 .0) (c .before .before .before .before .before .before .before .before .pre .0 .1 .1) (c .before .before .run-on .ensures)) .stored))
 
 same-length : tie.Need-same-length Inv-loop μ-loop
-same-length c = ap length (c .before .loop .inv .1 .1) ∙ length-filled-numbers (c .before .before .before .before .args .d) (c .before .before .before .before .args .s .now) (c .before .loop .i) (c .before .before .before .before .args .table .now) (let l : 2 * c .before .before .before .before .args .n ≤ length (c .before .before .before .before .args .table .now) = c .before .before .before .before .pre .1 .1 in let m : c .before .loop .i ≤ c .before .before .before .before .args .n = c .before .loop .inv .1 .0 in omega arith)
+same-length c = ap length (c .before .loop .inv .1 .1) ∙ length-filled-numbers (c .before .before .before .before .before .args .d) (c .before .before .before .before .before .args .s .now) (c .before .loop .i) (c .before .before .before .before .before .args .table .now) (let l : 2 * c .before .before .before .before .before .args .n ≤ length (c .before .before .before .before .before .args .table .now) = c .before .before .before .before .before .pre .0 .1 .1 in let m : c .before .loop .i ≤ c .before .before .before .before .before .args .n = c .before .loop .inv .1 .0 in omega arith)
 
 returns : tie.Need-returns Inv-loop μ-loop
-returns c = c .before .loop .inv .1 .1 ∙ ap (λ (k : ℕ). filledNumbers (c .before .before .before .before .args .d) (c .before .before .before .before .args .s .now) k (c .before .before .before .before .args .table .now)) (let m : c .before .loop .i ≤ c .before .before .before .before .args .n = c .before .loop .inv .1 .0 in let l : c .before .before .before .before .args .n ≤ c .before .loop .i = c .loop-test .left in omega arith)
+returns c = c .before .loop .inv .1 .1 ∙ ap (λ (k : ℕ). filledNumbers (c .before .before .before .before .before .args .d) (c .before .before .before .before .before .args .s .now) k (c .before .before .before .before .before .args .table .now)) (let m : c .before .loop .i ≤ c .before .before .before .before .before .args .n = c .before .loop .inv .1 .0 in let l : c .before .before .before .before .before .args .n ≤ c .before .loop .i = c .loop-test .left in omega arith)
 
 pub fill-numbers-spec : {M : Type 1} → statement M
 fill-numbers-spec =
@@ -69,7 +69,7 @@ fill-numbers-spec =
     Inv-loop
     μ-loop
     loop-holds
-    next-run-requires
+    run-on-requires
     mul-table
     mul-table-2
     slice-write-table
