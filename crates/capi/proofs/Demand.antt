@@ -69,13 +69,13 @@ module _ (v : Device) (d : Sectors) (t : Time) (r s : List ℕ) (st : Start v d 
 
   -- store i, as the plan gives it
   update-stored : (i : ℕ) (out m : List ℕ) → length m ≡ 1 → (x : Given) (w : List ℕ)
-      → (Update.storeAnswer (planOn v d t r) (copyFrom Front v d) (copyFrom Back v d) i out ≡ x)
+      → (Update.storeAnswer (planOn v d t r) (copyFrom Front v d) (copyFrom Back v d) r i out ≡ x)
       × (Update.storeBytes (planOn v d t r) (copyFrom Front v d) (copyFrom Back v d) r i out ≡ w)
-      → (updateStoreNumber (updatePlan v d t r s) (copyFrom Front v d) (copyFrom Back v d) i out m ≡ givenNumber x)
+      → (updateStoreNumber (updatePlan v d t r s) (copyFrom Front v d) (copyFrom Back v d) r i out m ≡ givenNumber x)
       × ((updateStoreBytes (updatePlan v d t r s) (copyFrom Front v d) (copyFrom Back v d) r i out m ≡ w)
-      × (updateStoreSector (updatePlan v d t r s) (copyFrom Front v d) (copyFrom Back v d) i out m ≡ givenLeft x m))
+      × (updateStoreSector (updatePlan v d t r s) (copyFrom Front v d) (copyFrom Back v d) r i out m ≡ givenLeft x m))
   update-stored i out m one x w h =
-      stored (updatePlan v d t r s) m 148 long one _ x (ap (λ (p : Plan). Update.storeAnswer p (copyFrom Front v d) (copyFrom Back v d) i out) read ∙ h .0) _ w out
+      stored (updatePlan v d t r s) m 148 long one _ x (ap (λ (p : Plan). Update.storeAnswer p (copyFrom Front v d) (copyFrom Back v d) r i out) read ∙ h .0) _ w out
       (ap (λ (p : Plan). Update.storeBytes p (copyFrom Front v d) (copyFrom Back v d) r i out) read ∙ h .1)
 
 pub giving : Claims.Giving

@@ -417,38 +417,38 @@ module _ (v : Device) (d : Sectors) (t : Time) (r : List ℕ) (s : Start v d t r
 
     -- the plan gives it at that number
     plan-gives : (w : Side) (j : ℕ) → j ≤ k
-        → (partAnswer (part w (deviceIn (copy Front))) k (copy w) j out ≡ storeAnswer plan (copy Front) (copy Back) (begin k w + j) out)
+        → (partAnswer (part w (deviceIn (copy Front))) k (copy w) j out ≡ storeAnswer plan (copy Front) (copy Back) r (begin k w + j) out)
         × (partBytes (part w (deviceIn (copy Front))) k (copy w) r j out ≡ storeBytes plan (copy Front) (copy Back) r (begin k w + j) out)
     plan-gives Front j l =
         let n : j ≡ 0 + j = omega arith in
         let z : 0 + j < storesIn plan = omega arith in
-        front-store plan (copy Front) (copy Back) r (0 + j) out lent _ refl z _ _ (omega arith)
+        front-store plan (copy Front) (copy Back) r (0 + j) out lent its-length _ refl z _ _ (omega arith)
         (ap (λ (i : ℕ). partAnswer (part Front (deviceIn (copy Front))) k (copy Front) i out) n)
         (ap (λ (i : ℕ). partBytes (part Front (deviceIn (copy Front))) k (copy Front) r i out) n)
     plan-gives Back j l =
         let n : j ≡ k + 1 + j - (k + 1) = omega arith in
         let z : k + 1 + j < storesIn plan = omega arith in
-        back-store plan (copy Front) (copy Back) r (k + 1 + j) out lent _ refl z _ _ (omega arith)
+        back-store plan (copy Front) (copy Back) r (k + 1 + j) out lent its-length _ refl z _ _ (omega arith)
         (ap (λ (i : ℕ). partAnswer (part Back (deviceIn (copy Front))) k (copy Back) i out) n)
         (ap (λ (i : ℕ). partBytes (part Back (deviceIn (copy Front))) k (copy Back) r i out) n)
 
     all-given : (i : ℕ) → i < all
-        → (storeAnswer plan (copy Front) (copy Back) i out ≡ Given.At (storeIn groups i .sector))
+        → (storeAnswer plan (copy Front) (copy Back) r i out ≡ Given.At (storeIn groups i .sector))
         × (storeBytes plan (copy Front) (copy Back) r i out ≡ storeIn groups i .content)
     all-given i l = go (which k i l)
       where
         go : (w : Side) × (j : ℕ) × (j ≤ k) × (i ≡ begin k w + j)
-            → (storeAnswer plan (copy Front) (copy Back) i out ≡ Given.At (storeIn groups i .sector))
+            → (storeAnswer plan (copy Front) (copy Back) r i out ≡ Given.At (storeIn groups i .sector))
             × (storeBytes plan (copy Front) (copy Back) r i out ≡ storeIn groups i .content)
         go (w, j, h, e) = rw e (sym (plan-gives w j h .0) ∙ given-at w out room j h .0, sym (plan-gives w j h .1) ∙ given-at w out room j h .1)
 
     -- past the last
     none-given : (i : ℕ) → all ≤ i
-        → (storeAnswer plan (copy Front) (copy Back) i out ≡ Given.Refused noStore) × (storeBytes plan (copy Front) (copy Back) r i out ≡ out)
+        → (storeAnswer plan (copy Front) (copy Back) r i out ≡ Given.Refused noStore) × (storeBytes plan (copy Front) (copy Back) r i out ≡ out)
     none-given i l =
         let n : 2 * k + 2 ≤ i = omega arith in
-        let x : (Given.Refused noStore ≡ storeAnswer plan (copy Front) (copy Back) i out) × (out ≡ storeBytes plan (copy Front) (copy Back) r i out) =
-        no-store plan (copy Front) (copy Back) r i out lent _ refl n in
+        let x : (Given.Refused noStore ≡ storeAnswer plan (copy Front) (copy Back) r i out) × (out ≡ storeBytes plan (copy Front) (copy Back) r i out) =
+        no-store plan (copy Front) (copy Back) r i out lent its-length _ refl n in
         (sym (x .0), sym (x .1))
 
   no-group : (i : ℕ) → all ≤ i → groupOf plan i ≡ 4

@@ -111,10 +111,10 @@ Giving =
     × (((g i : ℕ) → g < 4 → groupStart (groupsOn v d t r) g ≤ i → i < groupStart (groupsOn v d t r) (suc g) → groupOf (planOn v d t r) i ≡ g)
     × (((i : ℕ) → length (stores (groupsOn v d t r)) ≤ i → groupOf (planOn v d t r) i ≡ 4)
     × (((i : ℕ) (out : List ℕ) → i < length (stores (groupsOn v d t r)) → length out ≡ 512
-    → (storeAnswer (planOn v d t r) (copyFrom Front v d) (copyFrom Back v d) i out ≡ At (storeIn (groupsOn v d t r) i .sector))
+    → (storeAnswer (planOn v d t r) (copyFrom Front v d) (copyFrom Back v d) r i out ≡ At (storeIn (groupsOn v d t r) i .sector))
     × (storeBytes (planOn v d t r) (copyFrom Front v d) (copyFrom Back v d) r i out ≡ storeIn (groupsOn v d t r) i .content))
     × ((i : ℕ) (out : List ℕ) → length (stores (groupsOn v d t r)) ≤ i → length out ≡ 512
-    → (storeAnswer (planOn v d t r) (copyFrom Front v d) (copyFrom Back v d) i out ≡ Refused noStore)
+    → (storeAnswer (planOn v d t r) (copyFrom Front v d) (copyFrom Back v d) r i out ≡ Refused noStore)
     × (storeBytes (planOn v d t r) (copyFrom Front v d) (copyFrom Back v d) r i out ≡ out)))))))
 
 -- where an area's entry lies in the block, 20 bytes
