@@ -147,8 +147,8 @@ uint64_t amseokbin_update_count(const uint8_t *plan, size_t plan_length);
 /* The group of a store, 0 to 3; 4 past the last store. */
 uint8_t amseokbin_update_group(const uint8_t *plan, size_t plan_length, uint64_t number);
 
-/* A store: its 512 bytes, and the device sector that they go to (an array of one number). 1; 23 past the last store. A plan that
- * no plan call made can also give a number of amseokbin_block_write. */
+/* A store: its 512 bytes, and the device sector that they go to (an array of one number). 1; 15 for the record's length; 23 past
+ * the last store. A plan that no plan call made can also give a number of amseokbin_block_write. */
 uint8_t amseokbin_update_store(const uint8_t *plan, size_t plan_length, const uint8_t *front, size_t front_length,
                                const uint8_t *back, size_t back_length, const uint8_t *record, size_t record_length,
                                uint64_t number, uint8_t *bytes, size_t bytes_length, uint64_t *sector, size_t sector_length);

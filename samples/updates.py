@@ -79,6 +79,13 @@ def stores(front, back, time, data):
         group += 2
 
 
+def store_refusal(count, number, data):
+    """The number of a store, for slices of the right size; 0 for none."""
+    if not 1 <= len(data) <= 8192:
+        return 15
+    return 0 if number < count else 23
+
+
 def main():
     device = {"size": SIZE, "metadata": METADATA, "reserved": RESERVED}
     held_record = record([(2, FIRST, 100)])
@@ -120,7 +127,8 @@ def main():
         made = list(stores(front, back, time, data))
         lines.append(f"stores {len(made)}")
         lines += [f"store {i} {group} {sector} {zlib.crc32(content):08x}" for i, (group, sector, content) in enumerate(made)]
-        lines.append("refused 23")
+        for i, lent in ((len(made), data), (len(made), b""), (0, front[:8193])):
+            lines.append(f"refused {store_refusal(len(made), i, lent)}")
     lines += ["refused 1", "refused 16"]
     laid = bytearray(front)
     laid[OFFSETS["b"]:OFFSETS["b"] + SECTOR] = b"touch".ljust(SECTOR, b"\0")

@@ -4,7 +4,6 @@ use mathlib.Core.Path.{_≡_, sym, ap, _∙_}
 use mathlib.Core.Bool.{Bool, true, _&&_}
 use mathlib.Core.List.{List}
 use borrow.Author.Tests.{eq-eqb}
-use lib.Dec.{eqb}
 use lib.ListN.{length}
 use Rattle.endian.proofs.Tests.{and-both}
 use Rattle.layout.specs.declared.Device.{Device}
@@ -13,17 +12,14 @@ use Rattle.block.specs.declared.Time.{Time}
 use Rattle.discovery.specs.declared.Record.{Record}
 use Rattle.discovery.specs.declared.Other.{Other}
 use Rattle.discovery.specs.declared.Answer.the-variants.{Found}
-use Rattle.discovery.specs.Discovery.{sized, discovery}
-use Rattle.device.specs.Device.{Sectors, stores, copyFrom}
+use Rattle.discovery.specs.Discovery.{discovery}
+use Rattle.device.specs.Device.{Sectors, copyFrom}
 use Rattle.update.specs.declared.Plan.{Plan}
 use Rattle.update.specs.declared.Planned.{Planned}
 use Rattle.update.specs.declared.Planned.the-variants as Planned
 use Rattle.update.specs.declared.Given.{Given}
-use Rattle.update.specs.declared.Given.the-variants as Given
 use Rattle.update.specs.Plan as Update
-use Rattle.update.specs.Demand.{Start, planOn, groupsOn}
-use Rattle.update.proofs.Choosing.{no-store}
-use Rattle.update.proofs.Facts.{sized-copies}
+use Rattle.update.specs.Demand.{Start, planOn}
 use Rattle.update.proofs.Demand as Updates
 use Rattle.mend.specs.declared.Mending.{Mending}
 use Rattle.mend.specs.Plan as Mend
@@ -73,35 +69,29 @@ module _ (v : Device) (d : Sectors) (t : Time) (r s : List ℕ) (st : Start v d 
 
   -- store i, as the plan gives it
   update-stored : (i : ℕ) (out m : List ℕ) → length m ≡ 1 → (x : Given) (w : List ℕ)
-      → (Update.storeAnswer (planOn v d t r) (copyFrom Front v d) (copyFrom Back v d) i out ≡ x)
+      → (Update.storeAnswer (planOn v d t r) (copyFrom Front v d) (copyFrom Back v d) r i out ≡ x)
       × (Update.storeBytes (planOn v d t r) (copyFrom Front v d) (copyFrom Back v d) r i out ≡ w)
-      → (updateStoreNumber (updatePlan v d t r s) (copyFrom Front v d) (copyFrom Back v d) i out m ≡ givenNumber x)
+      → (updateStoreNumber (updatePlan v d t r s) (copyFrom Front v d) (copyFrom Back v d) r i out m ≡ givenNumber x)
       × ((updateStoreBytes (updatePlan v d t r s) (copyFrom Front v d) (copyFrom Back v d) r i out m ≡ w)
-      × (updateStoreSector (updatePlan v d t r s) (copyFrom Front v d) (copyFrom Back v d) i out m ≡ givenLeft x m))
+      × (updateStoreSector (updatePlan v d t r s) (copyFrom Front v d) (copyFrom Back v d) r i out m ≡ givenLeft x m))
   update-stored i out m one x w h =
-      stored (updatePlan v d t r s) m 148 long one _ x (ap (λ (p : Plan). Update.storeAnswer p (copyFrom Front v d) (copyFrom Back v d) i out) read ∙ h .0) _ w out
+      stored (updatePlan v d t r s) m 148 long one _ x (ap (λ (p : Plan). Update.storeAnswer p (copyFrom Front v d) (copyFrom Back v d) r i out) read ∙ h .0) _ w out
       (ap (λ (p : Plan). Update.storeBytes p (copyFrom Front v d) (copyFrom Back v d) r i out) read ∙ h .1)
 
 pub giving : Claims.Giving
 giving v d t r s st n =
-    let plan : List ℕ = updatePlan v d t r s in
-    let k : Update.storesIn (planOn v d t r) ≡ length (stores (groupsOn v d t r)) = Updates.giving v d t r st .1 .0 in (
+    let plan : List ℕ = updatePlan v d t r s in (
       sym (chosen (plannedNumber (Update.planned (copyFrom Front v d) (copyFrom Back v d) t r)) 1 (length s) 148 n) ∙ ap plannedNumber (ready v d t r s st n),
       (
-        sym (chosen (Update.storesIn (decodedPlan plan)) 0 (length plan) 148 (long v d t r s st n)) ∙ (ap Update.storesIn (read v d t r s st n) ∙ k),
+        sym (chosen (Update.storesIn (decodedPlan plan)) 0 (length plan) 148 (long v d t r s st n))
+            ∙ (ap Update.storesIn (read v d t r s st n) ∙ Updates.giving v d t r st .1 .0),
         (
           λ g i h a z.
               sym (chosen (Update.groupOf (decodedPlan plan) i) 4 (length plan) 148 (long v d t r s st n))
               ∙ (ap (λ (p : Plan). Update.groupOf p i) (read v d t r s st n) ∙ Updates.giving v d t r st .1 .1 .1 .0 g i h a z),
           (
-            λ i out m l room one. update-stored v d t r s st n i out m one _ _ (Updates.giving v d t r st .1 .1 .1 .1 i out l room),
-            λ i out m l room one. update-stored v d t r s st n i out m one (Given.Refused 23) out (
-                let q : (Given.Refused 23 ≡ Update.storeAnswer (planOn v d t r) (copyFrom Front v d) (copyFrom Back v d) i out)
-                × (out ≡ Update.storeBytes (planOn v d t r) (copyFrom Front v d) (copyFrom Back v d) r i out) =
-                no-store (planOn v d t r) (copyFrom Front v d) (copyFrom Back v d) r i out
-                (and-both (sized (copyFrom Front v d) (copyFrom Back v d)) (eqb (length out) 512) (sized-copies v d d (st .sound) (st .sound)) (eq-eqb (length out) 512 room)) _ (sym k) l in
-                (sym (q .0), sym (q .1))
-                ),
+            λ i out m l room one. update-stored v d t r s st n i out m one _ _ (Updates.giving v d t r st .1 .1 .1 .1 .1 .0 i out l room),
+            λ i out m l room one. update-stored v d t r s st n i out m one _ _ (Updates.giving v d t r st .1 .1 .1 .1 .1 .1 i out l room),
           ),
         ),
       ),

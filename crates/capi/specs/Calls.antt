@@ -49,14 +49,14 @@ updateGroup s i = cond (has s 148) (Update.groupOf (decodedPlan s) i) 4
 abbrev pub updateSized : List ℕ → List ℕ → Bool
 updateSized s n = has s 148 && has n 1
 
-abbrev pub updateStoreNumber : List ℕ → List ℕ → List ℕ → ℕ → List ℕ → List ℕ → ℕ
-updateStoreNumber s f b i out n = numberIf (updateSized s n) (givenNumber (Update.storeAnswer (decodedPlan s) f b i out))
+abbrev pub updateStoreNumber : List ℕ → List ℕ → List ℕ → List ℕ → ℕ → List ℕ → List ℕ → ℕ
+updateStoreNumber s f b r i out n = numberIf (updateSized s n) (givenNumber (Update.storeAnswer (decodedPlan s) f b r i out))
 
 abbrev pub updateStoreBytes : List ℕ → List ℕ → List ℕ → List ℕ → ℕ → List ℕ → List ℕ → List ℕ
 updateStoreBytes s f b r i out n = leftIf (updateSized s n) (Update.storeBytes (decodedPlan s) f b r i out) out
 
-abbrev pub updateStoreSector : List ℕ → List ℕ → List ℕ → ℕ → List ℕ → List ℕ → List ℕ
-updateStoreSector s f b i out n = leftIf (updateSized s n) (givenLeft (Update.storeAnswer (decodedPlan s) f b i out) n) n
+abbrev pub updateStoreSector : List ℕ → List ℕ → List ℕ → List ℕ → ℕ → List ℕ → List ℕ → List ℕ
+updateStoreSector s f b r i out n = leftIf (updateSized s n) (givenLeft (Update.storeAnswer (decodedPlan s) f b r i out) n) n
 
 -- a mend worked out: its refusal number, and its plan in 204 bytes
 abbrev pub mendingNumber : Mending → ℕ

@@ -53,13 +53,13 @@ Giving =
     × ((updateCount (updatePlan v d t r s) ≡ length (stores (groupsOn v d t r)))
     × (((g i : ℕ) → g < 4 → groupStart (groupsOn v d t r) g ≤ i → i < groupStart (groupsOn v d t r) (suc g) → updateGroup (updatePlan v d t r s) i ≡ g)
     × (((i : ℕ) (out n : List ℕ) → i < length (stores (groupsOn v d t r)) → length out ≡ 512 → length n ≡ 1
-    → (updateStoreNumber (updatePlan v d t r s) (copyFrom Front v d) (copyFrom Back v d) i out n ≡ 0)
+    → (updateStoreNumber (updatePlan v d t r s) (copyFrom Front v d) (copyFrom Back v d) r i out n ≡ 0)
     × ((updateStoreBytes (updatePlan v d t r s) (copyFrom Front v d) (copyFrom Back v d) r i out n ≡ storeIn (groupsOn v d t r) i .content)
-    × (updateStoreSector (updatePlan v d t r s) (copyFrom Front v d) (copyFrom Back v d) i out n ≡ storeIn (groupsOn v d t r) i .sector ∷ [])))
+    × (updateStoreSector (updatePlan v d t r s) (copyFrom Front v d) (copyFrom Back v d) r i out n ≡ storeIn (groupsOn v d t r) i .sector ∷ [])))
     × ((i : ℕ) (out n : List ℕ) → length (stores (groupsOn v d t r)) ≤ i → length out ≡ 512 → length n ≡ 1
-    → (updateStoreNumber (updatePlan v d t r s) (copyFrom Front v d) (copyFrom Back v d) i out n ≡ noStore)
+    → (updateStoreNumber (updatePlan v d t r s) (copyFrom Front v d) (copyFrom Back v d) r i out n ≡ noStore)
     × ((updateStoreBytes (updatePlan v d t r s) (copyFrom Front v d) (copyFrom Back v d) r i out n ≡ out)
-    × (updateStoreSector (updatePlan v d t r s) (copyFrom Front v d) (copyFrom Back v d) i out n ≡ n))))))
+    × (updateStoreSector (updatePlan v d t r s) (copyFrom Front v d) (copyFrom Back v d) r i out n ≡ n))))))
 
 -- For any two copies in which discovery finds a record the calls give exactly the stores of `mend`'s `mendGroups`; past the last
 -- there is none.

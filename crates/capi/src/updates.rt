@@ -92,9 +92,9 @@ pub extern "C" fn amseokbin_update_store(
     bytes: &mut [u8],
     sector: &mut [u64],
 ) -> u8
-    ensures { λ n. ⌜ n ≡ updateStoreNumber (now (plan .entry)) (now (front .entry)) (now (back .entry)) number (now (bytes .entry)) (now (sector .entry)) ⌝ }
+    ensures { λ n. ⌜ n ≡ updateStoreNumber (now (plan .entry)) (now (front .entry)) (now (back .entry)) (now (content .entry)) number (now (bytes .entry)) (now (sector .entry)) ⌝ }
     ensures { λ _. ⌜ now (bytes .exit) ≡ updateStoreBytes (now (plan .entry)) (now (front .entry)) (now (back .entry)) (now (content .entry)) number (now (bytes .entry)) (now (sector .entry)) ⌝ }
-    ensures { λ _. ⌜ now (sector .exit) ≡ updateStoreSector (now (plan .entry)) (now (front .entry)) (now (back .entry)) number (now (bytes .entry)) (now (sector .entry)) ⌝ }
+    ensures { λ _. ⌜ now (sector .exit) ≡ updateStoreSector (now (plan .entry)) (now (front .entry)) (now (back .entry)) (now (content .entry)) number (now (bytes .entry)) (now (sector .entry)) ⌝ }
 {
     let sized = (plan.len() == 148) & (sector.len() == 1);
     if !sized {

@@ -1,4 +1,4 @@
--- Examples 9 and 11, and the runs of example 10, by the laws of free room. Assumes nothing.
+-- Examples 9 and 11, the runs of example 10 and the records of example 12, by the laws of free room. Assumes nothing.
 use Prim.Native.Nat.{ℕ, _+_, _-_, _*_, _≤_, _<_}
 use mathlib.Core.Path.{_≡_, refl, sym, ap}
 use native.Mathlib.Omega.{arith}
@@ -13,11 +13,12 @@ use Rattle.record.specs.Making.{headOf, segmentBytes, allBytes, recordOf}
 use Rattle.record.specs.Sectors.{holds, allocated, freeSectors}
 use native.Mathlib.Nat.{le-refl}
 use lib.Dec.{leb, lit<}
+use lib.ListN.{length}
 use Rattle.record.proofs.Search.{least-zero, least-more, least-found}
 use Rattle.record.proofs.Meaning.{accepted}
 use Rattle.record.proofs.Partition.{counted, holds-in}
 use Rattle.room.specs.declared.Run.{Run}
-use Rattle.examples.specs.Examples.{device, pair, nine}
+use Rattle.examples.specs.Examples.{device, pair, inRow, segments, nine}
 use Rattle.room.specs.Runs.{runFrom, runAt, noRun, runCount, longEnough, fitAt, holderOf, lowestStart}
 use Rattle.room.proofs.Runs.{HeldUpTo, held-none, next-free-here, next-free-end, run-some, run-none, OnRun, at-first, on-run, run-is, count-more, count-done}
 
@@ -29,6 +30,14 @@ example-11 = (refl, refl)
 pub accepted-nine : first (recordTests device nine) ≡ 0
 unfolding first pair recordOf headOf allBytes segmentBytes toLe le window lengthAllowed recordLimit wellFormed headBytes headRight blockSize itemOf itemRight sizeAt kindAt kindKnown startAt sectorsAt place count every allInRange inRange apart earlierOf laterOf least clashesAt meets
 accepted-nine = refl
+
+-- 12. A record of 508 bytes (25 segments), one of 528 bytes (26 segments).
+abbrev Sized : ℕ → ℕ → Type 0
+Sized k n = (length (segments k) ≡ n) × (count (segments k) ≡ k) × (first (recordTests device (segments k)) ≡ 0)
+
+pub example-12 : Sized 25 508 × Sized 26 528
+unfolding first segments inRow recordOf headOf allBytes segmentBytes toLe le window lengthAllowed recordLimit wellFormed headBytes headRight blockSize itemOf itemRight sizeAt kindAt kindKnown startAt sectorsAt place count every allInRange inRange apart earlierOf laterOf least clashesAt meets
+example-12 = ((refl, refl, refl), (refl, refl, refl))
 
 pub two : count nine ≡ 2
 unfolding pair recordOf headOf allBytes segmentBytes toLe le window headBytes startAt sectorsAt place count

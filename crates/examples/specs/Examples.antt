@@ -1,10 +1,10 @@
 -- Document 01's twelve marked examples, as two tables with a row for each: what the paper says, and what the definitions
 -- give that the contracts cite. The theorem `Examples.twelve` says that the tables are the same. Assumes nothing.
-use Prim.Native.Nat.{ℕ, _-_}
+use Prim.Native.Nat.{ℕ, zero, suc, _+_, _-_}
 use mathlib.Core.Path.{_≡_}
 use mathlib.Core.Bool.{Bool, true, false}
 use mathlib.Core.List.{List, [], _∷_}
-use lib.ListN.{replicate}
+use lib.ListN.{length, replicate}
 use Rattle.endian.specs.Bytes.{zeros}
 use Rattle.refusal.specs.Tests.{first}
 use Rattle.layout.specs.declared.Device.{Device}
@@ -18,14 +18,24 @@ use Rattle.block.specs.declared.BlockFields.{BlockFields}
 use Rattle.block.specs.Entry.{laterThan}
 use Rattle.block.specs.Writing.{writeTests}
 use Rattle.record.specs.declared.Segment.{Segment}
+use Rattle.record.specs.Items.{count}
 use Rattle.record.specs.Accept.{recordTests}
 use Rattle.record.specs.Making.{recordOf}
-use Rattle.record.specs.Sectors.{freeSectors}
+use Rattle.room.specs.declared.Run.{Run}
+use Rattle.room.specs.declared.RunNumber.{RunNumber}
+use Rattle.room.specs.declared.RunNumber.the-variants as RunNumber
+use Rattle.room.specs.declared.RunFound.{RunFound}
+use Rattle.room.specs.declared.RunFound.the-variants as RunFound
+use Rattle.room.specs.declared.FreeTotal.{FreeTotal}
+use Rattle.room.specs.declared.FreeTotal.the-variants as FreeTotal
 use Rattle.room.specs.declared.Allocation.{Allocation}
 use Rattle.room.specs.declared.Allocation.the-variants as Allocation
-use Rattle.room.specs.Runs.{runAt, runCount}
+use Rattle.room.specs.Answers.{runsAnswer, runAnswer, totalAnswer}
 use Rattle.room.specs.Change.{allocateAnswer}
-use Rattle.update.specs.Plan.{planOf, storesIn}
+use Rattle.update.specs.declared.Planned.{Planned}
+use Rattle.update.specs.declared.Planned.the-variants as Planned
+use Rattle.update.specs.Plan.{planned, storesIn}
+use Rattle.format.specs.Format.{formattedCopy}
 
 -- Device: S = 2,097,152, L = 2,040, R = 0 unless said.
 abbrev pub device : Device
@@ -41,15 +51,20 @@ withNanoseconds n = record { device = device; a = Used (record { seconds = 10; n
 abbrev pub zeroUuid : List ℕ
 zeroUuid = replicate 32 48
 
--- a data segment; a record with block size 128 and two of them; one with n segments
+-- a data segment; a record with block size 128 and two of them
 abbrev pub segment : ℕ → ℕ → Segment
 segment s n = record { kind = 2; start = s; sectors = n }
 
 unfoldable pub pair : ℕ → ℕ → ℕ → ℕ → List ℕ
 pair a m b n = recordOf 128 (segment a m ∷ segment b n ∷ [])
 
-abbrev pub segments : ℕ → List ℕ
-segments n = recordOf 128 (replicate n (segment 2048 100))
+-- n segments of 100 sectors, one after the other from sector s on; a record with n of them from 2,048 on
+unfoldable pub inRow : ℕ → ℕ → List Segment
+inRow s zero = []
+inRow s (suc n) = segment s 100 ∷ inRow (s + 100) n
+
+unfoldable pub segments : ℕ → List ℕ
+segments n = recordOf 128 (inRow 2048 n)
 
 -- the record of examples 9 and 10
 abbrev pub nine : List ℕ
@@ -60,6 +75,22 @@ abbrev pub yes : Bool → ℕ
 yes true = 1
 yes false = 0
 
+-- what the calls on free runs answer: how many there are, a run, the free sectors; 0 where they refuse
+abbrev pub runsIn : RunNumber → ℕ
+runsIn (RunNumber.Runs n) = n
+runsIn (RunNumber.Refused n) = 0
+
+abbrev pub runIn : RunFound → Run
+runIn (RunFound.At r) = r
+runIn (RunFound.Refused n) = record { start = 0; sectors = 0 }
+
+abbrev pub totalIn : FreeTotal → ℕ
+totalIn (FreeTotal.Sectors n) = n
+totalIn (FreeTotal.Refused n) = 0
+
+abbrev pub runOf : ℕ → Run
+runOf k = runIn (runAnswer device nine k)
+
 -- where the sectors begin that an allocation of thin data gives; 0 where it is refused
 abbrev pub startIn : Allocation → ℕ
 startIn (Allocation.Placed s n) = s
@@ -68,9 +99,17 @@ startIn (Allocation.Refused n) = 0
 abbrev pub asking : ℕ → ℕ
 asking m = startIn (allocateAnswer device nine 2 m 8192)
 
--- the number of stores of an update with a record, of any copies
+-- the number of stores of an update; 0 where it is refused
+abbrev pub countIn : Planned → ℕ
+countIn (Planned.Ready p) = storesIn p
+countIn (Planned.Refused n) = 0
+
+-- a copy as formatting leaves both with the record of examples 9 and 10; the stores of an update of them with another record
+abbrev pub copy : List ℕ
+copy = formattedCopy device zeroUuid zeroUuid (time 10 5) nine
+
 abbrev pub storesOf : List ℕ → ℕ
-storesOf r = storesIn (planOf [] [] (time 11 0) r)
+storesOf r = countIn (planned copy copy (time 11 0) r)
 
 -- what the paper says
 abbrev pub said : List (List ℕ)
@@ -86,7 +125,7 @@ said =
     ∷ (2 ∷ 2148 ∷ 852 ∷ 3050 ∷ 2092054 ∷ 2092906 ∷ [])
     ∷ (2148 ∷ 3050 ∷ [])
     ∷ (19 ∷ 0 ∷ [])
-    ∷ (4 ∷ 6 ∷ [])
+    ∷ (508 ∷ 25 ∷ 0 ∷ 4 ∷ 528 ∷ 26 ∷ 0 ∷ 6 ∷ [])
     ∷ []
 
 -- what the definitions give
@@ -105,16 +144,24 @@ given =
     ∷ [])
     ∷ (yes (laterThan (time 10 5) (time 10 4)) ∷ [])
     ∷ (first (writeTests (zeros 512) zeroUuid zeroUuid (withNanoseconds 1000000000)) ∷ [])
-    ∷ (runCount device nine
-    ∷ runAt device nine 0 .start
-    ∷ runAt device nine 0 .sectors
-    ∷ runAt device nine 1 .start
-    ∷ runAt device nine 1 .sectors
-    ∷ freeSectors device nine
+    ∷ (runsIn (runsAnswer device nine)
+    ∷ runOf 0 .start
+    ∷ runOf 0 .sectors
+    ∷ runOf 1 .start
+    ∷ runOf 1 .sectors
+    ∷ totalIn (totalAnswer device nine)
     ∷ [])
     ∷ (asking 852 ∷ asking 853 ∷ [])
     ∷ (first (recordTests device (pair 2048 100 2147 1)) ∷ first (recordTests device (pair 2048 100 2148 1)) ∷ [])
-    ∷ (storesOf (segments 25) ∷ storesOf (segments 26) ∷ [])
+    ∷ (length (segments 25)
+    ∷ count (segments 25)
+    ∷ first (recordTests device (segments 25))
+    ∷ storesOf (segments 25)
+    ∷ length (segments 26)
+    ∷ count (segments 26)
+    ∷ first (recordTests device (segments 26))
+    ∷ storesOf (segments 26)
+    ∷ [])
     ∷ []
 
 -- All twelve.

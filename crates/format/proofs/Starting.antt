@@ -42,7 +42,7 @@ placing v f b e nf nb =
 module _ {f b : List ℕ} {v : Device} {p u : List ℕ} {t : Time} {r : List ℕ} (k : Taken f b v p u t r) (ts : t .seconds < 2 ^ 64) (vs : v .sectors < 2 ^ 64)
     (t' : Time) (r' : List ℕ) (ns : leb (t' .nanoseconds) 999999999 ≡ true) (later : laterThan t' t ≡ true) (content : AllHold (contentTests v r')) where
   -- no rule refuses the update
-  not-refused : updateNumber (formattedCopy v p u t r) (formattedCopy v p u t r) t' r' ≡ 0
+  pub not-refused : updateNumber (formattedCopy v p u t r) (formattedCopy v p u t r) t' r' ≡ 0
   unfolding updateNumber
   not-refused =
       ap (λ (a : Answer). numberAfter a (formattedCopy v p u t r) (formattedCopy v p u t r) t' r') (format-found k ts vs)

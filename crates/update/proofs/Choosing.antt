@@ -2,12 +2,15 @@
 use Prim.Native.Nat.{ℕ, _+_, _-_, _*_, _≤_, _<_}
 use mathlib.Core.Path.{_≡_, refl, sym, ap, ap₂, _∙_}
 use mathlib.Core.Bool.{Bool, true, false, cond, not, _&&_}
-use mathlib.Core.List.{List}
+use mathlib.Core.List.{List, []}
+use native.Mathlib.Omega.{arith}
 use borrow.Author.Tests.{lt-ltb, le-ltb, le-leb, lt-leb, eq-eqb, ne-eqb, not-true, not-false}
 use lib.Dec.{leb, ltb, eqb}
 use lib.ListN.{length}
 use Rattle.refusal.specs.Numbers.{noStore}
 use Rattle.refusal.specs.Tests.{first}
+use Rattle.refusal.proofs.Order.{first-pass, first-fail, first-all, answer-no, answer-yes}
+use Rattle.layout.specs.Limits.{lengthAllowed}
 use Rattle.layout.specs.Places.{copyBytes}
 use Rattle.block.specs.declared.BlockFields.{BlockFields}
 use Rattle.block.specs.Block.{poolOf, uuidOf}
@@ -18,12 +21,8 @@ use Rattle.update.specs.declared.Plan.{Plan}
 use Rattle.update.specs.declared.Given.{Given}
 use Rattle.update.specs.declared.Given.the-variants as Given
 use Rattle.update.specs.Update.{sectorOf}
-use Rattle.update.specs.Plan.{storesIn, groupOf, sectorIn, within, unlessRefused, blockAnswer, blockBytes, partAnswer, partBytes, storeAnswer, storeBytes, lentRight}
+use Rattle.update.specs.Plan.{storesIn, groupOf, sectorIn, within, unlessRefused, blockAnswer, blockBytes, partAnswer, partBytes, lentRight, storeTests, sidesAnswer, sidesBytes, storeAnswer, storeBytes}
 use Rattle.update.proofs.Padding.{sector-laid}
-
--- the first two of three tests hold
-chosen : {A : Type 0} (a b c v : Bool) (x y z w : A) → a ≡ true → b ≡ true → c ≡ v → cond a (cond b (cond c x y) z) w ≡ cond v x y
-chosen a b c v x y z w p q r = ap₂ (λ (u k : Bool). cond u (cond k (cond c x y) z) w) p q ∙ ap (λ (u : Bool). cond u x y) r
 
 module _ (p : Plan) (i : ℕ) where
   pub in-front-area : i < p .sectors → 0 ≡ groupOf p i
@@ -98,43 +97,69 @@ module _ (p : Part) (k : ℕ) (c r : List ℕ) (j : ℕ) (out : List ℕ) where
       part-block p k c r j out h _ _ refl refl in
       (sym (g .0) ∙ x .0, sym (g .1) ∙ x .1)
 
+-- a test t that is v, as the code has it: `if !t`
+pub test-fails : (t v : Bool) → t ≡ v → not t ≡ true → v ≡ false
+test-fails t v e h = sym e ∙ not-true t h
+
+pub test-holds : (t v : Bool) → t ≡ v → not t ≡ false → v ≡ true
+test-holds t v e h = sym e ∙ not-false t h
+
 -- the sizes of the slices, as the code tests them with the size m of a copy
 module _ (f b out : List ℕ) (m : ℕ) (e : m ≡ copyBytes) where
   sizes : ((eqb (length f) m && eqb (length b) m) && eqb (length out) 512) ≡ lentRight f b out
   sizes = ap (λ (n : ℕ). (eqb (length f) n && eqb (length b) n) && eqb (length out) 512) e
 
   pub sizes-wrong : not ((eqb (length f) m && eqb (length b) m) && eqb (length out) 512) ≡ true → lentRight f b out ≡ false
-  sizes-wrong h = sym sizes ∙ not-true ((eqb (length f) m && eqb (length b) m) && eqb (length out) 512) h
+  sizes-wrong = test-fails ((eqb (length f) m && eqb (length b) m) && eqb (length out) 512) (lentRight f b out) sizes
 
   pub sizes-right : not ((eqb (length f) m && eqb (length b) m) && eqb (length out) 512) ≡ false → lentRight f b out ≡ true
-  sizes-right h = sym sizes ∙ not-false ((eqb (length f) m && eqb (length b) m) && eqb (length out) 512) h
+  sizes-right = test-holds ((eqb (length f) m && eqb (length b) m) && eqb (length out) 512) (lentRight f b out) sizes
 
 module _ (p : Plan) (f b r : List ℕ) (i : ℕ) (out : List ℕ) where
-  pub wrong-size : lentRight f b out ≡ false → (Given.Refused 1 ≡ storeAnswer p f b i out) × (out ≡ storeBytes p f b r i out)
-  wrong-size h = (rw h, rw h)
+  store-refused : (n : ℕ) → first (storeTests p f b r i out) ≡ n → (n ≡ 0 → ⊥)
+      → (Given.Refused n ≡ storeAnswer p f b r i out) × (out ≡ storeBytes p f b r i out)
+  store-refused n e z = (
+    answer-no (sidesAnswer p f b i out) Given.Refused n (first (storeTests p f b r i out)) (sym e) z,
+    answer-no (sidesBytes p f b r i out) (λ (k : ℕ). out) n (first (storeTests p f b r i out)) (sym e) z,
+  )
 
-  module _ (s : lentRight f b out ≡ true) (n : ℕ) (e : n ≡ storesIn p) where
-    pub no-store : n ≤ i → (Given.Refused 23 ≡ storeAnswer p f b i out) × (out ≡ storeBytes p f b r i out)
-    no-store h = (rw (s, sym (ap (ltb i) e), le-ltb i n h), rw (s, sym (ap (ltb i) e), le-ltb i n h))
+  pub wrong-size : lentRight f b out ≡ false → (Given.Refused 1 ≡ storeAnswer p f b r i out) × (out ≡ storeBytes p f b r i out)
+  wrong-size h = store-refused 1 (first-fail (lentRight f b out) 1 _ h) (λ z. omega arith)
 
-    module _ (l : i < n) (g : Given) (w : List ℕ) where
-      below : ltb i (storesIn p) ≡ true
-      below = sym (ap (ltb i) e) ∙ lt-ltb i n l
+  module _ (s : lentRight f b out ≡ true) where
+    pub wrong-length : lengthAllowed (length r) ≡ false → (Given.Refused 15 ≡ storeAnswer p f b r i out) × (out ≡ storeBytes p f b r i out)
+    wrong-length h = store-refused 15 (first-pass (lentRight f b out) 1 _ s ∙ first-fail (lengthAllowed (length r)) 15 _ h) (λ z. omega arith)
 
-      half-store : (v : Bool) → leb i (p .sectors) ≡ v
-          → g ≡ cond v (partAnswer (p .front) (p .sectors) f i out) (partAnswer (p .back) (p .sectors) b (i - (p .sectors + 1)) out)
-          → w ≡ cond v (partBytes (p .front) (p .sectors) f r i out) (partBytes (p .back) (p .sectors) b r (i - (p .sectors + 1)) out)
-          → (g ≡ storeAnswer p f b i out) × (w ≡ storeBytes p f b r i out)
-      half-store v h x y = (
-        x ∙ sym (chosen (lentRight f b out) (ltb i (storesIn p)) (leb i (p .sectors)) v _ _ _ _ s below h),
-        y ∙ sym (chosen (lentRight f b out) (ltb i (storesIn p)) (leb i (p .sectors)) v _ _ _ _ s below h),
-      )
+    module _ (a : lengthAllowed (length r) ≡ true) (n : ℕ) (e : n ≡ storesIn p) where
+      pub no-store : n ≤ i → (Given.Refused 23 ≡ storeAnswer p f b r i out) × (out ≡ storeBytes p f b r i out)
+      no-store h =
+          store-refused 23
+          (first-pass (lentRight f b out) 1 _ s
+          ∙ (first-pass (lengthAllowed (length r)) 15 _ a ∙ first-fail (ltb i (storesIn p)) 23 [] (sym (ap (ltb i) e) ∙ le-ltb i n h)))
+          (λ z. omega arith)
 
-      pub front-store : i ≤ p .sectors → g ≡ partAnswer (p .front) (p .sectors) f i out → w ≡ partBytes (p .front) (p .sectors) f r i out
-          → (g ≡ storeAnswer p f b i out) × (w ≡ storeBytes p f b r i out)
-      front-store h x y = half-store true (le-leb i (p .sectors) h) x y
+      module _ (l : i < n) (g : Given) (w : List ℕ) where
+        none : first (storeTests p f b r i out) ≡ 0
+        none = first-all (storeTests p f b r i out) (s, (a, (sym (ap (ltb i) e) ∙ lt-ltb i n l, tt)))
 
-      pub back-store : p .sectors < i → g ≡ partAnswer (p .back) (p .sectors) b (i - (p .sectors + 1)) out
-          → w ≡ partBytes (p .back) (p .sectors) b r (i - (p .sectors + 1)) out
-          → (g ≡ storeAnswer p f b i out) × (w ≡ storeBytes p f b r i out)
-      back-store h x y = half-store false (lt-leb i (p .sectors) h) x y
+        half-store : (v : Bool) → leb i (p .sectors) ≡ v
+            → g ≡ cond v (partAnswer (p .front) (p .sectors) f i out) (partAnswer (p .back) (p .sectors) b (i - (p .sectors + 1)) out)
+            → w ≡ cond v (partBytes (p .front) (p .sectors) f r i out) (partBytes (p .back) (p .sectors) b r (i - (p .sectors + 1)) out)
+            → (g ≡ storeAnswer p f b r i out) × (w ≡ storeBytes p f b r i out)
+        half-store v h x y = (
+          x
+              ∙ (ap (λ (u : Bool). cond u (partAnswer (p .front) (p .sectors) f i out) (partAnswer (p .back) (p .sectors) b (i - (p .sectors + 1)) out)) (sym h)
+              ∙ answer-yes (sidesAnswer p f b i out) Given.Refused 0 (first (storeTests p f b r i out)) (sym none) refl),
+          y
+              ∙ (ap (λ (u : Bool). cond u (partBytes (p .front) (p .sectors) f r i out) (partBytes (p .back) (p .sectors) b r (i - (p .sectors + 1)) out)) (sym h)
+              ∙ answer-yes (sidesBytes p f b r i out) (λ (k : ℕ). out) 0 (first (storeTests p f b r i out)) (sym none) refl),
+        )
+
+        pub front-store : i ≤ p .sectors → g ≡ partAnswer (p .front) (p .sectors) f i out → w ≡ partBytes (p .front) (p .sectors) f r i out
+            → (g ≡ storeAnswer p f b r i out) × (w ≡ storeBytes p f b r i out)
+        front-store h x y = half-store true (le-leb i (p .sectors) h) x y
+
+        pub back-store : p .sectors < i → g ≡ partAnswer (p .back) (p .sectors) b (i - (p .sectors + 1)) out
+            → w ≡ partBytes (p .back) (p .sectors) b r (i - (p .sectors + 1)) out
+            → (g ≡ storeAnswer p f b r i out) × (w ≡ storeBytes p f b r i out)
+        back-store h x y = half-store false (lt-leb i (p .sectors) h) x y

@@ -11,6 +11,7 @@ use borrow.Author.Tests.{eq-eqb}
 use lib.Dec.{leb, lit<, eqb}
 use lib.ListN.{length}
 use Rattle.endian.proofs.Tests.{and-both}
+use Rattle.refusal.specs.Numbers.{noStore}
 use Rattle.refusal.specs.Tests.{first, AllHold}
 use Rattle.refusal.proofs.Order.{first-holds, answer-yes}
 use Rattle.layout.specs.declared.Device.{Device}
@@ -42,14 +43,14 @@ use Rattle.update.specs.declared.Plan.{Plan}
 use Rattle.update.specs.declared.Given.{Given}
 use Rattle.update.specs.declared.Given.the-variants as Given
 use Rattle.update.specs.declared.Planned.the-variants as Planned
-use Rattle.update.specs.Plan.{partOf, storesIn, partAnswer, partBytes, storeAnswer, storeBytes, lentRight}
+use Rattle.update.specs.Plan.{partOf, storesIn, groupOf, partAnswer, partBytes, storeAnswer, storeBytes, lentRight}
 use Rattle.update.specs.Demand.{Gives, heldIn, recordIn, InStepOn, Start, Excused, groupsOn, planOn, Cutting, after, Landing, Giving}
 use Rattle.update.proofs.NewBlock.{number-fits, device-kept, new-reads, new-writes, new-written}
 use Rattle.update.proofs.Holding.{Holds, newest-changed}
 use Rattle.update.proofs.Discovering.{gives, back-found, front-found, both-found, later-found}
 use Rattle.update.proofs.Padding.{sectors-most}
 use Rattle.update.proofs.OneSide as OneSide
-use Rattle.update.proofs.Choosing.{block-given, area-given, part-given, front-store, back-store}
+use Rattle.update.proofs.Choosing.{in-none, block-given, area-given, part-given, no-store, front-store, back-store}
 use Rattle.update.proofs.InStep.{refused-differs, Stepped, verdict-facts, in-step-facts, same-device-test}
 use Rattle.update.proofs.OneCopy.{used, old-held, new-held, block-of}
 use Rattle.update.proofs.Facts.{other-differs, renamed, same-time-is, sized-copies, stands-as}
@@ -416,30 +417,42 @@ module _ (v : Device) (d : Sectors) (t : Time) (r : List ℕ) (s : Start v d t r
 
     -- the plan gives it at that number
     plan-gives : (w : Side) (j : ℕ) → j ≤ k
-        → (partAnswer (part w (deviceIn (copy Front))) k (copy w) j out ≡ storeAnswer plan (copy Front) (copy Back) (begin k w + j) out)
+        → (partAnswer (part w (deviceIn (copy Front))) k (copy w) j out ≡ storeAnswer plan (copy Front) (copy Back) r (begin k w + j) out)
         × (partBytes (part w (deviceIn (copy Front))) k (copy w) r j out ≡ storeBytes plan (copy Front) (copy Back) r (begin k w + j) out)
     plan-gives Front j l =
         let n : j ≡ 0 + j = omega arith in
         let z : 0 + j < storesIn plan = omega arith in
-        front-store plan (copy Front) (copy Back) r (0 + j) out lent _ refl z _ _ (omega arith)
+        front-store plan (copy Front) (copy Back) r (0 + j) out lent its-length _ refl z _ _ (omega arith)
         (ap (λ (i : ℕ). partAnswer (part Front (deviceIn (copy Front))) k (copy Front) i out) n)
         (ap (λ (i : ℕ). partBytes (part Front (deviceIn (copy Front))) k (copy Front) r i out) n)
     plan-gives Back j l =
         let n : j ≡ k + 1 + j - (k + 1) = omega arith in
         let z : k + 1 + j < storesIn plan = omega arith in
-        back-store plan (copy Front) (copy Back) r (k + 1 + j) out lent _ refl z _ _ (omega arith)
+        back-store plan (copy Front) (copy Back) r (k + 1 + j) out lent its-length _ refl z _ _ (omega arith)
         (ap (λ (i : ℕ). partAnswer (part Back (deviceIn (copy Front))) k (copy Back) i out) n)
         (ap (λ (i : ℕ). partBytes (part Back (deviceIn (copy Front))) k (copy Back) r i out) n)
 
     all-given : (i : ℕ) → i < all
-        → (storeAnswer plan (copy Front) (copy Back) i out ≡ Given.At (storeIn groups i .sector))
+        → (storeAnswer plan (copy Front) (copy Back) r i out ≡ Given.At (storeIn groups i .sector))
         × (storeBytes plan (copy Front) (copy Back) r i out ≡ storeIn groups i .content)
     all-given i l = go (which k i l)
       where
         go : (w : Side) × (j : ℕ) × (j ≤ k) × (i ≡ begin k w + j)
-            → (storeAnswer plan (copy Front) (copy Back) i out ≡ Given.At (storeIn groups i .sector))
+            → (storeAnswer plan (copy Front) (copy Back) r i out ≡ Given.At (storeIn groups i .sector))
             × (storeBytes plan (copy Front) (copy Back) r i out ≡ storeIn groups i .content)
         go (w, j, h, e) = rw e (sym (plan-gives w j h .0) ∙ given-at w out room j h .0, sym (plan-gives w j h .1) ∙ given-at w out room j h .1)
+
+    -- past the last
+    none-given : (i : ℕ) → all ≤ i
+        → (storeAnswer plan (copy Front) (copy Back) r i out ≡ Given.Refused noStore) × (storeBytes plan (copy Front) (copy Back) r i out ≡ out)
+    none-given i l =
+        let n : 2 * k + 2 ≤ i = omega arith in
+        let x : (Given.Refused noStore ≡ storeAnswer plan (copy Front) (copy Back) r i out) × (out ≡ storeBytes plan (copy Front) (copy Back) r i out) =
+        no-store plan (copy Front) (copy Back) r i out lent its-length _ refl n in
+        (sym (x .0), sym (x .1))
+
+  no-group : (i : ℕ) → all ≤ i → groupOf plan i ≡ 4
+  no-group i l = sym (in-none plan i (omega arith) (omega arith) (omega arith) _ refl (omega arith))
 
 pub cutting : Cutting
 cutting v d e t r g s h c x = in-group v d t r s e x g h c
@@ -456,7 +469,13 @@ giving v d t r s = (
       refl,
       (
         λ g i h a b. sym (grouped (copyFrom Front v d) (copyFrom Back v d) t r (planOn v d t r) refl g i h a b),
-        λ i out l room. all-given v d t r s out room i (subst (λ (n : ℕ). i < n) (stores-count v d t r s) l),
+        (
+          λ i l. no-group v d t r s i (subst (λ (n : ℕ). n ≤ i) (stores-count v d t r s) l),
+          (
+            λ i out l room. all-given v d t r s out room i (subst (λ (n : ℕ). i < n) (stores-count v d t r s) l),
+            λ i out l room. none-given v d t r s out room i (subst (λ (n : ℕ). n ≤ i) (stores-count v d t r s) l),
+          ),
+        ),
       ),
     ),
   ),

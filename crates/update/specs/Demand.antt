@@ -6,6 +6,7 @@ use mathlib.Core.Bool.{true}
 use mathlib.Core.List.{List}
 use lib.ListN.{length, take, getD}
 use Rattle.endian.specs.Bytes.{Bytes}
+use Rattle.refusal.specs.Numbers.{noStore}
 use Rattle.refusal.specs.Tests.{first}
 use Rattle.layout.specs.declared.Device.{Device}
 use Rattle.layout.specs.declared.Side.{Side}
@@ -25,7 +26,7 @@ use Rattle.discovery.specs.Discovery.{discovery, inStep, copyOn, recordBytes, r
 use Rattle.device.specs.Device.{Sectors, Sound, Groups, stores, storeIn, groupStart, CutIn, allLanded, copyFrom}
 use Rattle.update.specs.declared.Plan.{Plan}
 use Rattle.update.specs.declared.Planned.the-variants.{Ready}
-use Rattle.update.specs.declared.Given.the-variants.{At}
+use Rattle.update.specs.declared.Given.the-variants.{At, Refused}
 use Rattle.update.specs.Plan.{planOf, planned, storesIn, groupOf, storeAnswer, storeBytes}
 use Rattle.update.specs.Update.{deviceIn, updateNumber, sectorsOf, spare, newBlock, updateGroups}
 
@@ -99,7 +100,8 @@ Landing =
     × InStepOn (copyFrom Front v (after v d t r)) (copyFrom Back v (after v d t r)) t r
 
 -- The stores of the plan that `work_out` gives are those that a cut and a landing speak of: the plan is not refused, it has
--- as many stores, 2k + 2, each is in its group, and each is given with its sector and its 512 bytes.
+-- as many stores, 2k + 2, each is in its group, and each is given with its sector and its 512 bytes; past the last there is
+-- none, and no group.
 abbrev pub Giving : Type 0
 Giving =
     (v : Device) (d : Sectors) (t : Time) (r : List ℕ) → Start v d t r
@@ -107,9 +109,13 @@ Giving =
     × ((storesIn (planOn v d t r) ≡ length (stores (groupsOn v d t r)))
     × ((storesIn (planOn v d t r) ≡ 2 * sectorsOf (length r) + 2)
     × (((g i : ℕ) → g < 4 → groupStart (groupsOn v d t r) g ≤ i → i < groupStart (groupsOn v d t r) (suc g) → groupOf (planOn v d t r) i ≡ g)
-    × ((i : ℕ) (out : List ℕ) → i < length (stores (groupsOn v d t r)) → length out ≡ 512
-    → (storeAnswer (planOn v d t r) (copyFrom Front v d) (copyFrom Back v d) i out ≡ At (storeIn (groupsOn v d t r) i .sector))
-    × (storeBytes (planOn v d t r) (copyFrom Front v d) (copyFrom Back v d) r i out ≡ storeIn (groupsOn v d t r) i .content)))))
+    × (((i : ℕ) → length (stores (groupsOn v d t r)) ≤ i → groupOf (planOn v d t r) i ≡ 4)
+    × (((i : ℕ) (out : List ℕ) → i < length (stores (groupsOn v d t r)) → length out ≡ 512
+    → (storeAnswer (planOn v d t r) (copyFrom Front v d) (copyFrom Back v d) r i out ≡ At (storeIn (groupsOn v d t r) i .sector))
+    × (storeBytes (planOn v d t r) (copyFrom Front v d) (copyFrom Back v d) r i out ≡ storeIn (groupsOn v d t r) i .content))
+    × ((i : ℕ) (out : List ℕ) → length (stores (groupsOn v d t r)) ≤ i → length out ≡ 512
+    → (storeAnswer (planOn v d t r) (copyFrom Front v d) (copyFrom Back v d) r i out ≡ Refused noStore)
+    × (storeBytes (planOn v d t r) (copyFrom Front v d) (copyFrom Back v d) r i out ≡ out)))))))
 
 -- where an area's entry lies in the block, 20 bytes
 abbrev pub entryPlace : Area → ℕ

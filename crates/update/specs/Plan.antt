@@ -91,22 +91,27 @@ partBytes p k c r j out =
 abbrev pub lentRight : List ℕ → List ℕ → List ℕ → Bool
 lentRight f b out = sized f b && eqb (length out) 512
 
--- what `store` answers and leaves: 1 for a slice of another size, 23 past the last store, else the front's and then the back's
-abbrev pub storeAnswer : Plan → List ℕ → List ℕ → ℕ → List ℕ → Given
-storeAnswer p f b i out =
-    cond (lentRight f b out)
-    (cond (ltb i (storesIn p))
-    (cond (leb i (p .sectors)) (partAnswer (p .front) (p .sectors) f i out) (partAnswer (p .back) (p .sectors) b (i - (p .sectors + 1)) out))
-    (Given.Refused noStore))
-    (Given.Refused sliceSize)
+-- the tests of a store: the sizes, the record's length, its number
+abbrev pub storeTests : Plan → List ℕ → List ℕ → List ℕ → ℕ → List ℕ → List Test
+storeTests p f b r i out =
+    (lentRight f b out or sliceSize) ∷ (lengthAllowed (length r) or recordLength) ∷ (ltb i (storesIn p) or noStore) ∷ []
+
+-- store i of both sides, the front's and then the back's: the sector and the bytes
+abbrev pub sidesAnswer : Plan → List ℕ → List ℕ → ℕ → List ℕ → Given
+sidesAnswer p f b i out =
+    cond (leb i (p .sectors)) (partAnswer (p .front) (p .sectors) f i out) (partAnswer (p .back) (p .sectors) b (i - (p .sectors + 1)) out)
+
+abbrev pub sidesBytes : Plan → List ℕ → List ℕ → List ℕ → ℕ → List ℕ → List ℕ
+sidesBytes p f b r i out =
+    cond (leb i (p .sectors)) (partBytes (p .front) (p .sectors) f r i out) (partBytes (p .back) (p .sectors) b r (i - (p .sectors + 1)) out)
+
+-- what `store` answers and leaves
+abbrev pub storeAnswer : Plan → List ℕ → List ℕ → List ℕ → ℕ → List ℕ → Given
+storeAnswer p f b r i out =
+    cond (eqb (first (storeTests p f b r i out)) 0) (sidesAnswer p f b i out) (Given.Refused (first (storeTests p f b r i out)))
 
 abbrev pub storeBytes : Plan → List ℕ → List ℕ → List ℕ → ℕ → List ℕ → List ℕ
-storeBytes p f b r i out =
-    cond (lentRight f b out)
-    (cond (ltb i (storesIn p))
-    (cond (leb i (p .sectors)) (partBytes (p .front) (p .sectors) f r i out) (partBytes (p .back) (p .sectors) b r (i - (p .sectors + 1)) out))
-    out)
-    out
+storeBytes p f b r i out = cond (eqb (first (storeTests p f b r i out)) 0) (sidesBytes p f b r i out) out
 
 -- a record laid into a copy's area: its bytes at the area's offset, its last sector filled with zeros
 abbrev pub layTests : List ℕ → List ℕ → List Test

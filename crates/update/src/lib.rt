@@ -216,16 +216,19 @@ pub fn put_part(p: Part, k: u32, c: &[u8], r: &[u8], j: u64, out: &mut [u8]) -> 
 }
 
 // The store of a plan with number i, counted from 0: its 512 bytes into out, its sector as the answer. The copies and the
-// record are those that the plan was made of. 1 for a slice of another size, 23 past the last store; a block that the writer
-// refuses gives its number. Then out stays.
+// record are those that the plan was made of. 1 for a slice of another size, 15 for a length that no record has, 23 past the
+// last store; a block that the writer refuses gives its number. Then out stays.
 pub fn store(p: Plan, f: &[u8], b: &[u8], r: &[u8], i: u64, out: &mut [u8]) -> Given
-    ensures { λ g. ⌜ g ≡ storeAnswer p (now (f .entry)) (now (b .entry)) i (now (out .entry)) ⌝ }
+    ensures { λ g. ⌜ g ≡ storeAnswer p (now (f .entry)) (now (b .entry)) (now (r .entry)) i (now (out .entry)) ⌝ }
     ensures { λ _. ⌜ now (out .exit) ≡ storeBytes p (now (f .entry)) (now (b .entry)) (now (r .entry)) i (now (out .entry)) ⌝ }
 {
     let n = layout::copy_bytes();
     let sized = ((f.len() == n) & (b.len() == n)) & (out.len() == 512);
     if !sized {
         return Given::Refused(refusal::SLICE_SIZE);
+    }
+    if !layout::length_allowed(r.len() as u64) {
+        return Given::Refused(refusal::RECORD_LENGTH);
     }
     if count(p) <= i {
         return Given::Refused(refusal::NO_STORE);

@@ -1,10 +1,11 @@
 // Runs updates of two copies through the library and prints what came of each: its refusal number, or how many stores it
 // has and for each store its number, group, sector and the checksum of its 512 bytes; then what the store after the last
-// is refused with. Standard input has the front copy, the back copy, and the updates: seconds in 8 bytes, nanoseconds in 4,
-// the record's length in 2, then the record. At the end the last update runs again with a byte of the back copy's record
-// changed, and with a front copy that is a byte short; then a record is laid into the front copy. What must be printed is
-// the file stdout; samples/updates.py makes both and shares nothing with the library. That the program is safe and ends is
-// proved; that it prints the right thing is tested. Assumes what `io` and `libc` do.
+// is refused with, and stores with a record of no bytes and of 8,193. Standard input has the front copy, the back copy, and
+// the updates: seconds in 8 bytes, nanoseconds in 4, the record's length in 2, then the record. At the end the last update
+// runs again with a byte of the back copy's record changed, and with a front copy that is a byte short; then a record is
+// laid into the front copy. What must be printed is the file stdout; samples/updates.py makes both and shares nothing with
+// the library. That the program is safe and ends is proved; that it prints the right thing is tested. Assumes what `io` and
+// `libc` do.
 ghost use Prim.Native.Nat.{_≤_, _<_};
 ghost use lib.ListN.{length};
 use block::Time;
@@ -67,12 +68,21 @@ fn print_plan(p: Plan, f: &[u8], b: &[u8], r: &[u8]) {
     print_store(p, f, b, r, n);
 }
 
+// Prints what stores with a record of a length that is not allowed are refused with: past the last store, and the first.
+fn print_lengths(p: Plan, f: &[u8], b: &[u8]) {
+    print_store(p, f, b, b"", update::count(p));
+    print_store(p, f, b, endian::window(f, 0, 8193), 0);
+}
+
 // Prints an update.
 fn judge(f: &[u8], b: &[u8], t: Time, r: &[u8]) {
     let p = update::work_out(f, b, t, r);
     match p {
         Planned::Refused(n) => refused(n),
-        Planned::Ready(q) => print_plan(q, f, b, r),
+        Planned::Ready(q) => {
+            print_plan(q, f, b, r);
+            print_lengths(q, f, b);
+        }
     }
 }
 

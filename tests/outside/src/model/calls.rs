@@ -5,7 +5,7 @@ use super::discovery::{self, Found};
 use super::format;
 use super::layout::{BACK, FRONT, SECTOR};
 use super::plan_bytes::{decode_mend, decode_update, encode_mend, encode_update, MEND_PLAN, UPDATE_PLAN};
-use super::record::{self, check, SEGMENT_BYTES};
+use super::record::{self, check, check_length, SEGMENT_BYTES};
 use super::refusal::{require, Refusal};
 use super::{crc, mend, room, update};
 use crate::interface::{BlockNumbers, Device, Interface, BLOCK_NUMBERS, FOUND, PLACES};
@@ -131,6 +131,7 @@ fn update_store(
     has_size(copies[0], super::layout::COPY)?;
     has_size(copies[1], super::layout::COPY)?;
     let bytes = bytes.try_into().map_err(|_| Refusal::SliceSize)?;
+    check_length(record)?;
     let plan = decode_update(plan).ok_or(Refusal::NoStore)?;
     has_size(record, plan.entry.bytes as usize)?;
     sector[0] = plan.store(copies, record, number, bytes).ok_or(Refusal::NoStore)?;

@@ -1,14 +1,14 @@
 //! Formatting, and laying a record into a copy.
 
 use super::block::{is_uuid, Block, Entry, Identity, Time, MAX_NANOSECONDS};
-use super::layout::{AREA_OFFSET, BLOCK_OFFSET, COPY, RECORD_LIMIT, SECTOR};
-use super::record::check_record;
+use super::layout::{AREA_OFFSET, BLOCK_OFFSET, COPY, SECTOR};
+use super::record::{check_length, check_record};
 use super::refusal::{require, Refusal};
 
 /// Lays a record into an area of a copy, its last sector filled with zeros. 1, 15.
 pub fn lay(copy: &mut [u8], area: usize, record: &[u8]) -> Result<(), Refusal> {
     require(copy.len() == COPY, Refusal::SliceSize)?;
-    require((1..=RECORD_LIMIT).contains(&record.len()), Refusal::RecordLength)?;
+    check_length(record)?;
     let (laid, rest) = copy[AREA_OFFSET[area]..].split_at_mut(record.len());
     laid.copy_from_slice(record);
     rest[..record.len().next_multiple_of(SECTOR) - record.len()].fill(0);

@@ -73,6 +73,11 @@ impl Segment {
     }
 }
 
+/// The length of a record. 15.
+pub fn check_length(bytes: &[u8]) -> Result<(), Refusal> {
+    require((1..=RECORD_LIMIT).contains(&bytes.len()), Refusal::RecordLength)
+}
+
 /// A record that was checked for its form.
 #[derive(Clone, Copy)]
 pub struct Record<'a> {
@@ -82,7 +87,7 @@ pub struct Record<'a> {
 impl<'a> Record<'a> {
     /// 15, 17.
     pub fn parse(bytes: &'a [u8]) -> Result<Self, Refusal> {
-        require((1..=RECORD_LIMIT).contains(&bytes.len()), Refusal::RecordLength)?;
+        check_length(bytes)?;
         let record = Record { bytes };
         require(record.is_well_formed(), Refusal::RecordForm)?;
         Ok(record)

@@ -99,6 +99,7 @@ fn update(run: &mut Run, rng: &mut Rng, [front, back]: [&Lent<u8>; 2], time: Tim
     let number = rng.next();
     store(run, rng, &plans, inputs, number);
     wrong_sizes(run, rng, &plans, inputs);
+    wrong_record(run, rng, &plans, inputs, count.expected);
     for _ in 0..4 {
         any_plan(run, rng, &plans, inputs);
     }
@@ -139,8 +140,17 @@ fn wrong_sizes(run: &mut Run, rng: &mut Rng, plans: &Plans, [front, back, record
     });
 }
 
-/// A plan of any bytes, or one that does not fit the record: the calls end with an answer or a refusal, and a refusal
-/// changes nothing.
+/// A store asked for with a record of a length that is not allowed: 15, also past the last store, and 1 before it.
+fn wrong_record(run: &mut Run, rng: &mut Rng, plans: &Plans, [front, back, _]: [&Lent<u8>; 3], count: u64) {
+    let above = RECORD_LIMIT + 1 + rng.index(RECORD_LIMIT);
+    let record_length = rng.one_of(&[0, RECORD_LIMIT + 1, above]);
+    let record = Lent::random(rng, record_length);
+    let number = rng.below(count + 2);
+    store(run, rng, plans, [front, back, &record], number);
+}
+
+/// A plan of any bytes, or one that does not fit the record: the calls end with an answer or a refusal, 15 exactly for a
+/// length that is not allowed, and a refusal changes nothing.
 fn any_plan(run: &mut Run, rng: &mut Rng, plans: &Plans, [front, back, record]: [&Lent<u8>; 3]) {
     let plan = spoiled(rng, plans.library);
     let random = rng.index(RECORD_LIMIT + 100);
@@ -163,6 +173,8 @@ fn any_plan(run: &mut Run, rng: &mut Rng, plans: &Plans, [front, back, record]: 
         bytes.part_mut(),
         sector.part_mut(),
     );
+    let allowed = (1..=RECORD_LIMIT).contains(&length);
+    run.require("update_store", (answer == 15) != allowed, "15 and the record's length do not agree");
     check_any_plan(run, "update_store", answer, [&before, &bytes], [&sector_before, &sector]);
 }
 
