@@ -6,7 +6,7 @@ use mathlib.Core.List.{List, [], _∷_, _++_}
 use native.Mathlib.Nat.{not-suc-le-zero, le-of-suc-le-suc}
 use native.Mathlib.Numerals.{add-one}
 use native.Mathlib.Omega.{arith}
-use borrow.Author.Tests.{eqb-true, eq-eqb, ne-eqb}
+use borrow.Author.Tests.{eqb-true, eq-eqb}
 use lib.Dec.{eqb}
 use lib.ListN.{length, getD, drop, length-replicate, replicate-append-replicate, drop-of-length-le}
 use lib.Seq.{drop-cons}
@@ -56,25 +56,22 @@ same-cons : (x y : ℕ) (xs ys : List ℕ) → same (x ∷ xs) (y ∷ ys) ≡ (e
 unfolding same
 same-cons x y xs ys = refl
 
--- elements that agree do not change what is said of the others
-pub same-drop : (a b : List ℕ) (i : ℕ) → i < length a → i < length b → getD a i 0 ≡ getD b i 0
-    → same (drop i a) (drop i b) ≡ same (drop (i + 1) a) (drop (i + 1) b)
-same-drop a b i h k e =
-    ap₂ same (drop-cons a i 0 h) (drop-cons b i 0 k)
-    ∙ (same-cons (getD a i 0) (getD b i 0) (drop (suc i) a) (drop (suc i) b)
-    ∙ (ap (λ (z : Bool). z && same (drop (suc i) a) (drop (suc i) b)) (eq-eqb (getD a i 0) (getD b i 0) e)
-    ∙ ap (λ (n : ℕ). same (drop n a) (drop n b)) (sym (add-one i))))
-
--- elements that differ settle it
-pub same-differ : (a b : List ℕ) (i : ℕ) → i < length a → i < length b → (getD a i 0 ≡ getD b i 0 → ⊥) → same (drop i a) (drop i b) ≡ false
-same-differ a b i h k e =
-    ap₂ same (drop-cons a i 0 h) (drop-cons b i 0 k)
-    ∙ (same-cons (getD a i 0) (getD b i 0) (drop (suc i) a) (drop (suc i) b)
-    ∙ ap (λ (z : Bool). z && same (drop (suc i) a) (drop (suc i) b)) (ne-eqb (getD a i 0) (getD b i 0) e))
-
 and-true : (r : Bool) → r && true ≡ r
 and-true true = refl
 and-true false = refl
+
+-- As a loop has it that has compared the elements before i, with answer r: one element more, and the end.
+pub same-next : (a b : List ℕ) (i : ℕ) (r : Bool) → i < length a → i < length b
+    → (r && eqb (getD a i 0) (getD b i 0)) && same (drop (i + 1) a) (drop (i + 1) b) ≡ (r && same (drop i a) (drop i b))
+same-next a b i r h k =
+    and-assoc r (eqb (getD a i 0) (getD b i 0)) (same (drop (i + 1) a) (drop (i + 1) b))
+    ∙ ap (λ (z : Bool). r && z)
+    (sym (ap₂ same (drop-cons a i 0 h) (drop-cons b i 0 k)
+    ∙ (same-cons (getD a i 0) (getD b i 0) (drop (suc i) a) (drop (suc i) b)
+    ∙ ap (λ (n : ℕ). eqb (getD a i 0) (getD b i 0) && same (drop n a) (drop n b)) (sym (add-one i)))))
+
+pub same-done : (a b : List ℕ) (i : ℕ) (r : Bool) → length a ≤ i → length b ≤ i → r && same (drop i a) (drop i b) ≡ r
+same-done a b i r h k = ap₂ (λ (x y : List ℕ). r && same x y) (drop-of-length-le a h) (drop-of-length-le b k) ∙ (ap (λ (z : Bool). r && z) (same-refl []) ∙ and-true r)
 
 module _ (p : ℕ → Bool) where
   all-cons : (x : ℕ) (xs : List ℕ) → all p (x ∷ xs) ≡ (p x && all p xs)
