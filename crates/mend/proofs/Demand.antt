@@ -32,9 +32,9 @@ use Rattle.update.specs.Demand.{Gives, InStepOn, heldIn, recordIn}
 use Rattle.update.proofs.Holding.{Holds}
 use Rattle.update.proofs.NewBlock.{device-kept}
 use Rattle.update.proofs.InStep.{Stepped, in-step-facts, same-device-test}
-use Rattle.update.proofs.OneCopy.{old-held}
+use Rattle.update.proofs.OneCopy.{stepped-held}
 use Rattle.update.proofs.Places.{Sizes, sizes-accepted}
-use Rattle.update.proofs.Facts.{renamed, same-time-is, sized-copies}
+use Rattle.update.proofs.Facts.{sized-copies}
 use Rattle.update.proofs.Agreeing.{found-front, agree-gives, agree-in-step}
 use Rattle.mend.specs.Mend.{laterWhole, rewriting, groupsAfter, mendGroups}
 use Rattle.mend.specs.Demand.{State, after, foundIn, Landing, Touching}
@@ -112,36 +112,27 @@ module _ (v : Device) (d : Sectors) (q : Record) (s : State v d q) where
 
   -- in step: nothing is stored
   module _ (i : inStep f b ≡ true) where
-    stepped : Stepped f b
-    stepped = in-step-facts f b i
+    stepped : Stepped (λ (w : Side). copyFrom w v d)
+    stepped = in-step-facts (λ (w : Side). copyFrom w v d) i
 
-    front : Holds f (fieldsOf (blockIn f)) (poolOf (blockIn f)) (uuidOf (blockIn f)) (newest (fieldsOf (blockIn f))) (heldIn f) (recordIn f)
-    front = old-held Front v d (s .sound) big (stepped .front) (stepped .front-whole) d (s .sound) refl (λ n l. refl)
+    holds : (w : Side) → Holds (copyFrom w v d) (fieldsOf (blockIn (copyFrom w v d))) (poolOf (blockIn f)) (uuidOf (blockIn f))
+        (newest (fieldsOf (blockIn (copyFrom w v d)))) (heldIn (copyFrom w v d)) (recordIn f)
+    holds w = stepped-held v d (s .sound) big stepped w d (s .sound) refl (λ n l. refl)
 
-    back : Holds b (fieldsOf (blockIn b)) (poolOf (blockIn f)) (uuidOf (blockIn f)) (newest (fieldsOf (blockIn b))) (heldIn b) (recordIn f)
-    back =
-        subst (λ (z : List ℕ). Holds b (fieldsOf (blockIn b)) (poolOf (blockIn f)) (uuidOf (blockIn f)) (newest (fieldsOf (blockIn b))) (heldIn b) z)
-        (sym (stepped .records))
-        (renamed (sym (stepped .pool)) (sym (stepped .uuid))
-        (old-held Back v d (s .sound) big (stepped .back) (stepped .back-whole) d (s .sound) refl (λ n l. refl)))
-
-    one-time : timeOf (heldIn b) ≡ timeOf (heldIn f)
-    one-time = sym (same-time-is (timeOf (heldIn f)) (timeOf (heldIn b)) (stepped .times))
+    one-device : sameDevice (fieldsOf (blockIn f)) (fieldsOf (blockIn b)) ≡ true
+    one-device = same-device-test (fieldsOf (blockIn f)) (fieldsOf (blockIn b)) (stepped .device)
 
     -- what discovery found is the front's
     is-front : q ≡ recordAt Front (newest (fieldsOf (blockIn f))) (heldIn f)
     is-front =
         found-same (recordAt Front (newest (fieldsOf (blockIn f))) (heldIn f)) Both q (s .other)
-        (sym (s .answers)
-        ∙ found-front front back (stepped .sizes) (same-device-test (fieldsOf (blockIn f)) (fieldsOf (blockIn b)) (stepped .device)) (timeOf (heldIn f)) refl one-time)
+        (sym (s .answers) ∙ found-front (holds Front) (holds Back) (stepped .sizes) one-device (timeOf (heldIn f)) refl (stepped .times Back))
 
     untouched : Done v d (timeAt q) r
     untouched =
-        let one : sameDevice (fieldsOf (blockIn f)) (fieldsOf (blockIn b)) ≡ true =
-        same-device-test (fieldsOf (blockIn f)) (fieldsOf (blockIn b)) (stepped .device) in
         subst (λ (z : Record). Done v d (timeAt z) (recordBytes z f b)) (sym is-front) (
-          agree-gives front back (stepped .sizes) one (timeOf (heldIn f)) refl one-time,
-          agree-in-step front back (stepped .sizes) one (timeOf (heldIn f)) refl one-time,
+          agree-gives (holds Front) (holds Back) (stepped .sizes) one-device (timeOf (heldIn f)) refl (stepped .times Back),
+          agree-in-step (holds Front) (holds Back) (stepped .sizes) one-device (timeOf (heldIn f)) refl (stepped .times Back),
         )
 
   done : (t : Bool) → inStep f b ≡ t → Done v (allLanded (cond t [] (rewriting (q .side) c (q .area) r)) d) (timeAt q) r

@@ -36,6 +36,8 @@ use Rattle.update.specs.Update.{sectorsOf, sectorOf, holdingFor, withEnt
 use Rattle.update.specs.Demand.{heldIn, recordIn}
 use Rattle.update.proofs.NewBlock.{entry-allowed, new-reads}
 use Rattle.update.proofs.Holding.{Holds, newest-changed, entry-changed, whole-used}
+use Rattle.update.proofs.InStep.{Stepped}
+use Rattle.update.proofs.Facts.{renamed}
 use Rattle.update.proofs.Padding.{gather-record, sectors-most}
 
 -- an area lies within a copy
@@ -102,7 +104,7 @@ module _ (s : Side) (v : Device) (d : Sectors) (sd : Sound d) (big : 8 ≤ v .se
     block-of = copy-block s v e se ∙ ap e (block-place s v big)
 
     -- the block is old, and so are the sectors of the present area
-    pub old-held : e (blockSector s v) ≡ d (blockSector s v)
+    old-held : e (blockSector s v) ≡ d (blockSector s v)
         → ((i : ℕ) → i < areaSectors → e (areaSector s (newest (fieldsOf (blockIn (copyFrom s v d)))) v + i) ≡ d (areaSector s (newest (fieldsOf (blockIn (copyFrom s v d)))) v + i))
         → Holds (copyFrom s v e) (fieldsOf (blockIn (copyFrom s v d))) (poolOf (blockIn (copyFrom s v d))) (uuidOf (blockIn (copyFrom s v d)))
         (newest (fieldsOf (blockIn (copyFrom s v d)))) (heldIn (copyFrom s v d)) (recordIn (copyFrom s v d))
@@ -129,3 +131,11 @@ module _ (s : Side) (v : Device) (d : Sectors) (sd : Sound d) (big : 8 ≤ v .se
         (newest-changed (fieldsOf (blockIn (copyFrom s v d))) (newest (fieldsOf (blockIn (copyFrom s v d)))) (heldIn (copyFrom s v d)) (holdingFor t r) used later)
         (entry-changed (fieldsOf (blockIn (copyFrom s v d))) y (Used (holdingFor t r))) refl refl l
         (gather-record e r (areaSector s y v) areaSectors (sectors-most (length r) areaSectors (omega arith)) a)
+
+-- of copies in step, a side whose block and present area still stand holds the front's record
+pub stepped-held : (v : Device) (d : Sectors) → Sound d → 8 ≤ v .sectors → Stepped (λ (w : Side). copyFrom w v d)
+    → (w : Side) (e : Sectors) → Sound e → e (blockSector w v) ≡ d (blockSector w v)
+    → ((i : ℕ) → i < areaSectors → e (areaSector w (newest (fieldsOf (blockIn (copyFrom w v d)))) v + i) ≡ d (areaSector w (newest (fieldsOf (blockIn (copyFrom w v d)))) v + i))
+    → Holds (copyFrom w v e) (fieldsOf (blockIn (copyFrom w v d))) (poolOf (blockIn (copyFrom Front v d))) (uuidOf (blockIn (copyFrom Front v d)))
+    (newest (fieldsOf (blockIn (copyFrom w v d)))) (heldIn (copyFrom w v d)) (recordIn (copyFrom Front v d))
+stepped-held v d sd big k w e se b a = renamed (k .pool w) (k .uuid w) (k .records w) (old-held w v d sd big (k .accepted w) (k .newest-whole w) e se b a)
