@@ -13,7 +13,6 @@ use lib.ListN.{length, take}
 use Rattle.endian.proofs.Tests.{and-both}
 use Rattle.refusal.specs.Numbers.{noStore}
 use Rattle.layout.specs.declared.Area.the-variants.{A}
-use Rattle.layout.specs.Limits.{recordLimit}
 use Rattle.layout.specs.Places.{blockSector, areaSector}
 use Rattle.block.specs.declared.BlockFields.{BlockFields}
 use Rattle.block.specs.Block.{fieldsOf}
@@ -23,15 +22,14 @@ use Rattle.discovery.specs.declared.Answer.{Answer}
 use Rattle.discovery.specs.declared.Answer.the-variants as Answer
 use Rattle.discovery.specs.Copy.{blockIn, otherSide}
 use Rattle.discovery.specs.Discovery.{sized, discovery, inStep, copyOn, recordBytes}
-use Rattle.device.specs.Device.{Store, Groups, stores, storeIn, groupStart, areaSectors}
-use Rattle.device.proofs.Copies.{limit-sectors, limit-small}
+use Rattle.device.specs.Device.{Store, Groups, stores, storeIn, groupStart}
 use Rattle.device.proofs.Groups.{total}
 use Rattle.update.specs.declared.Given.{Given}
 use Rattle.update.specs.declared.Given.the-variants as Given
 use Rattle.update.specs.Update.{deviceIn, sectorsOf}
 use Rattle.update.specs.Plan.{lentRight, blockAnswer, blockBytes, partAnswer, partBytes}
 use Rattle.update.proofs.NewBlock.{number-fits}
-use Rattle.update.proofs.Padding.{sectors-most}
+use Rattle.update.proofs.Padding.{sectors-few}
 use Rattle.update.proofs.Places.{Sizes, sizes-accepted, area-below}
 use Rattle.update.proofs.Choosing.{block-given, area-given, part-given}
 use Rattle.mend.specs.declared.Last.{Last}
@@ -43,7 +41,7 @@ use Rattle.mend.specs.Mend.{blockLike, blanked, laterWhole, rewriting, g
 use Rattle.mend.specs.Plan.{rewriteOf, mendingAfter, mending, lastCount, storesIn, groupIn, groupOf, lastAnswer, lastBytes, rewriteAnswer, rewriteBytes, mendAnswer, mendBytes, storeAnswer, storeBytes}
 use Rattle.mend.specs.Demand.{Giving}
 use Rattle.mend.proofs.Choosing.{right-size, first-store, part-store, last-stored, no-such, in-first, in-record, in-second, in-last}
-use Rattle.mend.proofs.Kept.{Kept, found-sized, held, kept, found-long}
+use Rattle.mend.proofs.Kept.{Kept, kept-small, found-sized, held, kept, found-long}
 use Rattle.mend.proofs.Stores.{filledBlock, at-first, at-sector, at-second, at-last, last-none, last-one, count-whole, count-blank, group-starts, which}
 use Rattle.mend.proofs.Blocks.{Right, right-empty, right-filled, right-blank, like-writes, like-written}
 
@@ -114,13 +112,7 @@ module _ (f b : List ℕ) (q : Record) (o : Other) (e : discovery f b ≡ Answer
   sizes = sizes-accepted (blockIn c) (itself .accepted)
 
   tiny : k ≤ 1020
-  tiny =
-      let l : held f b q o e .bytes ≤ recordLimit = itself .small in
-      let n : held f b q o e .bytes ≡ length r = itself .long in
-      let m : areaSectors * 512 ≡ recordLimit = limit-sectors in
-      let a : areaSectors ≤ 1020 = limit-small in
-      let s : k ≤ areaSectors = sectors-most (length r) areaSectors (omega arith) in
-      omega arith
+  tiny = sectors-few (length r) (kept-small itself)
 
   last-absent : laterWhole c ≡ true → p .last ≡ Last.Absent
   last-absent h = ap (λ (t : Bool). cond t Last.Absent (Last.Blank (blockSector (q .side) (deviceIn c)) (blanked fields))) h

@@ -12,7 +12,6 @@ use Rattle.layout.specs.declared.Device.{Device}
 use Rattle.layout.specs.declared.Side.{Side}
 use Rattle.layout.specs.declared.Area.{Area}
 use Rattle.layout.specs.declared.Area.the-variants.{A}
-use Rattle.layout.specs.Limits.{recordLimit}
 use Rattle.layout.specs.Places.{blockSector, areaSector}
 use Rattle.block.specs.declared.Holding.{Holding}
 use Rattle.block.specs.declared.Entry.{Entry}
@@ -25,15 +24,15 @@ use Rattle.block.proofs.Readings.{accepted-reading}
 use Rattle.discovery.specs.Copy.{blockIn, entryIn, otherArea, otherSide, newest}
 use Rattle.device.specs.Device.{Sectors, Sound, Store, Groups, stores, storeIn, put, landed, allLanded, gather, areaSectors, copyFrom}
 use Rattle.device.proofs.Landing.{landed-old, landed-last, landed-size, landed-first}
-use Rattle.device.proofs.Copies.{limit-sectors, limit-small, copy-block, copy-area, gather-same}
+use Rattle.device.proofs.Copies.{limit-small, copy-block, copy-area, gather-same}
 use Rattle.update.specs.Update.{deviceIn, sectorsOf, sectorOf}
-use Rattle.update.proofs.Padding.{gather-record, sectors-most, length-sector}
+use Rattle.update.proofs.Padding.{gather-record, sectors-within, sectors-few, length-sector}
 use Rattle.update.proofs.Places.{Sizes, sizes-accepted, near, area-near, block-near, block-apart, other-side}
 use Rattle.update.proofs.OneSide as OneSide
 use Rattle.update.proofs.Holding.{Holds}
 use Rattle.update.proofs.OneCopy.{block-place, holds-at}
 use Rattle.mend.specs.Mend.{emptied, refilled, blanked, laterWhole, rewriting}
-use Rattle.mend.proofs.Kept.{Kept}
+use Rattle.mend.proofs.Kept.{Kept, kept-small}
 use Rattle.mend.proofs.Stores.{emptyBlock, filledBlock, blankBlock, at-first, at-sector, at-second, at-last, count-whole, count-blank, which}
 use Rattle.mend.proofs.Blocks.{right-empty, right-filled, right-blank, like-reads, like-size, newest-filled, newest-blanked, entry-blanked}
 
@@ -67,15 +66,8 @@ module _ (w : Side) (v : Device) (d : Sectors) (sd : Sound d) (placed : deviceIn
   big : 8 ≤ v .sectors
   big = let a : 2097152 ≤ v .sectors = sizes .sectors in omega arith
 
-  small : k ≤ areaSectors
-  small =
-      let l : h .bytes ≤ recordLimit = kept .small in
-      let n : h .bytes ≡ length r = kept .long in
-      let m : areaSectors * 512 ≡ recordLimit = limit-sectors in
-      sectors-most (length r) areaSectors (omega arith)
-
   tiny : k ≤ 1020
-  tiny = let a : areaSectors ≤ 1020 = limit-small in let b : k ≤ areaSectors = small in omega arith
+  tiny = sectors-few (length r) (kept-small kept)
 
   -- the stores, at the places of v
   abbrev blockAt : Side → List ℕ → Store
@@ -216,14 +208,13 @@ module _ (w : Side) (v : Device) (d : Sectors) (sd : Sound d) (placed : deviceIn
 
   pub other-holds : HeldIn (otherSide w) end (refilled (deviceIn c) (Used h)) A
   other-holds =
-      let a : k ≤ areaSectors = small in
       holds-at (otherSide w) v end end-sound big
       (ap reading filled-block
       ∙ (like-reads c (kept .accepted) (refilled (deviceIn c) (entryIn fields x)) (right-filled c (kept .accepted) x)
       ∙ ap (λ (e : Entry). record { verdict = Verdict.Accepted (refilled (deviceIn c) e); pool = pool; device = uuid }) (kept .entry)))
       (newest-filled (deviceIn c) (Used h)) refl (kept .sum) (kept .long) (kept .small)
       (ap (λ (n : ℕ). take n (gather end (areaSector (otherSide w) A v) areaSectors)) (kept .long)
-      ∙ gather-record end r (areaSector (otherSide w) A v) areaSectors a filled-area)
+      ∙ gather-record end r (areaSector (otherSide w) A v) areaSectors (sectors-within (length r) (kept-small kept)) filled-area)
 
   -- the kept area is as it was
   kept-area : take (h .bytes) (gather end (areaSector w x v) areaSectors) ≡ r

@@ -17,7 +17,7 @@ use Rattle.layout.specs.declared.Device.{Device}
 use Rattle.layout.specs.declared.Side.{Side}
 use Rattle.layout.specs.declared.Side.the-variants.{Front, Back}
 use Rattle.layout.specs.declared.Area.{Area}
-use Rattle.layout.specs.Limits.{recordLimit, lengthAllowed}
+use Rattle.layout.specs.Limits.{lengthAllowed}
 use Rattle.layout.specs.Places.{blockSector, areaSector}
 use Rattle.layout.proofs.Laws.{length-facts}
 use Rattle.block.specs.declared.Time.{Time}
@@ -35,7 +35,7 @@ use Rattle.discovery.specs.Copy.{blockIn, entryIn, newest, readingIn}
 use Rattle.discovery.specs.Discovery.{recordAt, sameDevice, sized, discovery}
 use Rattle.device.specs.Device.{Sectors, Sound, Store, Cut, Groups, stores, storeIn, groupStart, CutIn, areaSectors, copyFrom}
 use Rattle.device.proofs.Landing.{landed-size}
-use Rattle.device.proofs.Copies.{limit-sectors, limit-small}
+use Rattle.device.proofs.Copies.{limit-small}
 use Rattle.update.specs.Update.{deviceIn, numberAfter, updateTests, updateNumber, sectorsOf, sectorOf, holdingFor, withEntry, spare, newBlock}
 use Rattle.update.specs.declared.Part.{Part}
 use Rattle.update.specs.declared.Plan.{Plan}
@@ -47,7 +47,7 @@ use Rattle.update.specs.Demand.{Gives, heldIn, recordIn, InStepOn, Start
 use Rattle.update.proofs.NewBlock.{number-fits, device-kept, new-reads, new-writes, new-written}
 use Rattle.update.proofs.Holding.{Holds, newest-changed}
 use Rattle.update.proofs.Discovering.{gives, back-found, front-found, later-found}
-use Rattle.update.proofs.Padding.{sectors-most}
+use Rattle.update.proofs.Padding.{sectors-few}
 use Rattle.update.proofs.OneSide as OneSide
 use Rattle.update.proofs.Choosing.{block-given, area-given, part-given, front-store, back-store}
 use Rattle.update.proofs.InStep.{refused-differs, Stepped, verdict-facts, in-step-facts, same-device-test}
@@ -152,12 +152,7 @@ module _ (v : Device) (d : Sectors) (t : Time) (r : List ℕ) (s : Start v d t r
   its-length = holds-all .1 .1 .1 .0
 
   tiny : k ≤ 1020
-  tiny =
-      let l : length r ≤ recordLimit = length-facts (length r) its-length .1 in
-      let m : areaSectors * 512 ≡ recordLimit = limit-sectors in
-      let a : areaSectors ≤ 1020 = limit-small in
-      let b : k ≤ areaSectors = sectors-most (length r) areaSectors (omega arith) in
-      omega arith
+  tiny = sectors-few (length r) (length-facts (length r) its-length .1)
 
   -- the new block and the record's sectors: the new record
   holds-new : (w : Side) (e : Sectors) → Sound e → e (blockSector w v) ≡ newBlock (copy w) t r

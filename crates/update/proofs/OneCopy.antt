@@ -31,14 +31,14 @@ use Rattle.block.specs.Block.{poolOf, uuidOf, fieldsOf, readTests, reading}
 use Rattle.block.proofs.Readings.{accepted-reading}
 use Rattle.discovery.specs.Copy.{blockIn, entryIn, wholeEntry, whole, newest}
 use Rattle.device.specs.Device.{Sectors, Sound, gather, areaSectors, copyFrom}
-use Rattle.device.proofs.Copies.{limit-sectors, length-copy, copy-block, copy-area, gather-same}
+use Rattle.device.proofs.Copies.{length-copy, copy-block, copy-area, gather-same}
 use Rattle.update.specs.Update.{sectorsOf, sectorOf, holdingFor, withEntry, spare, newBlock}
 use Rattle.update.specs.Demand.{heldIn, recordIn}
 use Rattle.update.proofs.NewBlock.{entry-allowed, new-reads}
 use Rattle.update.proofs.Holding.{Holds, newest-changed, entry-changed, whole-used}
 use Rattle.update.proofs.InStep.{Stepped}
 use Rattle.update.proofs.Facts.{renamed}
-use Rattle.update.proofs.Padding.{gather-record, sectors-most}
+use Rattle.update.proofs.Padding.{gather-record, sectors-within}
 
 -- an area lies within a copy
 pub area-fits : (x : Area) → areaOffset x + recordLimit ≤ copyBytes
@@ -125,12 +125,11 @@ module _ (s : Side) (v : Device) (d : Sectors) (sd : Sound d) (big : 8 ≤ v .se
     new-held t r fits ns len later b a =
         let y : Area = spare (copyFrom s v d) in
         let l : length r ≤ recordLimit = length-facts (length r) len .1 in
-        let m : areaSectors * 512 ≡ recordLimit = limit-sectors in
         holds-at s v e se big
         (ap reading b ∙ new-reads (copyFrom s v d) ok (heldIn (copyFrom s v d)) used t r fits ns len later)
         (newest-changed (fieldsOf (blockIn (copyFrom s v d))) (newest (fieldsOf (blockIn (copyFrom s v d)))) (heldIn (copyFrom s v d)) (holdingFor t r) used later)
         (entry-changed (fieldsOf (blockIn (copyFrom s v d))) y (Used (holdingFor t r))) refl refl l
-        (gather-record e r (areaSector s y v) areaSectors (sectors-most (length r) areaSectors (omega arith)) a)
+        (gather-record e r (areaSector s y v) areaSectors (sectors-within (length r) l) a)
 
 -- of copies in step, a side whose block and present area still stand holds the front's record
 pub stepped-held : (v : Device) (d : Sectors) → Sound d → 8 ≤ v .sectors → Stepped (λ (w : Side). copyFrom w v d)
