@@ -82,11 +82,8 @@ module _ (v : Device) (d : Sectors) (q : Record) (s : State v d q) where
   itself : Kept c (q .area) h r
   itself = subst (λ (z : List ℕ). Kept z (q .area) h r) (side-copy v d (q .side)) (kept f b q (s .other) (s .answers))
 
-  big : 8 ≤ v .sectors
-  big =
-      let z : Sizes v = subst Sizes (s .placed) (sizes-accepted (blockIn c) (itself .accepted)) in
-      let a : 2097152 ≤ v .sectors = z .sectors in
-      omega arith
+  sizes : Sizes v
+  sizes = subst Sizes (s .placed) (sizes-accepted (blockIn c) (itself .accepted))
 
   -- its groups
   groups : mendGroups f b ≡ cond (inStep f b) [] (rewriting (q .side) c (q .area) r)
@@ -117,7 +114,7 @@ module _ (v : Device) (d : Sectors) (q : Record) (s : State v d q) where
 
     holds : (w : Side) → Holds (copyFrom w v d) (fieldsOf (blockIn (copyFrom w v d))) (poolOf (blockIn f)) (uuidOf (blockIn f))
         (newest (fieldsOf (blockIn (copyFrom w v d)))) (heldIn (copyFrom w v d)) (recordIn f)
-    holds w = stepped-held v d (s .sound) big stepped w d (s .sound) refl (λ n l. refl)
+    holds w = stepped-held v d (s .sound) sizes stepped w d (s .sound) refl (λ n l. refl)
 
     one-device : sameDevice (fieldsOf (blockIn f)) (fieldsOf (blockIn b)) ≡ true
     one-device = same-device-test (fieldsOf (blockIn f)) (fieldsOf (blockIn b)) (stepped .device)

@@ -7,10 +7,7 @@ use mathlib.Core.List.{List, [], _∷_, map}
 use native.Mathlib.Nat.{not-suc-le-zero, add-zero}
 use native.Mathlib.Decide.{decLe}
 use native.Mathlib.Omega.{arith}
-use borrow.Author.Tests.{eq-eqb}
-use lib.Dec.{eqb}
 use lib.ListN.{length, take}
-use Rattle.endian.proofs.Tests.{and-both}
 use Rattle.refusal.specs.Numbers.{noStore}
 use Rattle.layout.specs.declared.Area.the-variants.{A}
 use Rattle.layout.specs.Places.{blockSector, areaSector}
@@ -27,11 +24,11 @@ use Rattle.device.proofs.Groups.{total}
 use Rattle.update.specs.declared.Given.{Given}
 use Rattle.update.specs.declared.Given.the-variants as Given
 use Rattle.update.specs.Update.{deviceIn, sectorsOf}
-use Rattle.update.specs.Plan.{lentRight, blockAnswer, blockBytes, partAnswer, partBytes}
+use Rattle.update.specs.Plan.{blockAnswer, blockBytes, partAnswer, partBytes}
 use Rattle.update.proofs.NewBlock.{number-fits}
 use Rattle.update.proofs.Padding.{sectors-few}
 use Rattle.update.proofs.Places.{Sizes, sizes-accepted, area-below}
-use Rattle.update.proofs.Choosing.{block-given, area-given, part-given}
+use Rattle.update.proofs.Choosing.{lent-right, block-given, area-given, part-given}
 use Rattle.mend.specs.declared.Last.{Last}
 use Rattle.mend.specs.declared.Last.the-variants as Last
 use Rattle.mend.specs.declared.Rewrite.{Rewrite}
@@ -55,9 +52,6 @@ Agrees f b m gs =
     × ((i : ℕ) (out : List ℕ) → length (stores gs) ≤ i → sized f b ≡ true → length out ≡ 512
     → (storeAnswer m f b i out ≡ Given.Refused noStore) × (storeBytes m f b i out ≡ out))))
 
-lent : (f b out : List ℕ) → sized f b ≡ true → length out ≡ 512 → lentRight f b out ≡ true
-lent f b out z room = and-both (sized f b) (eqb (length out) 512) z (eq-eqb (length out) 512 room)
-
 -- nothing to store
 starts-none : (g : ℕ) → groupStart [] g ≡ 0
 unfolding groupStart stores
@@ -75,7 +69,7 @@ nothing f b m e h = (
       λ i out l room. absurd (not-suc-le-zero l),
       λ i out l z room.
           let a : (mendAnswer m f b i out ≡ storeAnswer m f b i out) × (mendBytes m f b i out ≡ storeBytes m f b i out) =
-          right-size m f b i out (lent f b out z room) _ _ m refl refl refl in
+          right-size m f b i out (lent-right f b out z room) _ _ m refl refl refl in
           (sym (a .0) ∙ h i out .0, sym (a .1) ∙ h i out .1),
     ),
   ),
@@ -173,7 +167,7 @@ module _ (f b : List ℕ) (q : Record) (o : Other) (e : discovery f b ≡ Answer
     -- what the plan's answers are at a number
     answers : (i : ℕ) (g : Given) (w : List ℕ) → (g ≡ rewriteAnswer p c i out) × (w ≡ rewriteBytes p c i out)
         → (g ≡ storeAnswer (Mending.Needed p) f b i out) × (w ≡ storeBytes (Mending.Needed p) f b i out)
-    answers i g w h = right-size (Mending.Needed p) f b i out (lent f b out (found-sized f b q o e) room) g w (Mending.Needed p) refl (h .0) (h .1)
+    answers i g w h = right-size (Mending.Needed p) f b i out (lent-right f b out (found-sized f b q o e) room) g w (Mending.Needed p) refl (h .0) (h .1)
 
     joined : (i : ℕ) (g : Given) (w : List ℕ) (s : Store) → (g ≡ rewriteAnswer p c i out) × (w ≡ rewriteBytes p c i out) → (g ≡ Given.At (s .sector)) × (w ≡ s .content)
         → storeIn gs i ≡ s

@@ -63,9 +63,6 @@ module _ (w : Side) (v : Device) (d : Sectors) (sd : Sound d) (placed : deviceIn
   sizes : Sizes v
   sizes = subst Sizes placed (sizes-accepted (blockIn c) (kept .accepted))
 
-  big : 8 ≤ v .sectors
-  big = let a : 2097152 ≤ v .sectors = sizes .sectors in omega arith
-
   tiny : k ≤ 1020
   tiny = sectors-few (length r) (kept-small kept)
 
@@ -208,7 +205,7 @@ module _ (w : Side) (v : Device) (d : Sectors) (sd : Sound d) (placed : deviceIn
 
   pub other-holds : HeldIn (otherSide w) end (refilled (deviceIn c) (Used h)) A
   other-holds =
-      holds-at (otherSide w) v end end-sound big
+      holds-at (otherSide w) v end end-sound sizes
       (ap reading filled-block
       ∙ (like-reads c (kept .accepted) (refilled (deviceIn c) (entryIn fields x)) (right-filled c (kept .accepted) x)
       ∙ ap (λ (e : Entry). record { verdict = Verdict.Accepted (refilled (deviceIn c) e); pool = pool; device = uuid }) (kept .entry)))
@@ -226,11 +223,11 @@ module _ (w : Side) (v : Device) (d : Sectors) (sd : Sound d) (placed : deviceIn
       ∙ (sym (copy-area w v d sd x (h .bytes) (kept .small)) ∙ kept .bytes)
 
   was : blockIn c ≡ d (blockSector w v)
-  was = copy-block w v d sd ∙ ap d (block-place w v big)
+  was = copy-block w v d sd ∙ ap d (block-place w v sizes)
 
   pub kept-whole : laterWhole c ≡ true → HeldIn w end fields x
   kept-whole n =
-      holds-at w v end end-sound big
+      holds-at w v end end-sound sizes
       (ap reading (kept-block n ∙ sym was) ∙ sym (accepted-reading (blockIn c) (kept .accepted)))
       (kept .in-newest n) (kept .entry) (kept .sum) (kept .long) (kept .small) kept-area
 
@@ -238,6 +235,6 @@ module _ (w : Side) (v : Device) (d : Sectors) (sd : Sound d) (placed : deviceIn
   kept-blank n =
       let o : otherArea (newest fields) ≡ x = kept .in-other n in
       let en : entryIn fields (otherArea (newest fields)) ≡ Used h = ap (entryIn fields) o ∙ kept .entry in
-      holds-at w v end end-sound big
+      holds-at w v end end-sound sizes
       (ap reading (blank-block n) ∙ like-reads c (kept .accepted) (blanked fields) (right-blank c (kept .accepted)))
       (newest-blanked fields h en ∙ o) (ap (entryIn (blanked fields)) (sym o) ∙ (entry-blanked fields ∙ en)) (kept .sum) (kept .long) (kept .small) kept-area

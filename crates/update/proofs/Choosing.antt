@@ -6,6 +6,7 @@ use mathlib.Core.List.{List}
 use borrow.Author.Tests.{lt-ltb, le-ltb, le-leb, lt-leb, eq-eqb, ne-eqb, not-true, not-false}
 use lib.Dec.{leb, ltb, eqb}
 use lib.ListN.{length}
+use Rattle.endian.proofs.Tests.{and-both}
 use Rattle.refusal.specs.Numbers.{noStore}
 use Rattle.refusal.specs.Tests.{first}
 use Rattle.layout.specs.Places.{copyBytes}
@@ -13,6 +14,7 @@ use Rattle.block.specs.declared.BlockFields.{BlockFields}
 use Rattle.block.specs.Block.{poolOf, uuidOf}
 use Rattle.block.specs.Writing.{writeTests, written}
 use Rattle.discovery.specs.Copy.{blockIn}
+use Rattle.discovery.specs.Discovery.{sized}
 use Rattle.update.specs.declared.Part.{Part}
 use Rattle.update.specs.declared.Plan.{Plan}
 use Rattle.update.specs.declared.Given.{Given}
@@ -20,6 +22,10 @@ use Rattle.update.specs.declared.Given.the-variants as Given
 use Rattle.update.specs.Update.{sectorOf}
 use Rattle.update.specs.Plan.{storesIn, groupOf, sectorIn, within, unlessRefused, blockAnswer, blockBytes, partAnswer, partBytes, storeAnswer, storeBytes, lentRight}
 use Rattle.update.proofs.Padding.{sector-laid}
+
+-- copies of the right size, and a sector's bytes
+pub lent-right : (f b out : List ℕ) → sized f b ≡ true → length out ≡ 512 → lentRight f b out ≡ true
+lent-right f b out z room = and-both (sized f b) (eqb (length out) 512) z (eq-eqb (length out) 512 room)
 
 -- the first two of three tests hold
 chosen : {A : Type 0} (a b c v : Bool) (x y z w : A) → a ≡ true → b ≡ true → c ≡ v → cond a (cond b (cond c x y) z) w ≡ cond v x y

@@ -7,10 +7,8 @@ use mathlib.Core.List.{List}
 use native.Mathlib.Decide.{ℕ-discrete}
 use native.Mathlib.Nat.{le-refl}
 use native.Mathlib.Omega.{arith}
-use borrow.Author.Tests.{eq-eqb}
-use lib.Dec.{leb, lit<, eqb}
+use lib.Dec.{leb, lit<}
 use lib.ListN.{length}
-use Rattle.endian.proofs.Tests.{and-both}
 use Rattle.refusal.specs.Tests.{AllHold}
 use Rattle.refusal.proofs.Order.{first-holds, answer-yes}
 use Rattle.layout.specs.declared.Device.{Device}
@@ -49,7 +47,7 @@ use Rattle.update.proofs.Holding.{Holds, newest-changed}
 use Rattle.update.proofs.Discovering.{gives, back-found, front-found, later-found}
 use Rattle.update.proofs.Padding.{sectors-few}
 use Rattle.update.proofs.OneSide as OneSide
-use Rattle.update.proofs.Choosing.{block-given, area-given, part-given, front-store, back-store}
+use Rattle.update.proofs.Choosing.{lent-right, block-given, area-given, part-given, front-store, back-store}
 use Rattle.update.proofs.InStep.{refused-differs, Stepped, verdict-facts, in-step-facts, same-device-test}
 use Rattle.update.proofs.OneCopy.{used, new-held, block-of, stepped-held}
 use Rattle.update.proofs.Facts.{other-differs, renamed, sized-copies, stands-as}
@@ -115,11 +113,8 @@ module _ (v : Device) (d : Sectors) (t : Time) (r : List ℕ) (s : Start v d t r
   its-sizes : Sizes v
   its-sizes = subst Sizes (s .placed) (sizes-accepted (blockIn (copy Front)) (stepped .accepted Front))
 
-  big : 8 ≤ v .sectors
-  big = let c : 2097152 ≤ v .sectors = its-sizes .sectors in omega arith
-
   its-used : (w : Side) → entryIn (fields w) (present w) ≡ Used (heldIn (copy w))
-  its-used w = used w v d (s .sound) big (stepped .accepted w) (stepped .newest-whole w)
+  its-used w = used w v d (s .sound) its-sizes (stepped .accepted w) (stepped .newest-whole w)
 
   one-device : sameDevice (fields Front) (fields Back) ≡ true
   one-device = same-device-test (fields Front) (fields Back) (stepped .device)
@@ -127,7 +122,7 @@ module _ (v : Device) (d : Sectors) (t : Time) (r : List ℕ) (s : Start v d t r
   -- the old block and the old sectors of its area: the old record
   holds-old : (w : Side) (e : Sectors) → Sound e → e (blockSector w v) ≡ d (blockSector w v)
       → ((i : ℕ) → i < areaSectors → e (areaSector w (present w) v + i) ≡ d (areaSector w (present w) v + i)) → OldHeld w e
-  holds-old = stepped-held v d (s .sound) big stepped
+  holds-old = stepped-held v d (s .sound) its-sizes stepped
 
   found : discovery (copy Front) (copy Back) ≡ Found (recordAt Front (present Front) (heldIn (copy Front))) Both
   found =
@@ -159,7 +154,7 @@ module _ (v : Device) (d : Sectors) (t : Time) (r : List ℕ) (s : Start v d t r
       → ((i : ℕ) → i < k → e (areaSector w (spare (copy w)) v + i) ≡ sectorOf r i) → NewHeld w e
   holds-new w e se b a =
       renamed (stepped .pool w) (stepped .uuid w) refl
-      (new-held w v d (s .sound) big (stepped .accepted w) (stepped .newest-whole w) e se t r (s .fits) its-time its-length (its-later w) b a)
+      (new-held w v d (s .sound) its-sizes (stepped .accepted w) (stepped .newest-whole w) e se t r (s .fits) its-time its-length (its-later w) b a)
 
   new-device : (w : Side) → newFields w .device ≡ fields w .device
   new-device w = device-kept (fields w) (spare (copy w)) (Used (holdingFor t r))
@@ -194,7 +189,7 @@ module _ (v : Device) (d : Sectors) (t : Time) (r : List ℕ) (s : Start v d t r
         (sym (newest-changed (fields w) (present w) (heldIn (copy w)) (holdingFor t r) (its-used w) (its-later w)) ∙ ap newest f)
 
     at-block : (e : Sectors) → Sound e → blockIn (copyFrom w v e) ≡ e (blockSector w v)
-    at-block e se = block-of w v d (s .sound) big (stepped .accepted w) (stepped .newest-whole w) e se
+    at-block e se = block-of w v d (s .sound) its-sizes (stepped .accepted w) (stepped .newest-whole w) e se
 
     state : (e : Sectors) → (Excused v d e t r → ⊥) → IsOld w e ⊎ (IsNew w e ⊎ IsRefused w e)
     state e x = stands-as (blockIn (copyFrom w v e)) (blockIn (copy w)) (newBlock (copy w) t r) (λ p q z. x (w, p, q, z))
@@ -388,7 +383,7 @@ module _ (v : Device) (d : Sectors) (t : Time) (r : List ℕ) (s : Start v d t r
 
   module _ (out : List ℕ) (room : length out ≡ 512) where
     lent : lentRight (copy Front) (copy Back) out ≡ true
-    lent = and-both (sized (copy Front) (copy Back)) (eqb (length out) 512) (stepped .sizes) (eq-eqb (length out) 512 room)
+    lent = lent-right (copy Front) (copy Back) out (stepped .sizes) room
 
     -- the plan gives it at that number
     plan-gives : (w : Side) (j : ℕ) → j ≤ k
