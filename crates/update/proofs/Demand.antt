@@ -44,7 +44,7 @@ use Rattle.update.specs.Plan.{partOf, storesIn, partAnswer, partBytes, s
 use Rattle.update.specs.Demand.{Gives, heldIn, recordIn, InStepOn, Start, Excused, groupsOn, planOn, Cutting, after, Landing, Giving}
 use Rattle.update.proofs.NewBlock.{number-fits, device-kept, new-reads, new-writes, new-written}
 use Rattle.update.proofs.Holding.{Holds, newest-changed}
-use Rattle.update.proofs.Discovering.{gives, back-found, front-found, later-found}
+use Rattle.update.proofs.Discovering.{gives, alone-gives, later-found}
 use Rattle.update.proofs.Padding.{sectors-few}
 use Rattle.update.proofs.OneSide as OneSide
 use Rattle.update.proofs.Choosing.{lent-right, block-given, area-given, part-given, front-store, back-store}
@@ -200,10 +200,7 @@ module _ (v : Device) (d : Sectors) (t : Time) (r : List ℕ) (s : Start v d t r
     gives-old m n = agree-gives m n (sized-copies v e e se se) one-device _ refl (stepped .times Back)
 
     gives-back : IsRefused Front e → OldHeld Back e → GivesOld e
-    gives-back a m =
-        gives (copyFrom Front v e) (copyFrom Back v e) Back (present Back) (heldIn (copy Back)) _ _ _
-        (back-found (copyFrom Front v e) (copyFrom Back v e) (sized-copies v e e se se) (a .0) (a .1) m)
-        (m .bytes) (m .long) (stepped .times Back)
+    gives-back a m = alone-gives (copyFrom Front v e) (copyFrom Back v e) (sized-copies v e e se se) Back (a .0) m (a .1) _ (stepped .times Back)
 
     module _ (m : NewHeld Front e) where
       gives-newer : OldHeld Back e → GivesNew e
@@ -215,9 +212,7 @@ module _ (v : Device) (d : Sectors) (t : Time) (r : List ℕ) (s : Start v d t r
       gives-both n = agree-gives m n (sized-copies v e e se se) new-new t refl refl
 
       gives-front : IsRefused Back e → GivesNew e
-      gives-front a =
-          gives (copyFrom Front v e) (copyFrom Back v e) Front (spare (copy Front)) (holdingFor t r) _ t r
-          (front-found (copyFrom Front v e) (copyFrom Back v e) (sized-copies v e e se se) (a .0) m (a .1)) (m .bytes) (m .long) refl
+      gives-front a = alone-gives (copyFrom Front v e) (copyFrom Back v e) (sized-copies v e e se se) Front (a .0) m (a .1) t refl
 
   -- what a cut leaves
   abbrev Outcome : Sectors → Type 0
