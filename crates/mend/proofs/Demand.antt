@@ -1,5 +1,5 @@
 -- What mending promises of the device, proved. Assumes nothing.
-use Prim.Native.Nat.{ℕ, suc, _+_, _≤_, _<_}
+use Prim.Native.Nat.{ℕ, _+_, _<_}
 use mathlib.Core.Path.{_≡_, refl, sym, ap, subst, _∙_}
 use mathlib.Core.Bool.{Bool, true, false, cond}
 use mathlib.Core.Logic.{_⊎_, inl, inr}
@@ -39,7 +39,7 @@ use Rattle.update.proofs.Agreeing.{found-front, agree-gives, agree-in-step}
 use Rattle.mend.specs.Mend.{laterWhole, rewriting, groupsAfter, mendGroups}
 use Rattle.mend.specs.Demand.{State, after, foundIn, Landing, Touching}
 use Rattle.mend.proofs.Kept.{Kept, held, kept, found-time, found-long}
-use Rattle.mend.proofs.Stores.{which}
+use Rattle.mend.proofs.Stores.{by-store}
 use Rattle.mend.proofs.Landing.{first-at, sector-at, second-at, last-at, end-sound, other-holds, kept-whole, kept-blank}
 
 -- the copy of a side
@@ -152,31 +152,13 @@ module _ (v : Device) (d : Sectors) (q : Record) (s : State v d q) where
   sectors = ap sectorsOf (found-long f b q (s .other) (s .answers))
 
   goes : (i : ℕ) → i < length (stores (rewriting (q .side) c (q .area) r)) → Goes (rewriting (q .side) c (q .area) r) i
-  goes i l = go (which (q .side) c (q .area) r i l)
-    where
-      go : (i ≡ 0) ⊎ (((j : ℕ) × (j < sectorsOf (length r)) × (i ≡ suc j)) ⊎ ((i ≡ suc (sectorsOf (length r))) ⊎ ((i ≡ suc (suc (sectorsOf (length r)))) × (laterWhole c ≡ false))))
-          → Goes (rewriting (q .side) c (q .area) r) i
-      go (inl e) =
-          inl (ap (λ (n : ℕ). storeIn (rewriting (q .side) c (q .area) r) n .sector) e
-          ∙ ap (λ (z : Store). z .sector) (first-at (q .side) v d (s .sound) (s .placed) (q .area) h r itself))
-      go (inr (inl (j, m, e))) =
-          let k : sectorsOf (q .bytes) ≡ sectorsOf (length r) = sectors in
-          inr (inl (
-            j,
-            omega arith,
-            ap (λ (n : ℕ). storeIn (rewriting (q .side) c (q .area) r) n .sector) e
-                ∙ ap (λ (z : Store). z .sector) (sector-at (q .side) v d (s .sound) (s .placed) (q .area) h r itself j m),
-          ))
-      go (inr (inr (inl e))) =
-          inl (ap (λ (n : ℕ). storeIn (rewriting (q .side) c (q .area) r) n .sector) e
-          ∙ ap (λ (z : Store). z .sector) (second-at (q .side) v d (s .sound) (s .placed) (q .area) h r itself))
-      go (inr (inr (inr (e, n)))) =
-          let k : sectorsOf (q .bytes) ≡ sectorsOf (length r) = sectors in
-          inr (inr (
-            omega arith,
-            ap (λ (n : ℕ). storeIn (rewriting (q .side) c (q .area) r) n .sector) e
-                ∙ ap (λ (z : Store). z .sector) (last-at (q .side) v d (s .sound) (s .placed) (q .area) h r itself n),
-          ))
+  goes =
+      let k : sectorsOf (q .bytes) ≡ sectorsOf (length r) = sectors in
+      by-store (q .side) c (q .area) r (Goes (rewriting (q .side) c (q .area) r))
+      (inl (ap (λ (z : Store). z .sector) (first-at (q .side) v d (s .sound) (s .placed) (q .area) h r itself)))
+      (λ j m. inr (inl (j, omega arith, ap (λ (z : Store). z .sector) (sector-at (q .side) v d (s .sound) (s .placed) (q .area) h r itself j m))))
+      (inl (ap (λ (z : Store). z .sector) (second-at (q .side) v d (s .sound) (s .placed) (q .area) h r itself)))
+      (λ n. inr (inr (omega arith, ap (λ (z : Store). z .sector) (last-at (q .side) v d (s .sound) (s .placed) (q .area) h r itself n))))
 
   by-step : (t : Bool) (i : ℕ) → i < length (stores (cond t [] (rewriting (q .side) c (q .area) r))) → Goes (cond t [] (rewriting (q .side) c (q .area) r)) i
   unfolding stores

@@ -2,7 +2,6 @@
 use Prim.Native.Nat.{ℕ, zero, suc, _+_, _-_, _*_, _^_, _≤_, _<_}
 use mathlib.Core.Path.{_≡_, refl, sym, ap, ap₂, subst, _∙_}
 use mathlib.Core.Bool.{Bool, true, false, cond}
-use mathlib.Core.Logic.{_⊎_, inl, inr}
 use mathlib.Core.List.{List, [], _∷_, map}
 use native.Mathlib.Nat.{not-suc-le-zero, add-zero}
 use native.Mathlib.Decide.{decLe}
@@ -39,7 +38,7 @@ use Rattle.mend.specs.Plan.{rewriteOf, mendingAfter, mending, lastCount,
 use Rattle.mend.specs.Demand.{Giving}
 use Rattle.mend.proofs.Choosing.{right-size, first-store, part-store, last-stored, no-such, in-first, in-record, in-second, in-last}
 use Rattle.mend.proofs.Kept.{Kept, kept-small, found-sized, held, kept, found-long}
-use Rattle.mend.proofs.Stores.{filledBlock, at-first, at-sector, at-second, at-last, last-none, last-one, count-whole, count-blank, group-starts, which}
+use Rattle.mend.proofs.Stores.{filledBlock, at-first, at-sector, at-second, at-last, last-none, last-one, count-whole, count-blank, group-starts, by-store}
 use Rattle.mend.proofs.Blocks.{Right, right-empty, right-filled, right-blank, like-writes, like-written}
 
 -- what is given of a mend m is what the groups gs have
@@ -179,40 +178,44 @@ module _ (f b : List ℕ) (q : Record) (o : Other) (e : discovery f b ≡ Answer
     sectors-fit : deviceIn c .sectors < 256 ^ 8
     sectors-fit = number-fits (blockIn c) 20 8
 
-    given : (i : ℕ) → i < length (stores gs)
-        → GivenAt i
-    given i l = go (which (q .side) c (q .area) r i l)
+    given : (i : ℕ) → i < length (stores gs) → GivenAt i
+    given = by-store (q .side) c (q .area) r GivenAt first sector second last
       where
-        go : (i ≡ 0) ⊎ (((j : ℕ) × (j < k) × (i ≡ suc j)) ⊎ ((i ≡ suc k) ⊎ ((i ≡ suc (suc k)) × (laterWhole c ≡ false))))
-            → GivenAt i
-        go (inl z) =
-            joined i _ _ _ (first-store p c i out _ _ z refl refl) (block-of (p .part .block) (p .empty) (right-empty c (itself .accepted)))
-            (ap (storeIn gs) z ∙ at-first (q .side) c (q .area) r)
-        go (inr (inl (j, h, z))) =
+        first : GivenAt 0
+        first =
+            joined 0 _ _ _ (first-store p c 0 out _ _ refl refl refl) (block-of (p .part .block) (p .empty) (right-empty c (itself .accepted)))
+            (at-first (q .side) c (q .area) r)
+
+        sector : (j : ℕ) → j < k → GivenAt (suc j)
+        sector j h =
             let n : p .sectors ≡ k = filled in
-            let m : i - 1 ≡ j = omega arith in
+            let m : suc j - 1 ≡ j = omega arith in
             let s : k ≤ 1020 = tiny in
             let a : areaSector (otherSide (q .side)) A (deviceIn c) + j < deviceIn c .sectors = area-below (deviceIn c) sizes (otherSide (q .side)) A j (omega arith) in
             let y : deviceIn c .sectors < 256 ^ 8 = sectors-fit in
             let t : areaSector (otherSide (q .side)) A (deviceIn c) ≤ 18446744073709551615 - j = omega arith in
-            joined i _ _ _ (part-store p c i out _ _ (λ u. omega arith) (omega arith) _ _ refl refl refl refl) (
+            joined (suc j) _ _ _ (part-store p c (suc j) out _ _ (λ u. omega arith) (omega arith) _ _ refl refl refl refl) (
               ap (λ (u : ℕ). partAnswer (p .part) (p .sectors) c u out) m ∙ area-given (p .part) (p .sectors) c r j out (omega arith) t room .0,
               ap (λ (u : ℕ). partBytes (p .part) (p .sectors) c r u out) m ∙ area-given (p .part) (p .sectors) c r j out (omega arith) t room .1,
             )
-            (ap (storeIn gs) z ∙ at-sector (q .side) c (q .area) r j h)
-        go (inr (inr (inl z))) =
+            (at-sector (q .side) c (q .area) r j h)
+
+        second : GivenAt (suc k)
+        second =
             let n : p .sectors ≡ k = filled in
-            joined i _ _ _ (part-store p c i out _ _ (λ u. omega arith) (omega arith) _ _ refl refl refl refl)
-            (part-given (p .part) (p .sectors) c r (i - 1) out (omega arith) (p .part .block) (filledBlock (q .side) c (q .area) r)
+            joined (suc k) _ _ _ (part-store p c (suc k) out _ _ (λ u. omega arith) (omega arith) _ _ refl refl refl refl)
+            (part-given (p .part) (p .sectors) c r (suc k - 1) out (omega arith) (p .part .block) (filledBlock (q .side) c (q .area) r)
             (block-of (p .part .block) (p .part .fields) (right-filled c (itself .accepted) (q .area))))
-            (ap (storeIn gs) z ∙ at-second (q .side) c (q .area) r)
-        go (inr (inr (inr (z, h)))) =
+            (at-second (q .side) c (q .area) r)
+
+        last : laterWhole c ≡ false → GivenAt (suc (suc k))
+        last h =
             let n : p .sectors ≡ k = filled in
-            joined i _ _ _ (last-stored p c i out _ _ (λ u. omega arith) (omega arith) (omega arith) refl refl) (
+            joined (suc (suc k)) _ _ _ (last-stored p c (suc (suc k)) out _ _ (λ u. omega arith) (omega arith) (omega arith) refl refl) (
               ap (λ (u : Last). lastAnswer u c out) (last-there h) ∙ block-of (blockSector (q .side) (deviceIn c)) (blanked fields) (right-blank c (itself .accepted)) .0,
               ap (λ (u : Last). lastBytes u c out) (last-there h) ∙ block-of (blockSector (q .side) (deviceIn c)) (blanked fields) (right-blank c (itself .accepted)) .1,
             )
-            (ap (storeIn gs) z ∙ at-last (q .side) c (q .area) r h)
+            (at-last (q .side) c (q .area) r h)
 
     -- past the last
     past : (i : ℕ) → length (stores gs) ≤ i → (storeAnswer (Mending.Needed p) f b i out ≡ Given.Refused noStore) × (storeBytes (Mending.Needed p) f b i out ≡ out)

@@ -53,7 +53,7 @@ use Rattle.update.proofs.OneCopy.{used, new-held, block-of, stepped-hel
 use Rattle.update.proofs.Facts.{other-differs, renamed, sized-copies, stands-as}
 use Rattle.update.proofs.Agreeing.{found-front, agree-gives, agree-in-step}
 use Rattle.update.proofs.Places.{Sizes, sizes-accepted, near, area-near, area-below, block-apart, areas-apart}
-use Rattle.update.proofs.Stores.{starting, begin, count, which, stored-size, side, group-starts, grouped}
+use Rattle.update.proofs.Stores.{starting, begin, count, by-side, stored-size, side, group-starts, grouped}
 
 module _ (v : Device) (d : Sectors) (t : Time) (r : List ℕ) (s : Start v d t r) where
   -- a side's copy before the update, the numbers of its block and the area that is present
@@ -397,15 +397,14 @@ module _ (v : Device) (d : Sectors) (t : Time) (r : List ℕ) (s : Start v d t r
         (ap (λ (i : ℕ). partAnswer (part Back (deviceIn (copy Front))) k (copy Back) i out) n)
         (ap (λ (i : ℕ). partBytes (part Back (deviceIn (copy Front))) k (copy Back) r i out) n)
 
-    all-given : (i : ℕ) → i < all
-        → (storeAnswer plan (copy Front) (copy Back) i out ≡ Given.At (storeIn groups i .sector))
+    abbrev GivenAt : ℕ → Type 0
+    GivenAt i =
+        (storeAnswer plan (copy Front) (copy Back) i out ≡ Given.At (storeIn groups i .sector))
         × (storeBytes plan (copy Front) (copy Back) r i out ≡ storeIn groups i .content)
-    all-given i l = go (which k i l)
-      where
-        go : (w : Side) × (j : ℕ) × (j ≤ k) × (i ≡ begin k w + j)
-            → (storeAnswer plan (copy Front) (copy Back) i out ≡ Given.At (storeIn groups i .sector))
-            × (storeBytes plan (copy Front) (copy Back) r i out ≡ storeIn groups i .content)
-        go (w, j, h, e) = rw e (sym (plan-gives w j h .0) ∙ given-at w out room j h .0, sym (plan-gives w j h .1) ∙ given-at w out room j h .1)
+
+    all-given : (i : ℕ) → i < all → GivenAt i
+    all-given =
+        by-side k GivenAt (λ w j h. (sym (plan-gives w j h .0) ∙ given-at w out room j h .0, sym (plan-gives w j h .1) ∙ given-at w out room j h .1))
 
 pub cutting : Cutting
 cutting v d e t r g s h c x = in-group v d t r s e x g h c
