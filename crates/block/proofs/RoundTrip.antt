@@ -16,8 +16,8 @@ use Rattle.endian.proofs.Tests.{and-left, and-right, and-both, equal-same, leng
 use Rattle.refusal.specs.Tests.{AllHold}
 use Rattle.checksum.specs.Crc.{checksum}
 use Rattle.checksum.proofs.Laws.{checksum-below}
-use Rattle.layout.specs.Limits.{sizeAllowed, recordLimit, lengthAllowed}
-use Rattle.layout.proofs.Laws.{metadata-facts, length-facts, limit-fits}
+use Rattle.layout.specs.Limits.{sizeAllowed, lengthAllowed}
+use Rattle.layout.proofs.Laws.{metadata-facts, length-facts, length-fits}
 use Rattle.block.specs.declared.Holding.{Holding}
 use Rattle.block.specs.declared.BlockFields.{BlockFields}
 use Rattle.block.specs.declared.Entry.{Entry}
@@ -112,9 +112,7 @@ pub entry-fits : (e : Entry) → entryAllowed e ≡ true → EntryFits e
 entry-fits Unused h k = (lit< tt, lit< tt, lit< tt, lit< tt)
 entry-fits (Used w) h k =
     let n : w .nanoseconds ≤ 999999999 = leb-true (w .nanoseconds) 999999999 (and-right (lengthAllowed (w .bytes)) (leb (w .nanoseconds) 999999999) h) in
-    let l : w .bytes ≤ recordLimit = length-facts (w .bytes) (and-left (lengthAllowed (w .bytes)) (leb (w .nanoseconds) 999999999) h) .1 in
-    let m : recordLimit < 2 ^ 32 = limit-fits in
-    (k .0, omega arith, omega arith, k .1)
+    (k .0, omega arith, length-fits (w .bytes) (and-left (lengthAllowed (w .bytes)) (leb (w .nanoseconds) 999999999) h), k .1)
 
 module _ (p u : List ℕ) (f : BlockFields) (hp : length p ≡ 32) (hu : length u ≡ 32) where
   -- the block's fields have the table's widths

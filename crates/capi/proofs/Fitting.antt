@@ -83,9 +83,9 @@ module _ (f b : List ℕ) (t : Time) (r : List ℕ) (e : updateNumber f b t r �
 
   pub plan-fit : PlanFit (planOf f b t r)
   plan-fit =
-      let s : Stepped f b = in-step-facts f b (tests .1 .0) in
+      let s : Stepped (λ (w : Side). copyOn w f b) = in-step-facts (λ (w : Side). copyOn w f b) (tests .1 .0) in
       let l : length r < 2 ^ 32 = record-small f b t r 0 (sym e) refl in
-      (sectors-fit (length r) l, part-fit Front f (s .front), part-fit Back b (s .back))
+      (sectors-fit (length r) l, part-fit Front f (s .accepted Front), part-fit Back b (s .accepted Back))
 
 -- a mend of copies in which a record was found
 module _ (f b : List ℕ) (q : Record) (o : Other) (e : discovery f b ≡ Answer.Found q o) where

@@ -37,27 +37,21 @@ pub record Latest (c : List ℕ) (f : BlockFields) (x : Area) (h : Holding) : Ty
   pub holds : h ≡ holdingOf (entryIn f x)
   pub latest : (y : Area) → whole c f y ≡ true → laterThan (timeOf (holdingOf (entryIn f y))) (timeOf h) ≡ false
 
--- a whole area's entry is no later than the newest entry
-newer-later : (a b : Entry) (c : List ℕ) (x : Area) → wholeEntry c x a ≡ true → newer b a ≡ false → wholeEntry c (otherArea x) b ≡ true
-    → laterThan (timeOf (holdingOf b)) (timeOf (holdingOf a)) ≡ false
-newer-later Unused b c x p q r = absurd (true≢false (sym p))
-newer-later (Used h) Unused c x p q r = absurd (true≢false (sym r))
-newer-later (Used h) (Used k) c x p q r = q
-
-newer-earlier : (a b : Entry) (c : List ℕ) (x : Area) → wholeEntry c x b ≡ true → newer b a ≡ true → wholeEntry c (otherArea x) a ≡ true
-    → laterThan (timeOf (holdingOf a)) (timeOf (holdingOf b)) ≡ false
-newer-earlier a Unused c x p q r = absurd (true≢false (sym p))
-newer-earlier Unused (Used k) c x p q r = absurd (true≢false (sym r))
-newer-earlier (Used h) (Used k) c x p q r = later-asym (timeOf k) (timeOf h) q
+-- of whole areas' entries, the newer has the later time
+newer-later : (a b : Entry) (c : List ℕ) (x y : Area) → wholeEntry c x a ≡ true → wholeEntry c y b ≡ true
+    → laterThan (timeOf (holdingOf b)) (timeOf (holdingOf a)) ≡ newer b a
+newer-later Unused b c x y p q = absurd (true≢false (sym p))
+newer-later (Used h) Unused c x y p q = absurd (true≢false (sym q))
+newer-later (Used h) (Used k) c x y p q = refl
 
 module _ (c : List ℕ) (f : BlockFields) where
   -- the newest entry's area is whole
   of-newest : (t : Bool) → newer (f .b) (f .a) ≡ t → whole c f (cond t B A) ≡ true → (y : Area) → whole c f y ≡ true
       → laterThan (timeOf (holdingOf (entryIn f y))) (timeOf (holdingOf (entryIn f (cond t B A)))) ≡ false
-  of-newest true n w A v = newer-earlier (f .a) (f .b) c B w n v
+  of-newest true n w A v = later-asym (timeOf (holdingOf (f .b))) (timeOf (holdingOf (f .a))) (newer-later (f .a) (f .b) c A B v w ∙ n)
   of-newest true n w B v = never-later (timeOf (holdingOf (f .b)))
   of-newest false n w A v = never-later (timeOf (holdingOf (f .a)))
-  of-newest false n w B v = newer-later (f .a) (f .b) c A w n v
+  of-newest false n w B v = newer-later (f .a) (f .b) c A B w v ∙ n
 
   -- it is not, so no other whole area is there but the one
   of-other : (x : Area) → whole c f x ≡ false → (y : Area) → whole c f y ≡ true
@@ -67,6 +61,10 @@ module _ (c : List ℕ) (f : BlockFields) where
   of-other B w A v = never-later (timeOf (holdingOf (f .a)))
   of-other B w B v = absurd (true≢false (sym v ∙ w))
 
+  -- what is present where the newest entry is z's, by whether z and the other area are whole
+  abbrev presentBy : Area → Bool → Bool → Present
+  presentBy z s t = cond s (At z (holdingOf (entryIn f z))) (cond t (At (otherArea z) (holdingOf (entryIn f (otherArea z)))) Nothing)
+
   at-same : (x y : Area) (h k : Holding) → At x h ≡ At y k → (x ≡ y) × (h ≡ k)
   at-same x y h k e = (cc, cc)
 
@@ -74,9 +72,6 @@ module _ (c : List ℕ) (f : BlockFields) where
       → (x : Area) (h : Holding) → present c f ≡ At x h → presentFrom c f z ≡ At x h → Latest c f x h
   latest-from z l x h pe e = go (whole c f z) refl (whole c f (otherArea z)) refl
     where
-      pick : Bool → Bool → Present
-      pick s t = cond s (At z (holdingOf (entryIn f z))) (cond t (At (otherArea z) (holdingOf (entryIn f (otherArea z)))) Nothing)
-
       build : (y : Area) → whole c f y ≡ true → ((w : Area) → whole c f w ≡ true → laterThan (timeOf (holdingOf (entryIn f w))) (timeOf (holdingOf (entryIn f y))) ≡ false)
           → At y (holdingOf (entryIn f y)) ≡ At x h → Latest c f x h
       build y w m d =
@@ -90,10 +85,10 @@ module _ (c : List ℕ) (f : BlockFields) where
           }
 
       go : (s : Bool) → whole c f z ≡ s → (t : Bool) → whole c f (otherArea z) ≡ t → Latest c f x h
-      go true p t q = build z p (λ y k. l y p k) (sym (ap (λ (s : Bool). pick s (whole c f (otherArea z))) p) ∙ e)
-      go false p true q = build (otherArea z) q (of-other z p) (sym (ap₂ pick p q) ∙ e)
+      go true p t q = build z p (λ y k. l y p k) (sym (ap (λ (s : Bool). presentBy z s (whole c f (otherArea z))) p) ∙ e)
+      go false p true q = build (otherArea z) q (of-other z p) (sym (ap₂ (presentBy z) p q) ∙ e)
       go false p false q =
-          let n : Nothing ≡ At x h = sym (ap₂ pick p q) ∙ e in
+          let n : Nothing ≡ At x h = sym (ap₂ (presentBy z) p q) ∙ e in
           let o : _≡_ {A = ℕ} 0 1 = cc in
           absurd (omega arith)
 
@@ -105,9 +100,6 @@ module _ (c : List ℕ) (f : BlockFields) where
   none-from : (z : Area) → presentFrom c f z ≡ Nothing → (y : Area) → whole c f y ≡ true → ⊥
   none-from z e = go (whole c f z) refl (whole c f (otherArea z)) refl
     where
-      pick : Bool → Bool → Present
-      pick s t = cond s (At z (holdingOf (entryIn f z))) (cond t (At (otherArea z) (holdingOf (entryIn f (otherArea z)))) Nothing)
-
       clash : (y : Area) (h : Holding) → At y h ≡ Nothing → ⊥
       clash y h d = let o : _≡_ {A = ℕ} 0 1 = cc in omega arith
 
@@ -118,8 +110,8 @@ module _ (c : List ℕ) (f : BlockFields) where
       both B B p q v = true≢false (sym v ∙ p)
 
       go : (s : Bool) → whole c f z ≡ s → (t : Bool) → whole c f (otherArea z) ≡ t → (y : Area) → whole c f y ≡ true → ⊥
-      go true p t q y v = clash z (holdingOf (entryIn f z)) (sym (ap (λ (s : Bool). pick s (whole c f (otherArea z))) p) ∙ e)
-      go false p true q y v = clash (otherArea z) (holdingOf (entryIn f (otherArea z))) (sym (ap₂ pick p q) ∙ e)
+      go true p t q y v = clash z (holdingOf (entryIn f z)) (sym (ap (λ (s : Bool). presentBy z s (whole c f (otherArea z))) p) ∙ e)
+      go false p true q y v = clash (otherArea z) (holdingOf (entryIn f (otherArea z))) (sym (ap₂ (presentBy z) p q) ∙ e)
       go false p false q y v = both z y p q v
 
   -- a copy with no present record has no whole area
@@ -134,12 +126,33 @@ refused-found r o n e = let z : _≡_ {A = ℕ} 0 1 = cc in omega arith
 pub found-same : (r : Record) (o : Other) (q : Record) (p : Other) → Found q p ≡ Found r o → q ≡ r
 found-same r o q p e = cc
 
+refused-accepted : (c : List ℕ) (n : ℕ) (e : BlockFields) → readingIn c .verdict ≡ Verdict.Refused n → readingIn c .verdict ≡ Verdict.Accepted e → ⊥
+refused-accepted c n e p q =
+    let v : Verdict.Refused n ≡ Verdict.Accepted e = sym p ∙ q in
+    let z : _≡_ {A = ℕ} 0 1 = cc in
+    omega arith
+
+accepted-same : (c : List ℕ) (g e : BlockFields) → readingIn c .verdict ≡ Verdict.Accepted g → readingIn c .verdict ≡ Verdict.Accepted e → g ≡ e
+accepted-same c g e p q = let v : Verdict.Accepted g ≡ Verdict.Accepted e = sym p ∙ q in cc
+
+-- no whole area of a copy is later than h: nothing is present there, or its present record is no later
+abbrev NoneLater : List ℕ → Holding → Type 0
+NoneLater c h = (e : BlockFields) (y : Area) → readingIn c .verdict ≡ Verdict.Accepted e → whole c e y ≡ true → laterThan (timeOf (holdingOf (entryIn e y))) (timeOf h) ≡ false
+
+none-there : (c : List ℕ) (g : BlockFields) (h : Holding) → readingIn c .verdict ≡ Verdict.Accepted g → present c g ≡ Nothing → NoneLater c h
+none-there c g h a p e z q w = absurd (present-nothing c g p z (ap (λ (i : BlockFields). whole c i z) (accepted-same c g e a q) ∙ w))
+
+carried : (c : List ℕ) (g : BlockFields) (u : Area) (k h : Holding) → readingIn c .verdict ≡ Verdict.Accepted g → Latest c g u k
+    → laterThan (timeOf k) (timeOf h) ≡ false → NoneLater c h
+carried c g u k h a l n e z q w =
+    let i : g ≡ e = accepted-same c g e a q in
+    not-later-trans (timeOf (holdingOf (entryIn e z))) (timeOf k) (timeOf h)
+    (ap (λ (j : BlockFields). laterThan (timeOf (holdingOf (entryIn j z))) (timeOf k)) (sym i) ∙ l .latest z (ap (λ (j : BlockFields). whole c j z) i ∙ w)) n
+
 module _ (f b : List ℕ) (r : Record) (o : Other) where
   -- a copy's present record, no whole area of the other copy later, is the newest
   build : (s : Side) (g : BlockFields) (x : Area) (h : Holding) → readingIn (copyOn s f b) .verdict ≡ Verdict.Accepted g → Latest (copyOn s f b) g x h
-      → ((e : BlockFields) (y : Area) → readingIn (copyOn (otherSide s) f b) .verdict ≡ Verdict.Accepted e → whole (copyOn (otherSide s) f b) e y ≡ true
-      → laterThan (timeOf (holdingOf (entryIn e y))) (timeOf h) ≡ false)
-      → recordAt s x h ≡ r → Newest f b r
+      → NoneLater (copyOn (otherSide s) f b) h → recordAt s x h ≡ r → Newest f b r
   build s g x h a l n d = subst (λ (z : Record). Newest f b z) d
       (record {
         fields = g;
@@ -150,31 +163,12 @@ module _ (f b : List ℕ) (r : Record) (o : Other) where
         none-later = go s g a l n;
       })
     where
-      inside : (c : List ℕ) (g e : BlockFields) (y : Area) → readingIn c .verdict ≡ Verdict.Accepted g → Latest c g x h → readingIn c .verdict ≡ Verdict.Accepted e
-          → whole c e y ≡ true → laterThan (timeOf (holdingOf (entryIn e y))) (timeOf h) ≡ false
-      inside c g e y p l q w =
-          let v : Verdict.Accepted g ≡ Verdict.Accepted e = sym p ∙ q in
-          let k : e ≡ g = cc in
-          ap (λ (i : BlockFields). laterThan (timeOf (holdingOf (entryIn i y))) (timeOf h)) k ∙ l .latest y (ap (λ (i : BlockFields). whole c i y) (sym k) ∙ w)
-
       go : (s : Side) (g : BlockFields) → readingIn (copyOn s f b) .verdict ≡ Verdict.Accepted g → Latest (copyOn s f b) g x h
-          → ((e : BlockFields) (y : Area) → readingIn (copyOn (otherSide s) f b) .verdict ≡ Verdict.Accepted e → whole (copyOn (otherSide s) f b) e y ≡ true
-          → laterThan (timeOf (holdingOf (entryIn e y))) (timeOf h) ≡ false)
-          → (t : Side) (e : BlockFields) (y : Area) → readingIn (copyOn t f b) .verdict ≡ Verdict.Accepted e → whole (copyOn t f b) e y ≡ true
-          → laterThan (timeOf (holdingOf (entryIn e y))) (timeOf h) ≡ false
-      go Front g a l n Front e y p w = inside f g e y a l p w
-      go Front g a l n Back e y p w = n e y p w
-      go Back g a l n Front e y p w = n e y p w
-      go Back g a l n Back e y p w = inside b g e y a l p w
-
-  refused-accepted : (c : List ℕ) (n : ℕ) (e : BlockFields) → readingIn c .verdict ≡ Verdict.Refused n → readingIn c .verdict ≡ Verdict.Accepted e → ⊥
-  refused-accepted c n e p q =
-      let v : Verdict.Refused n ≡ Verdict.Accepted e = sym p ∙ q in
-      let z : _≡_ {A = ℕ} 0 1 = cc in
-      omega arith
-
-  accepted-same : (c : List ℕ) (g e : BlockFields) → readingIn c .verdict ≡ Verdict.Accepted g → readingIn c .verdict ≡ Verdict.Accepted e → g ≡ e
-  accepted-same c g e p q = let v : Verdict.Accepted g ≡ Verdict.Accepted e = sym p ∙ q in cc
+          → NoneLater (copyOn (otherSide s) f b) h → (t : Side) → NoneLater (copyOn t f b) h
+      go Front g a l n Front = carried f g x h h a l (never-later (timeOf h))
+      go Front g a l n Back = n
+      go Back g a l n Front = n
+      go Back g a l n Back = carried b g x h h a l (never-later (timeOf h))
 
   -- one copy alone
   alone-found : (s : Side) (g : BlockFields) (n m : ℕ) → readingIn (copyOn s f b) .verdict ≡ Verdict.Accepted g
@@ -185,20 +179,6 @@ module _ (f b : List ℕ) (r : Record) (o : Other) where
       (found-same r o (recordAt s x h) (One m) e)
 
   module _ (x y : BlockFields) (ax : readingIn f .verdict ≡ Verdict.Accepted x) (ay : readingIn b .verdict ≡ Verdict.Accepted y) where
-    -- no whole area of the other copy is later than h, where its present record is not
-    none-there : (c : List ℕ) (g : BlockFields) (h : Holding) → readingIn c .verdict ≡ Verdict.Accepted g → present c g ≡ Nothing
-        → (e : BlockFields) (z : Area) → readingIn c .verdict ≡ Verdict.Accepted e → whole c e z ≡ true
-        → laterThan (timeOf (holdingOf (entryIn e z))) (timeOf h) ≡ false
-    none-there c g h a p e z q w = absurd (present-nothing c g p z (ap (λ (i : BlockFields). whole c i z) (accepted-same c g e a q) ∙ w))
-
-    carried : (c : List ℕ) (g : BlockFields) (u : Area) (k h : Holding) → readingIn c .verdict ≡ Verdict.Accepted g → Latest c g u k
-        → laterThan (timeOf k) (timeOf h) ≡ false → (e : BlockFields) (z : Area) → readingIn c .verdict ≡ Verdict.Accepted e → whole c e z ≡ true
-        → laterThan (timeOf (holdingOf (entryIn e z))) (timeOf h) ≡ false
-    carried c g u k h a l n e z q w =
-        let i : g ≡ e = accepted-same c g e a q in
-        not-later-trans (timeOf (holdingOf (entryIn e z))) (timeOf k) (timeOf h)
-        (ap (λ (j : BlockFields). laterThan (timeOf (holdingOf (entryIn j z))) (timeOf k)) (sym i) ∙ l .latest z (ap (λ (j : BlockFields). whole c j z) i ∙ w)) n
-
     both-found : (u : Area) (h : Holding) (v : Area) (k : Holding) → present f x ≡ At u h → present b y ≡ At v k → newestOf f b u h v k ≡ Found r o → Newest f b r
     both-found u h v k p q e =
         go (sameTime (timeOf h) (timeOf k)) refl (same (areaBytes f u (h .bytes)) (areaBytes b v (k .bytes))) refl (laterThan (timeOf k) (timeOf h)) refl

@@ -1,7 +1,7 @@
 -- Decimal digits mean their number, have no leading zero, and are written from the last to the first. Assumes nothing.
 use Prim.Native.Nat.{ℕ, zero, suc, _+_, _-_, _*_, _/_, _%_, _^_, _≤_, _<_}
 use mathlib.Core.Path.{_≡_, refl, sym, ap, _∙_}
-use mathlib.Core.Bool.{Bool, true, false, _&&_}
+use mathlib.Core.Bool.{true}
 use mathlib.Core.List.{List, [], _∷_, _++_, append-assoc}
 use native.Mathlib.Decide.{decLe}
 use native.Mathlib.Nat.{pow-suc, div-lt-iff-lt-mul, div-add-mod'}
@@ -12,6 +12,7 @@ use lib.Dec.{lit<}
 use lib.ListN.{length, getD, drop, set, length-append, length-set, List·getD-append}
 use lib.Seq.{drop-cons, getD-set-same, drop-set-lt}
 use Rattle.endian.specs.Bytes.{all}
+use Rattle.endian.proofs.Tests.{and-left, and-right, and-both}
 use Rattle.dump_line.specs.Decimal.{digits, decimal, valueAfter, value, isDigit}
 
 pub digits-one : (k n : ℕ) → n < 10 → digits (suc k) n ≡ (48 + n) ∷ []
@@ -75,23 +76,12 @@ leading-digit (suc k) n h e =
       | no l ↦ let d : 48 + n ≡ 48 = (rw (digits-one k n (let m : n < 10 = omega arith in m)) at e) in omega arith
     ]
 
-both-first : (x y : Bool) → x && y ≡ true → x ≡ true
-both-first true y h = refl
-both-first false y h = h
-
-both-second : (x y : Bool) → x && y ≡ true → y ≡ true
-both-second true y h = h
-both-second false y h = absurd (let z : _≡_ {A = ℕ} 0 1 = cc in omega arith)
-
-both-true : (x y : Bool) → x ≡ true → y ≡ true → x && y ≡ true
-both-true x y h e = rw (h, e)
-
 all-last : (xs : List ℕ) (d : ℕ) → all isDigit xs ≡ true → isDigit d ≡ true → all isDigit (xs ++ (d ∷ [])) ≡ true
 unfolding all
 all-last [] d h e = rw e
 all-last (x ∷ xs) d h e =
-    both-true (isDigit x) (all isDigit (xs ++ (d ∷ []))) (both-first (isDigit x) (all isDigit xs) h)
-    (all-last xs d (both-second (isDigit x) (all isDigit xs) h) e)
+    and-both (isDigit x) (all isDigit (xs ++ (d ∷ []))) (and-left (isDigit x) (all isDigit xs) h)
+    (all-last xs d (and-right (isDigit x) (all isDigit xs) h) e)
 
 is-digit : (n : ℕ) → n < 10 → isDigit (48 + n) ≡ true
 is-digit n h = rw (le-leb 48 (48 + n) (let l : 48 ≤ 48 + n = omega arith in l), le-leb (48 + n) 57 (let l : 48 + n ≤ 57 = omega arith in l))

@@ -33,13 +33,11 @@ use Rattle.discovery.specs.declared.Other.the-variants.{Both}
 use Rattle.discovery.specs.declared.Answer.the-variants.{Found}
 use Rattle.discovery.specs.Copy.{blockIn, newest}
 use Rattle.discovery.specs.Discovery.{recordAt, sized, sameDevice, discovery}
-use Rattle.device.specs.Device.{areaSectors}
-use Rattle.device.proofs.Copies.{limit-sectors}
 use Rattle.update.specs.Update.{deviceIn, sectorsOf, holdingFor}
 use Rattle.update.specs.Plan.{layTests, laid}
 use Rattle.update.proofs.Holding.{Holds}
 use Rattle.update.proofs.InStep.{verdict-facts, same-device-test}
-use Rattle.update.proofs.Padding.{sectors-most, sectors-enough}
+use Rattle.update.proofs.Padding.{sectors-enough, padded-within}
 use Rattle.update.proofs.OneCopy.{area-fits}
 use Rattle.update.specs.Demand.{Gives, InStepOn}
 use Rattle.update.proofs.Agreeing.{found-front, agree-gives, agree-in-step}
@@ -86,9 +84,7 @@ module _ {f b : List ℕ} {v : Device} {p u : List ℕ} {t : Time} {r : List ℕ
   -- the record's sectors lie within area a
   record-fits : areaOffset A + length (r ++ padding r) ≤ length (blank v p u t r)
   record-fits =
-      let l : length r ≤ recordLimit = length-facts (length r) (k .content .0) .1 in
-      let m : areaSectors * 512 ≡ recordLimit = limit-sectors in
-      let s : sectorsOf (length r) ≤ areaSectors = sectors-most (length r) areaSectors (omega arith) in
+      let s : sectorsOf (length r) * 512 ≤ recordLimit = padded-within (length r) (length-facts (length r) (k .content .0) .1) in
       let a : areaOffset A + recordLimit ≤ copyBytes = area-fits A in
       let q : length (r ++ padding r) ≡ sectorsOf (length r) * 512 = length-padded r in
       let n : length (blank v p u t r) ≡ copyBytes = length-blank v p u t r in

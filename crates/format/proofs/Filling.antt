@@ -16,9 +16,8 @@ use Rattle.refusal.specs.Tests.{first, AllHold}
 use Rattle.refusal.proofs.Order.{first-all, answer-no, answer-yes}
 use Rattle.layout.specs.declared.Device.{Device}
 use Rattle.layout.specs.declared.Area.the-variants.{A}
-use Rattle.layout.specs.Limits.{recordLimit, lengthAllowed}
+use Rattle.layout.specs.Limits.{lengthAllowed}
 use Rattle.layout.specs.Places.{copyBytes}
-use Rattle.layout.proofs.Laws.{length-facts, limit-fits}
 use Rattle.block.specs.declared.Time.{Time}
 use Rattle.block.specs.declared.Entry.the-variants.{Unused, Used}
 use Rattle.block.specs.declared.BlockFields.{BlockFields}
@@ -79,12 +78,6 @@ pub fields-made : (v : Device) (t : Time) (r : List ℕ) (k : ℕ) → k ≡ Crc
     (firstFields v t r)
 fields-made v t r k e =
     λ i. record { device = v; a = Used (record { seconds = t .seconds; nanoseconds = t .nanoseconds; bytes = length r; checksum = e i }); b = Unused }
-
-pub record-small : (r : List ℕ) → lengthAllowed (length r) ≡ true → length r < 4294967296
-record-small r h =
-    let l : length r ≤ recordLimit = length-facts (length r) h .1 in
-    let m : recordLimit < 4294967296 = limit-fits in
-    omega arith
 
 module _ {f b : List ℕ} {v : Device} {p u : List ℕ} {t : Time} {r : List ℕ} (k : Taken f b v p u t r) where
   -- the first entry is within its limits, and so is the block

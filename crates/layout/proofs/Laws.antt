@@ -2,6 +2,7 @@
 use Prim.Native.Nat.{ℕ, _%_, _^_, _≤_, _<_}
 use mathlib.Core.Path.{_≡_}
 use mathlib.Core.Bool.{true, _&&_}
+use native.Mathlib.Omega.{arith}
 use borrow.Author.Tests.{leb-true, le-leb, eqb-true, eq-eqb}
 use lib.Dec.{leb, eqb, lit<}
 use Rattle.endian.proofs.Tests.{and-left, and-right, and-both}
@@ -33,3 +34,9 @@ length-test n p q = and-both (leb 1 n) (leb n recordLimit) (le-leb 1 n p) (le-le
 pub limit-fits : recordLimit < 2 ^ 32
 unfolding recordLimit
 limit-fits = lit< tt
+
+pub length-fits : (n : ℕ) → lengthAllowed n ≡ true → n < 2 ^ 32
+length-fits n h =
+    let l : n ≤ recordLimit = length-facts n h .1 in
+    let m : recordLimit < 2 ^ 32 = limit-fits in
+    omega arith

@@ -1,5 +1,5 @@
 -- What mending promises of the device, proved. Assumes nothing.
-use Prim.Native.Nat.{ℕ, suc, _+_, _≤_, _<_}
+use Prim.Native.Nat.{ℕ, _+_, _<_}
 use mathlib.Core.Path.{_≡_, refl, sym, ap, subst, _∙_}
 use mathlib.Core.Bool.{Bool, true, false, cond}
 use mathlib.Core.Logic.{_⊎_, inl, inr}
@@ -32,14 +32,14 @@ use Rattle.update.specs.Demand.{Gives, InStepOn, heldIn, recordIn}
 use Rattle.update.proofs.Holding.{Holds}
 use Rattle.update.proofs.NewBlock.{device-kept}
 use Rattle.update.proofs.InStep.{Stepped, in-step-facts, same-device-test}
-use Rattle.update.proofs.OneCopy.{old-held}
+use Rattle.update.proofs.OneCopy.{stepped-held}
 use Rattle.update.proofs.Places.{Sizes, sizes-accepted}
-use Rattle.update.proofs.Facts.{renamed, same-time-is, sized-copies}
+use Rattle.update.proofs.Facts.{sized-copies}
 use Rattle.update.proofs.Agreeing.{found-front, agree-gives, agree-in-step}
 use Rattle.mend.specs.Mend.{laterWhole, rewriting, groupsAfter, mendGroups}
 use Rattle.mend.specs.Demand.{State, after, foundIn, Landing, Touching}
 use Rattle.mend.proofs.Kept.{Kept, held, kept, found-time, found-long}
-use Rattle.mend.proofs.Stores.{which}
+use Rattle.mend.proofs.Stores.{by-store}
 use Rattle.mend.proofs.Landing.{first-at, sector-at, second-at, last-at, end-sound, other-holds, kept-whole, kept-blank}
 
 -- the copy of a side
@@ -82,11 +82,8 @@ module _ (v : Device) (d : Sectors) (q : Record) (s : State v d q) where
   itself : Kept c (q .area) h r
   itself = subst (λ (z : List ℕ). Kept z (q .area) h r) (side-copy v d (q .side)) (kept f b q (s .other) (s .answers))
 
-  big : 8 ≤ v .sectors
-  big =
-      let z : Sizes v = subst Sizes (s .placed) (sizes-accepted (blockIn c) (itself .accepted)) in
-      let a : 2097152 ≤ v .sectors = z .sectors in
-      omega arith
+  sizes : Sizes v
+  sizes = subst Sizes (s .placed) (sizes-accepted (blockIn c) (itself .accepted))
 
   -- its groups
   groups : mendGroups f b ≡ cond (inStep f b) [] (rewriting (q .side) c (q .area) r)
@@ -112,36 +109,27 @@ module _ (v : Device) (d : Sectors) (q : Record) (s : State v d q) where
 
   -- in step: nothing is stored
   module _ (i : inStep f b ≡ true) where
-    stepped : Stepped f b
-    stepped = in-step-facts f b i
+    stepped : Stepped (λ (w : Side). copyFrom w v d)
+    stepped = in-step-facts (λ (w : Side). copyFrom w v d) i
 
-    front : Holds f (fieldsOf (blockIn f)) (poolOf (blockIn f)) (uuidOf (blockIn f)) (newest (fieldsOf (blockIn f))) (heldIn f) (recordIn f)
-    front = old-held Front v d (s .sound) big (stepped .front) (stepped .front-whole) d (s .sound) refl (λ n l. refl)
+    holds : (w : Side) → Holds (copyFrom w v d) (fieldsOf (blockIn (copyFrom w v d))) (poolOf (blockIn f)) (uuidOf (blockIn f))
+        (newest (fieldsOf (blockIn (copyFrom w v d)))) (heldIn (copyFrom w v d)) (recordIn f)
+    holds w = stepped-held v d (s .sound) sizes stepped w d (s .sound) refl (λ n l. refl)
 
-    back : Holds b (fieldsOf (blockIn b)) (poolOf (blockIn f)) (uuidOf (blockIn f)) (newest (fieldsOf (blockIn b))) (heldIn b) (recordIn f)
-    back =
-        subst (λ (z : List ℕ). Holds b (fieldsOf (blockIn b)) (poolOf (blockIn f)) (uuidOf (blockIn f)) (newest (fieldsOf (blockIn b))) (heldIn b) z)
-        (sym (stepped .records))
-        (renamed (sym (stepped .pool)) (sym (stepped .uuid))
-        (old-held Back v d (s .sound) big (stepped .back) (stepped .back-whole) d (s .sound) refl (λ n l. refl)))
-
-    one-time : timeOf (heldIn b) ≡ timeOf (heldIn f)
-    one-time = sym (same-time-is (timeOf (heldIn f)) (timeOf (heldIn b)) (stepped .times))
+    one-device : sameDevice (fieldsOf (blockIn f)) (fieldsOf (blockIn b)) ≡ true
+    one-device = same-device-test (fieldsOf (blockIn f)) (fieldsOf (blockIn b)) (stepped .device)
 
     -- what discovery found is the front's
     is-front : q ≡ recordAt Front (newest (fieldsOf (blockIn f))) (heldIn f)
     is-front =
         found-same (recordAt Front (newest (fieldsOf (blockIn f))) (heldIn f)) Both q (s .other)
-        (sym (s .answers)
-        ∙ found-front front back (stepped .sizes) (same-device-test (fieldsOf (blockIn f)) (fieldsOf (blockIn b)) (stepped .device)) (timeOf (heldIn f)) refl one-time)
+        (sym (s .answers) ∙ found-front (holds Front) (holds Back) (stepped .sizes) one-device (timeOf (heldIn f)) refl (stepped .times Back))
 
     untouched : Done v d (timeAt q) r
     untouched =
-        let one : sameDevice (fieldsOf (blockIn f)) (fieldsOf (blockIn b)) ≡ true =
-        same-device-test (fieldsOf (blockIn f)) (fieldsOf (blockIn b)) (stepped .device) in
         subst (λ (z : Record). Done v d (timeAt z) (recordBytes z f b)) (sym is-front) (
-          agree-gives front back (stepped .sizes) one (timeOf (heldIn f)) refl one-time,
-          agree-in-step front back (stepped .sizes) one (timeOf (heldIn f)) refl one-time,
+          agree-gives (holds Front) (holds Back) (stepped .sizes) one-device (timeOf (heldIn f)) refl (stepped .times Back),
+          agree-in-step (holds Front) (holds Back) (stepped .sizes) one-device (timeOf (heldIn f)) refl (stepped .times Back),
         )
 
   done : (t : Bool) → inStep f b ≡ t → Done v (allLanded (cond t [] (rewriting (q .side) c (q .area) r)) d) (timeAt q) r
@@ -164,31 +152,13 @@ module _ (v : Device) (d : Sectors) (q : Record) (s : State v d q) where
   sectors = ap sectorsOf (found-long f b q (s .other) (s .answers))
 
   goes : (i : ℕ) → i < length (stores (rewriting (q .side) c (q .area) r)) → Goes (rewriting (q .side) c (q .area) r) i
-  goes i l = go (which (q .side) c (q .area) r i l)
-    where
-      go : (i ≡ 0) ⊎ (((j : ℕ) × (j < sectorsOf (length r)) × (i ≡ suc j)) ⊎ ((i ≡ suc (sectorsOf (length r))) ⊎ ((i ≡ suc (suc (sectorsOf (length r)))) × (laterWhole c ≡ false))))
-          → Goes (rewriting (q .side) c (q .area) r) i
-      go (inl e) =
-          inl (ap (λ (n : ℕ). storeIn (rewriting (q .side) c (q .area) r) n .sector) e
-          ∙ ap (λ (z : Store). z .sector) (first-at (q .side) v d (s .sound) (s .placed) (q .area) h r itself))
-      go (inr (inl (j, m, e))) =
-          let k : sectorsOf (q .bytes) ≡ sectorsOf (length r) = sectors in
-          inr (inl (
-            j,
-            omega arith,
-            ap (λ (n : ℕ). storeIn (rewriting (q .side) c (q .area) r) n .sector) e
-                ∙ ap (λ (z : Store). z .sector) (sector-at (q .side) v d (s .sound) (s .placed) (q .area) h r itself j m),
-          ))
-      go (inr (inr (inl e))) =
-          inl (ap (λ (n : ℕ). storeIn (rewriting (q .side) c (q .area) r) n .sector) e
-          ∙ ap (λ (z : Store). z .sector) (second-at (q .side) v d (s .sound) (s .placed) (q .area) h r itself))
-      go (inr (inr (inr (e, n)))) =
-          let k : sectorsOf (q .bytes) ≡ sectorsOf (length r) = sectors in
-          inr (inr (
-            omega arith,
-            ap (λ (n : ℕ). storeIn (rewriting (q .side) c (q .area) r) n .sector) e
-                ∙ ap (λ (z : Store). z .sector) (last-at (q .side) v d (s .sound) (s .placed) (q .area) h r itself n),
-          ))
+  goes =
+      let k : sectorsOf (q .bytes) ≡ sectorsOf (length r) = sectors in
+      by-store (q .side) c (q .area) r (Goes (rewriting (q .side) c (q .area) r))
+      (inl (ap (λ (z : Store). z .sector) (first-at (q .side) v d (s .sound) (s .placed) (q .area) h r itself)))
+      (λ j m. inr (inl (j, omega arith, ap (λ (z : Store). z .sector) (sector-at (q .side) v d (s .sound) (s .placed) (q .area) h r itself j m))))
+      (inl (ap (λ (z : Store). z .sector) (second-at (q .side) v d (s .sound) (s .placed) (q .area) h r itself)))
+      (λ n. inr (inr (omega arith, ap (λ (z : Store). z .sector) (last-at (q .side) v d (s .sound) (s .placed) (q .area) h r itself n))))
 
   by-step : (t : Bool) (i : ℕ) → i < length (stores (cond t [] (rewriting (q .side) c (q .area) r))) → Goes (cond t [] (rewriting (q .side) c (q .area) r)) i
   unfolding stores

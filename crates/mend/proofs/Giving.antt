@@ -2,18 +2,13 @@
 use Prim.Native.Nat.{ℕ, zero, suc, _+_, _-_, _*_, _^_, _≤_, _<_}
 use mathlib.Core.Path.{_≡_, refl, sym, ap, ap₂, subst, _∙_}
 use mathlib.Core.Bool.{Bool, true, false, cond}
-use mathlib.Core.Logic.{_⊎_, inl, inr}
 use mathlib.Core.List.{List, [], _∷_, map}
 use native.Mathlib.Nat.{not-suc-le-zero, add-zero}
 use native.Mathlib.Decide.{decLe}
 use native.Mathlib.Omega.{arith}
-use borrow.Author.Tests.{eq-eqb}
-use lib.Dec.{eqb}
 use lib.ListN.{length, take}
-use Rattle.endian.proofs.Tests.{and-both}
 use Rattle.refusal.specs.Numbers.{noStore}
 use Rattle.layout.specs.declared.Area.the-variants.{A}
-use Rattle.layout.specs.Limits.{recordLimit}
 use Rattle.layout.specs.Places.{blockSector, areaSector}
 use Rattle.block.specs.declared.BlockFields.{BlockFields}
 use Rattle.block.specs.Block.{fieldsOf}
@@ -23,17 +18,16 @@ use Rattle.discovery.specs.declared.Answer.{Answer}
 use Rattle.discovery.specs.declared.Answer.the-variants as Answer
 use Rattle.discovery.specs.Copy.{blockIn, otherSide}
 use Rattle.discovery.specs.Discovery.{sized, discovery, inStep, copyOn, recordBytes}
-use Rattle.device.specs.Device.{Store, Groups, stores, storeIn, groupStart, areaSectors}
-use Rattle.device.proofs.Copies.{limit-sectors, limit-small}
+use Rattle.device.specs.Device.{Store, Groups, stores, storeIn, groupStart}
 use Rattle.device.proofs.Groups.{total}
 use Rattle.update.specs.declared.Given.{Given}
 use Rattle.update.specs.declared.Given.the-variants as Given
 use Rattle.update.specs.Update.{deviceIn, sectorsOf}
-use Rattle.update.specs.Plan.{lentRight, blockAnswer, blockBytes, partAnswer, partBytes}
+use Rattle.update.specs.Plan.{blockAnswer, blockBytes, partAnswer, partBytes}
 use Rattle.update.proofs.NewBlock.{number-fits}
-use Rattle.update.proofs.Padding.{sectors-most}
+use Rattle.update.proofs.Padding.{sectors-few}
 use Rattle.update.proofs.Places.{Sizes, sizes-accepted, area-below}
-use Rattle.update.proofs.Choosing.{block-given, area-given, part-given}
+use Rattle.update.proofs.Choosing.{lent-right, block-given, area-given, part-given}
 use Rattle.mend.specs.declared.Last.{Last}
 use Rattle.mend.specs.declared.Last.the-variants as Last
 use Rattle.mend.specs.declared.Rewrite.{Rewrite}
@@ -43,8 +37,8 @@ use Rattle.mend.specs.Mend.{blockLike, blanked, laterWhole, rewriting, g
 use Rattle.mend.specs.Plan.{rewriteOf, mendingAfter, mending, lastCount, storesIn, groupIn, groupOf, lastAnswer, lastBytes, rewriteAnswer, rewriteBytes, mendAnswer, mendBytes, storeAnswer, storeBytes}
 use Rattle.mend.specs.Demand.{Giving}
 use Rattle.mend.proofs.Choosing.{right-size, first-store, part-store, last-stored, no-such, in-first, in-record, in-second, in-last}
-use Rattle.mend.proofs.Kept.{Kept, found-sized, held, kept, found-long}
-use Rattle.mend.proofs.Stores.{filledBlock, at-first, at-sector, at-second, at-last, last-none, last-one, count-whole, count-blank, group-starts, which}
+use Rattle.mend.proofs.Kept.{Kept, kept-small, found-sized, held, kept, found-long}
+use Rattle.mend.proofs.Stores.{filledBlock, at-first, at-sector, at-second, at-last, last-none, last-one, count-whole, count-blank, group-starts, by-store}
 use Rattle.mend.proofs.Blocks.{Right, right-empty, right-filled, right-blank, like-writes, like-written}
 
 -- what is given of a mend m is what the groups gs have
@@ -56,9 +50,6 @@ Agrees f b m gs =
     → (storeAnswer m f b i out ≡ Given.At (storeIn gs i .sector)) × (storeBytes m f b i out ≡ storeIn gs i .content))
     × ((i : ℕ) (out : List ℕ) → length (stores gs) ≤ i → sized f b ≡ true → length out ≡ 512
     → (storeAnswer m f b i out ≡ Given.Refused noStore) × (storeBytes m f b i out ≡ out))))
-
-lent : (f b out : List ℕ) → sized f b ≡ true → length out ≡ 512 → lentRight f b out ≡ true
-lent f b out z room = and-both (sized f b) (eqb (length out) 512) z (eq-eqb (length out) 512 room)
 
 -- nothing to store
 starts-none : (g : ℕ) → groupStart [] g ≡ 0
@@ -77,7 +68,7 @@ nothing f b m e h = (
       λ i out l room. absurd (not-suc-le-zero l),
       λ i out l z room.
           let a : (mendAnswer m f b i out ≡ storeAnswer m f b i out) × (mendBytes m f b i out ≡ storeBytes m f b i out) =
-          right-size m f b i out (lent f b out z room) _ _ m refl refl refl in
+          right-size m f b i out (lent-right f b out z room) _ _ m refl refl refl in
           (sym (a .0) ∙ h i out .0, sym (a .1) ∙ h i out .1),
     ),
   ),
@@ -114,13 +105,7 @@ module _ (f b : List ℕ) (q : Record) (o : Other) (e : discovery f b ≡ Answer
   sizes = sizes-accepted (blockIn c) (itself .accepted)
 
   tiny : k ≤ 1020
-  tiny =
-      let l : held f b q o e .bytes ≤ recordLimit = itself .small in
-      let n : held f b q o e .bytes ≡ length r = itself .long in
-      let m : areaSectors * 512 ≡ recordLimit = limit-sectors in
-      let a : areaSectors ≤ 1020 = limit-small in
-      let s : k ≤ areaSectors = sectors-most (length r) areaSectors (omega arith) in
-      omega arith
+  tiny = sectors-few (length r) (kept-small itself)
 
   last-absent : laterWhole c ≡ true → p .last ≡ Last.Absent
   last-absent h = ap (λ (t : Bool). cond t Last.Absent (Last.Blank (blockSector (q .side) (deviceIn c)) (blanked fields))) h
@@ -181,7 +166,7 @@ module _ (f b : List ℕ) (q : Record) (o : Other) (e : discovery f b ≡ Answer
     -- what the plan's answers are at a number
     answers : (i : ℕ) (g : Given) (w : List ℕ) → (g ≡ rewriteAnswer p c i out) × (w ≡ rewriteBytes p c i out)
         → (g ≡ storeAnswer (Mending.Needed p) f b i out) × (w ≡ storeBytes (Mending.Needed p) f b i out)
-    answers i g w h = right-size (Mending.Needed p) f b i out (lent f b out (found-sized f b q o e) room) g w (Mending.Needed p) refl (h .0) (h .1)
+    answers i g w h = right-size (Mending.Needed p) f b i out (lent-right f b out (found-sized f b q o e) room) g w (Mending.Needed p) refl (h .0) (h .1)
 
     joined : (i : ℕ) (g : Given) (w : List ℕ) (s : Store) → (g ≡ rewriteAnswer p c i out) × (w ≡ rewriteBytes p c i out) → (g ≡ Given.At (s .sector)) × (w ≡ s .content)
         → storeIn gs i ≡ s
@@ -193,40 +178,44 @@ module _ (f b : List ℕ) (q : Record) (o : Other) (e : discovery f b ≡ Answer
     sectors-fit : deviceIn c .sectors < 256 ^ 8
     sectors-fit = number-fits (blockIn c) 20 8
 
-    given : (i : ℕ) → i < length (stores gs)
-        → GivenAt i
-    given i l = go (which (q .side) c (q .area) r i l)
+    given : (i : ℕ) → i < length (stores gs) → GivenAt i
+    given = by-store (q .side) c (q .area) r GivenAt first sector second last
       where
-        go : (i ≡ 0) ⊎ (((j : ℕ) × (j < k) × (i ≡ suc j)) ⊎ ((i ≡ suc k) ⊎ ((i ≡ suc (suc k)) × (laterWhole c ≡ false))))
-            → GivenAt i
-        go (inl z) =
-            joined i _ _ _ (first-store p c i out _ _ z refl refl) (block-of (p .part .block) (p .empty) (right-empty c (itself .accepted)))
-            (ap (storeIn gs) z ∙ at-first (q .side) c (q .area) r)
-        go (inr (inl (j, h, z))) =
+        first : GivenAt 0
+        first =
+            joined 0 _ _ _ (first-store p c 0 out _ _ refl refl refl) (block-of (p .part .block) (p .empty) (right-empty c (itself .accepted)))
+            (at-first (q .side) c (q .area) r)
+
+        sector : (j : ℕ) → j < k → GivenAt (suc j)
+        sector j h =
             let n : p .sectors ≡ k = filled in
-            let m : i - 1 ≡ j = omega arith in
+            let m : suc j - 1 ≡ j = omega arith in
             let s : k ≤ 1020 = tiny in
             let a : areaSector (otherSide (q .side)) A (deviceIn c) + j < deviceIn c .sectors = area-below (deviceIn c) sizes (otherSide (q .side)) A j (omega arith) in
             let y : deviceIn c .sectors < 256 ^ 8 = sectors-fit in
             let t : areaSector (otherSide (q .side)) A (deviceIn c) ≤ 18446744073709551615 - j = omega arith in
-            joined i _ _ _ (part-store p c i out _ _ (λ u. omega arith) (omega arith) _ _ refl refl refl refl) (
+            joined (suc j) _ _ _ (part-store p c (suc j) out _ _ (λ u. omega arith) (omega arith) _ _ refl refl refl refl) (
               ap (λ (u : ℕ). partAnswer (p .part) (p .sectors) c u out) m ∙ area-given (p .part) (p .sectors) c r j out (omega arith) t room .0,
               ap (λ (u : ℕ). partBytes (p .part) (p .sectors) c r u out) m ∙ area-given (p .part) (p .sectors) c r j out (omega arith) t room .1,
             )
-            (ap (storeIn gs) z ∙ at-sector (q .side) c (q .area) r j h)
-        go (inr (inr (inl z))) =
+            (at-sector (q .side) c (q .area) r j h)
+
+        second : GivenAt (suc k)
+        second =
             let n : p .sectors ≡ k = filled in
-            joined i _ _ _ (part-store p c i out _ _ (λ u. omega arith) (omega arith) _ _ refl refl refl refl)
-            (part-given (p .part) (p .sectors) c r (i - 1) out (omega arith) (p .part .block) (filledBlock (q .side) c (q .area) r)
+            joined (suc k) _ _ _ (part-store p c (suc k) out _ _ (λ u. omega arith) (omega arith) _ _ refl refl refl refl)
+            (part-given (p .part) (p .sectors) c r (suc k - 1) out (omega arith) (p .part .block) (filledBlock (q .side) c (q .area) r)
             (block-of (p .part .block) (p .part .fields) (right-filled c (itself .accepted) (q .area))))
-            (ap (storeIn gs) z ∙ at-second (q .side) c (q .area) r)
-        go (inr (inr (inr (z, h)))) =
+            (at-second (q .side) c (q .area) r)
+
+        last : laterWhole c ≡ false → GivenAt (suc (suc k))
+        last h =
             let n : p .sectors ≡ k = filled in
-            joined i _ _ _ (last-stored p c i out _ _ (λ u. omega arith) (omega arith) (omega arith) refl refl) (
+            joined (suc (suc k)) _ _ _ (last-stored p c (suc (suc k)) out _ _ (λ u. omega arith) (omega arith) (omega arith) refl refl) (
               ap (λ (u : Last). lastAnswer u c out) (last-there h) ∙ block-of (blockSector (q .side) (deviceIn c)) (blanked fields) (right-blank c (itself .accepted)) .0,
               ap (λ (u : Last). lastBytes u c out) (last-there h) ∙ block-of (blockSector (q .side) (deviceIn c)) (blanked fields) (right-blank c (itself .accepted)) .1,
             )
-            (ap (storeIn gs) z ∙ at-last (q .side) c (q .area) r h)
+            (at-last (q .side) c (q .area) r h)
 
     -- past the last
     past : (i : ℕ) → length (stores gs) ≤ i → (storeAnswer (Mending.Needed p) f b i out ≡ Given.Refused noStore) × (storeBytes (Mending.Needed p) f b i out ≡ out)

@@ -1,6 +1,6 @@
 -- What discovery's answer says of the copy that mending keeps. Assumes nothing.
 use Prim.Native.Nat.{ℕ, _+_, _≤_}
-use mathlib.Core.Path.{_≡_, refl, sym, ap, _∙_}
+use mathlib.Core.Path.{_≡_, refl, sym, ap, subst, _∙_}
 use mathlib.Core.Bool.{Bool, true, false}
 use mathlib.Core.List.{List}
 use native.Mathlib.Omega.{arith}
@@ -50,6 +50,9 @@ pub record Kept (c : List ℕ) (x : Area) (h : Holding) (r : List ℕ) : Type 0 
   -- it is in the newest area, or that one is not whole
   pub in-newest : laterWhole c ≡ true → newest (fieldsOf (blockIn c)) ≡ x
   pub in-other : laterWhole c ≡ false → otherArea (newest (fieldsOf (blockIn c))) ≡ x
+
+pub kept-small : {c : List ℕ} {x : Area} {h : Holding} {r : List ℕ} → Kept c x h r → length r ≤ recordLimit
+kept-small k = subst (λ (n : ℕ). n ≤ recordLimit) (k .long) (k .small)
 
 module _ (f b : List ℕ) (q : Record) (o : Other) (e : discovery f b ≡ Found q o) where
   pub found-sized : sized f b ≡ true

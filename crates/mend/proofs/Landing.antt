@@ -4,7 +4,6 @@ use mathlib.Core.Path.{_≡_, refl, sym, ap, subst, _∙_}
 use mathlib.Core.Bool.{Bool, true, false, true≢false}
 use mathlib.Core.Logic.{_⊎_, inl, inr}
 use mathlib.Core.List.{List}
-use native.Mathlib.Decide.{decLe}
 use native.Mathlib.Nat.{zero-add}
 use native.Mathlib.Omega.{arith}
 use lib.ListN.{length, take}
@@ -12,7 +11,6 @@ use Rattle.layout.specs.declared.Device.{Device}
 use Rattle.layout.specs.declared.Side.{Side}
 use Rattle.layout.specs.declared.Area.{Area}
 use Rattle.layout.specs.declared.Area.the-variants.{A}
-use Rattle.layout.specs.Limits.{recordLimit}
 use Rattle.layout.specs.Places.{blockSector, areaSector}
 use Rattle.block.specs.declared.Holding.{Holding}
 use Rattle.block.specs.declared.Entry.{Entry}
@@ -25,16 +23,16 @@ use Rattle.block.proofs.Readings.{accepted-reading}
 use Rattle.discovery.specs.Copy.{blockIn, entryIn, otherArea, otherSide, newest}
 use Rattle.device.specs.Device.{Sectors, Sound, Store, Groups, stores, storeIn, put, landed, allLanded, gather, areaSectors, copyFrom}
 use Rattle.device.proofs.Landing.{landed-old, landed-last, landed-size, landed-first}
-use Rattle.device.proofs.Copies.{limit-sectors, limit-small, copy-block, copy-area, gather-same}
+use Rattle.device.proofs.Copies.{limit-small, copy-block, copy-area, gather-same}
 use Rattle.update.specs.Update.{deviceIn, sectorsOf, sectorOf}
-use Rattle.update.proofs.Padding.{gather-record, sectors-most, length-sector}
+use Rattle.update.proofs.Padding.{gather-record, sectors-within, sectors-few, length-sector}
 use Rattle.update.proofs.Places.{Sizes, sizes-accepted, near, area-near, block-near, block-apart, other-side}
 use Rattle.update.proofs.OneSide as OneSide
 use Rattle.update.proofs.Holding.{Holds}
 use Rattle.update.proofs.OneCopy.{block-place, holds-at}
 use Rattle.mend.specs.Mend.{emptied, refilled, blanked, laterWhole, rewriting}
-use Rattle.mend.proofs.Kept.{Kept}
-use Rattle.mend.proofs.Stores.{emptyBlock, filledBlock, blankBlock, at-first, at-sector, at-second, at-last, count-whole, count-blank, which}
+use Rattle.mend.proofs.Kept.{Kept, kept-small}
+use Rattle.mend.proofs.Stores.{emptyBlock, filledBlock, blankBlock, at-first, at-sector, at-second, at-last, count-whole, count-blank, by-store}
 use Rattle.mend.proofs.Blocks.{right-empty, right-filled, right-blank, like-reads, like-size, newest-filled, newest-blanked, entry-blanked}
 
 -- the copy of side w on a device, with a record that its block names, is kept
@@ -64,18 +62,8 @@ module _ (w : Side) (v : Device) (d : Sectors) (sd : Sound d) (placed : deviceIn
   sizes : Sizes v
   sizes = subst Sizes placed (sizes-accepted (blockIn c) (kept .accepted))
 
-  big : 8 ≤ v .sectors
-  big = let a : 2097152 ≤ v .sectors = sizes .sectors in omega arith
-
-  small : k ≤ areaSectors
-  small =
-      let l : h .bytes ≤ recordLimit = kept .small in
-      let n : h .bytes ≡ length r = kept .long in
-      let m : areaSectors * 512 ≡ recordLimit = limit-sectors in
-      sectors-most (length r) areaSectors (omega arith)
-
   tiny : k ≤ 1020
-  tiny = let a : areaSectors ≤ 1020 = limit-small in let b : k ≤ areaSectors = small in omega arith
+  tiny = sectors-few (length r) (kept-small kept)
 
   -- the stores, at the places of v
   abbrev blockAt : Side → List ℕ → Store
@@ -94,24 +82,21 @@ module _ (w : Side) (v : Device) (d : Sectors) (sd : Sound d) (placed : deviceIn
   last-at n = at-last w c x r n ∙ ap (λ (u : Device). record { sector = blockSector w u; content = blankBlock w c x r }) placed
 
   -- every store but the last goes near the other side, the last to the kept block
-  pub goes : (j : ℕ) → j < all → near (otherSide w) v (st j .sector) ⊎ ((j ≡ suc (suc k)) × ((laterWhole c ≡ false) × (st j .sector ≡ blockSector w v)))
-  goes j l = go (which w c x r j l)
-    where
-      go : (j ≡ 0) ⊎ (((i : ℕ) × (i < k) × (j ≡ suc i)) ⊎ ((j ≡ suc k) ⊎ ((j ≡ suc (suc k)) × (laterWhole c ≡ false))))
-          → near (otherSide w) v (st j .sector) ⊎ ((j ≡ suc (suc k)) × ((laterWhole c ≡ false) × (st j .sector ≡ blockSector w v)))
-      go (inl e) = inl (rw (e, first-at) (block-near v sizes (otherSide w)))
-      go (inr (inl (i, m, e))) = inl (rw (e, sector-at i m) (let b : k ≤ 1020 = tiny in area-near v sizes (otherSide w) A i (omega arith)))
-      go (inr (inr (inl e))) = inl (rw (e, second-at) (block-near v sizes (otherSide w)))
-      go (inr (inr (inr (e, n)))) = inr (e, (n, ap (λ (i : ℕ). st i .sector) e ∙ ap (λ (s : Store). s .sector) (last-at n)))
+  abbrev Goes : ℕ → Type 0
+  Goes j = ((j ≤ suc k) × near (otherSide w) v (st j .sector)) ⊎ ((laterWhole c ≡ false) × (st j .sector ≡ blockSector w v))
+
+  goes : (j : ℕ) → j < all → Goes j
+  goes =
+      by-store w c x r Goes (inl (omega arith, rw first-at (block-near v sizes (otherSide w))))
+      (λ i m. inl (omega arith, rw (sector-at i m) (let b : k ≤ 1020 = tiny in area-near v sizes (otherSide w) A i (omega arith))))
+      (inl (omega arith, rw second-at (block-near v sizes (otherSide w)))) (λ n. inr (n, ap (λ (s : Store). s .sector) (last-at n)))
 
   stored-size : (j : ℕ) → j < all → length (st j .content) ≡ 512
-  stored-size j l = go (which w c x r j l)
-    where
-      go : (j ≡ 0) ⊎ (((i : ℕ) × (i < k) × (j ≡ suc i)) ⊎ ((j ≡ suc k) ⊎ ((j ≡ suc (suc k)) × (laterWhole c ≡ false)))) → length (st j .content) ≡ 512
-      go (inl e) = rw (e, first-at) (like-size c (kept .accepted) (emptied (deviceIn c)) (right-empty c (kept .accepted)))
-      go (inr (inl (i, m, e))) = rw (e, sector-at i m) (length-sector r i)
-      go (inr (inr (inl e))) = rw (e, second-at) (like-size c (kept .accepted) (refilled (deviceIn c) (entryIn fields x)) (right-filled c (kept .accepted) x))
-      go (inr (inr (inr (e, n)))) = rw (e, last-at n) (like-size c (kept .accepted) (blanked fields) (right-blank c (kept .accepted)))
+  stored-size =
+      by-store w c x r (λ (j : ℕ). length (st j .content) ≡ 512)
+      (rw first-at (like-size c (kept .accepted) (emptied (deviceIn c)) (right-empty c (kept .accepted)))) (λ i m. rw (sector-at i m) (length-sector r i))
+      (rw second-at (like-size c (kept .accepted) (refilled (deviceIn c) (entryIn fields x)) (right-filled c (kept .accepted) x)))
+      (λ n. rw (last-at n) (like-size c (kept .accepted) (blanked fields) (right-blank c (kept .accepted))))
 
   pub end-sound : Sound end
   end-sound = record { size = landed-size st d (sd .size) all stored-size }
@@ -128,17 +113,16 @@ module _ (w : Side) (v : Device) (d : Sectors) (sd : Sound d) (placed : deviceIn
   pub kept-sector : (n : ℕ) → near w v n → (n ≡ blockSector w v → ⊥) → end n ≡ d n
   kept-sector n a b = landed-old st d all n (λ j l e. go (goes j l) e)
     where
-      go : {j : ℕ} → near (otherSide w) v (st j .sector) ⊎ ((j ≡ suc (suc k)) × ((laterWhole c ≡ false) × (st j .sector ≡ blockSector w v))) → n ≡ st j .sector → ⊥
-      go (inl q) e = other-side v sizes w n a (subst (near (otherSide w) v) (sym e) q)
-      go (inr q) e = b (e ∙ q .1 .1)
+      go : {j : ℕ} → Goes j → n ≡ st j .sector → ⊥
+      go (inl q) e = other-side v sizes w n a (subst (near (otherSide w) v) (sym e) (q .1))
+      go (inr q) e = b (e ∙ q .1)
 
   pub kept-block : laterWhole c ≡ true → end (blockSector w v) ≡ d (blockSector w v)
   kept-block n = landed-old st d all (blockSector w v) (λ j l e. go (goes j l) e)
     where
-      go : {j : ℕ} → near (otherSide w) v (st j .sector) ⊎ ((j ≡ suc (suc k)) × ((laterWhole c ≡ false) × (st j .sector ≡ blockSector w v)))
-          → blockSector w v ≡ st j .sector → ⊥
-      go (inl q) e = other-side v sizes w (blockSector w v) (block-near v sizes w) (subst (near (otherSide w) v) (sym e) q)
-      go (inr q) e = true≢false (sym n ∙ q .1 .0)
+      go : {j : ℕ} → Goes j → blockSector w v ≡ st j .sector → ⊥
+      go (inl q) e = other-side v sizes w (blockSector w v) (block-near v sizes w) (subst (near (otherSide w) v) (sym e) (q .1))
+      go (inr q) e = true≢false (sym n ∙ q .0)
 
   pub blank-block : laterWhole c ≡ false → end (blockSector w v) ≡ blankBlock w c x r
   blank-block n =
@@ -159,29 +143,15 @@ module _ (w : Side) (v : Device) (d : Sectors) (sd : Sound d) (placed : deviceIn
         within = omega arith;
         area = λ i l. ap later (zero-add i) ∙ sector-at i l;
         block = ap later (zero-add k) ∙ second-at;
-        own = λ j l q. (omega arith, go j (goes (suc j) (omega arith)) q (omega arith));
+        own = λ j l q. (omega arith, go (goes (suc j) (omega arith)) q);
         near-area = λ i l. area-near v sizes (otherSide w) A i (omega arith);
         near-block = block-near v sizes (otherSide w);
         block-apart = λ i l. block-apart v sizes (otherSide w) A i (omega arith);
       }
     where
-      go : (j : ℕ) → near (otherSide w) v (st (suc j) .sector) ⊎ ((suc j ≡ suc (suc k)) × ((laterWhole c ≡ false) × (st (suc j) .sector ≡ blockSector w v)))
-          → near (otherSide w) v (st (suc j) .sector) → suc j < all → j ≤ 0 + k
-      go j (inl p) q l =
-          elim (decLe j (0 + k)) [
-            | yes a ↦ a
-            | no a ↦ absurd (far j (which w c x r (suc j) l) (omega arith) q)
-          ]
-        where
-          far : (j : ℕ) → (suc j ≡ 0) ⊎ (((i : ℕ) × (i < k) × (suc j ≡ suc i)) ⊎ ((suc j ≡ suc k) ⊎ ((suc j ≡ suc (suc k)) × (laterWhole c ≡ false))))
-              → k < j → near (otherSide w) v (st (suc j) .sector) → ⊥
-          far j (inl e) a q = omega arith
-          far j (inr (inl (i, m, e))) a q = omega arith
-          far j (inr (inr (inl e))) a q = omega arith
-          far j (inr (inr (inr (e, n)))) a q =
-              other-side v sizes w (blockSector w v) (block-near v sizes w)
-              (subst (near (otherSide w) v) (ap (λ (i : ℕ). st i .sector) e ∙ ap (λ (s : Store). s .sector) (last-at n)) q)
-      go j (inr p) q l = absurd (other-side v sizes w (blockSector w v) (block-near v sizes w) (subst (near (otherSide w) v) (p .1 .1) q))
+      go : {j : ℕ} → Goes (suc j) → near (otherSide w) v (st (suc j) .sector) → j ≤ 0 + k
+      go (inl p) q = omega (arith, p .0)
+      go (inr p) q = absurd (other-side v sizes w (blockSector w v) (block-near v sizes w) (subst (near (otherSide w) v) (p .1) q))
 
   -- what stands on the other side in the end
   other-end : (n q : ℕ) → suc n ≡ all → end q ≡ landed later n (put d (st 0)) q
@@ -216,14 +186,13 @@ module _ (w : Side) (v : Device) (d : Sectors) (sd : Sound d) (placed : deviceIn
 
   pub other-holds : HeldIn (otherSide w) end (refilled (deviceIn c) (Used h)) A
   other-holds =
-      let a : k ≤ areaSectors = small in
-      holds-at (otherSide w) v end end-sound big
+      holds-at (otherSide w) v end end-sound sizes
       (ap reading filled-block
       ∙ (like-reads c (kept .accepted) (refilled (deviceIn c) (entryIn fields x)) (right-filled c (kept .accepted) x)
       ∙ ap (λ (e : Entry). record { verdict = Verdict.Accepted (refilled (deviceIn c) e); pool = pool; device = uuid }) (kept .entry)))
       (newest-filled (deviceIn c) (Used h)) refl (kept .sum) (kept .long) (kept .small)
       (ap (λ (n : ℕ). take n (gather end (areaSector (otherSide w) A v) areaSectors)) (kept .long)
-      ∙ gather-record end r (areaSector (otherSide w) A v) areaSectors a filled-area)
+      ∙ gather-record end r (areaSector (otherSide w) A v) areaSectors (sectors-within (length r) (kept-small kept)) filled-area)
 
   -- the kept area is as it was
   kept-area : take (h .bytes) (gather end (areaSector w x v) areaSectors) ≡ r
@@ -235,11 +204,11 @@ module _ (w : Side) (v : Device) (d : Sectors) (sd : Sound d) (placed : deviceIn
       ∙ (sym (copy-area w v d sd x (h .bytes) (kept .small)) ∙ kept .bytes)
 
   was : blockIn c ≡ d (blockSector w v)
-  was = copy-block w v d sd ∙ ap d (block-place w v big)
+  was = copy-block w v d sd ∙ ap d (block-place w v sizes)
 
   pub kept-whole : laterWhole c ≡ true → HeldIn w end fields x
   kept-whole n =
-      holds-at w v end end-sound big
+      holds-at w v end end-sound sizes
       (ap reading (kept-block n ∙ sym was) ∙ sym (accepted-reading (blockIn c) (kept .accepted)))
       (kept .in-newest n) (kept .entry) (kept .sum) (kept .long) (kept .small) kept-area
 
@@ -247,6 +216,6 @@ module _ (w : Side) (v : Device) (d : Sectors) (sd : Sound d) (placed : deviceIn
   kept-blank n =
       let o : otherArea (newest fields) ≡ x = kept .in-other n in
       let en : entryIn fields (otherArea (newest fields)) ≡ Used h = ap (entryIn fields) o ∙ kept .entry in
-      holds-at w v end end-sound big
+      holds-at w v end end-sound sizes
       (ap reading (blank-block n) ∙ like-reads c (kept .accepted) (blanked fields) (right-blank c (kept .accepted)))
       (newest-blanked fields h en ∙ o) (ap (entryIn (blanked fields)) (sym o) ∙ (entry-blanked fields ∙ en)) (kept .sum) (kept .long) (kept .small) kept-area

@@ -1,10 +1,9 @@
 -- The stores of a mend: which number goes to which sector. Assumes nothing.
-use Prim.Native.Nat.{ℕ, suc, _+_, _-_, _<_}
-use mathlib.Core.Path.{_≡_, refl, sym, ap, _∙_}
+use Prim.Native.Nat.{ℕ, zero, suc, _+_, _<_}
+use mathlib.Core.Path.{_≡_, refl, sym, ap, subst, _∙_}
 use mathlib.Core.Bool.{Bool, true, false}
-use mathlib.Core.Logic.{_⊎_, inl, inr}
 use mathlib.Core.List.{List, [], _∷_, _++_, map}
-use native.Mathlib.Decide.{decLe, ℕ-discrete}
+use native.Mathlib.Decide.{decLt, ℕ-discrete}
 use native.Mathlib.Nat.{add-zero}
 use native.Mathlib.Omega.{arith}
 use lib.ListN.{length, take, getD, length-append}
@@ -116,27 +115,24 @@ module _ (w : Side) (c : List ℕ) (x : Area) (r : List ℕ) where
         ap (λ (n : ℕ). storeIn groups (suc n)) (let e : suc k ≡ k + 1 = omega arith in e)
         ∙ (after-record 1 ∙ ap (λ (g : Groups). getD (blockPlace (otherSide w) filledBlock ∷ stores g) 1 none) last-one)
 
-  -- every store is one of these
-  pub which : (j : ℕ) → j < length (stores groups)
-      → (j ≡ 0) ⊎ (((i : ℕ) × (i < k) × (j ≡ suc i)) ⊎ ((j ≡ suc k) ⊎ ((j ≡ suc (suc k)) × (laterWhole c ≡ false))))
-  which j l = go (laterWhole c) refl
+  -- what holds of the first, of the record's sectors, of the second and of the last holds of every store
+  pub by-store : (P : ℕ → Type 0) → P 0 → ((i : ℕ) → i < k → P (suc i)) → P (suc k) → (laterWhole c ≡ false → P (suc (suc k)))
+      → (j : ℕ) → j < length (stores groups) → P j
+  by-store P first sector second last zero l = first
+  by-store P first sector second last (suc i) l =
+      elim (decLt i k) [
+        | yes a ↦ sector i a
+        | no a ↦
+            elim (ℕ-discrete k i) [
+              | yes e ↦ subst (λ (n : ℕ). P (suc n)) e second
+              | no e ↦ past (omega arith) (laterWhole c) refl
+            ]
+      ]
     where
-      low : j < k + 2 → (j ≡ 0) ⊎ (((i : ℕ) × (i < k) × (j ≡ suc i)) ⊎ ((j ≡ suc k) ⊎ ((j ≡ suc (suc k)) × (laterWhole c ≡ false))))
-      low m =
-          elim (ℕ-discrete j 0) [
-            | yes e ↦ inl e
-            | no e ↦
-                elim (decLe j k) [
-                  | yes a ↦ inr (inl (j - 1, omega arith, omega arith))
-                  | no a ↦ inr (inr (inl (omega arith)))
-                ]
-          ]
-
-      go : (t : Bool) → laterWhole c ≡ t → (j ≡ 0) ⊎ (((i : ℕ) × (i < k) × (j ≡ suc i)) ⊎ ((j ≡ suc k) ⊎ ((j ≡ suc (suc k)) × (laterWhole c ≡ false))))
-      go true h = low (let m : length (stores groups) ≡ k + 2 = count-whole h in omega arith)
-      go false h =
+      past : k < i → (t : Bool) → laterWhole c ≡ t → P (suc i)
+      past a true h =
+          let m : length (stores groups) ≡ k + 2 = count-whole h in
+          absurd (omega arith)
+      past a false h =
           let m : length (stores groups) ≡ k + 3 = count-blank h in
-          elim (decLe j (k + 1)) [
-            | yes a ↦ low (omega arith)
-            | no a ↦ inr (inr (inr (omega arith, h)))
-          ]
+          subst (λ (n : ℕ). P (suc n)) (let e : suc k ≡ i = omega arith in e) (last h)

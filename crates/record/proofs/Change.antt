@@ -13,13 +13,13 @@ use lib.ListN.{length, take, drop, length-append, length-drop}
 use lib.Seq.{take-at, drop-at, drop-drop, drop-append-le, take-append-le, drop-append-add, length-take-le}
 use Rattle.endian.specs.Bytes.{le, window, splice}
 use Rattle.endian.proofs.Parts.{window-window}
+use Rattle.endian.proofs.Tests.{and-right, and-both}
 use Rattle.layout.specs.declared.Device.{Device}
 use Rattle.layout.specs.Limits.{lengthAllowed, recordLimit}
 use Rattle.record.specs.declared.Segment.{Segment}
 use Rattle.record.specs.Items.{headBytes, headRight, blockSize, itemBytes, count, place, sizeAt, kindAt, startAt, sectorsAt, kindKnown, segmentAt, segmentsFrom, segments}
 use Rattle.record.specs.Accept.{mostSegments, itemRight}
 use Rattle.record.specs.Making.{segmentBytes, appended, removed}
-use Rattle.record.proofs.Search.{and-right, and-both}
 use Rattle.record.proofs.Making.{length-segment}
 use Rattle.record.proofs.RoundTrip.{Fit, segment-made, size-made, length-from, from-split, from-same}
 use Rattle.record.proofs.Meaning.{InRange, Apart, Accepted}

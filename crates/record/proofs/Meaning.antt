@@ -10,6 +10,7 @@ use native.Mathlib.Omega.{arith}
 use borrow.Author.Tests.{lt-ltb, le-ltb, le-leb, ltb-true, ltb-false, leb-true, leb-false, eqb-true}
 use lib.Dec.{leb, ltb, eqb}
 use lib.ListN.{length}
+use Rattle.endian.proofs.Tests.{and-left, and-right, and-both}
 use Rattle.refusal.specs.Tests.{first, AllHold}
 use Rattle.refusal.proofs.Order.{first-zero, first-all}
 use Rattle.layout.specs.declared.Device.{Device}
@@ -23,7 +24,7 @@ use Rattle.record.specs.Accept.{itemRight, wellFormed, inRange, rangeAt,
 use Rattle.record.specs.Answers.{firstClash}
 use Rattle.record.specs.Sectors.{holds}
 use Rattle.record.proofs.Order.{record-ascending}
-use Rattle.record.proofs.Search.{and-left, and-right, and-both, every-at, every-all, least-holds, least-below, least-none}
+use Rattle.record.proofs.Search.{every-at, every-all, least-holds, least-below, least-none}
 use Rattle.record.proofs.Accept.{clash-later, clash-not-later}
 
 -- a segment that is not empty and lies in the data range
@@ -203,10 +204,6 @@ clash-not-there : (s : List ℕ) → count s ≤ earlierOf s → firstClash s �
 unfolding firstClash
 clash-not-there s l = rw (le-ltb (earlierOf s) (count s) l)
 
--- nothing below passes
-not-below : (b : Bool) → b ≡ true → b ≡ false → ⊥
-not-below b h k = true≢false (sym h ∙ k)
-
 lowest : (s : List ℕ) (i j : ℕ) → earlierOf s ≡ i → laterOf s (earlierOf s) ≡ j
     → (k l : ℕ) → l < count s → clashesAt s k l ≡ true → (i < k) ⊎ ((i ≡ k) × (j ≤ l))
 unfolding earlierOf laterOf
@@ -214,13 +211,13 @@ lowest s i j e g k l m h =
     let a : least (clashesAt s k) (count s) ≤ l =
     elim (decLe (least (clashesAt s k) (count s)) l) [
       | yes q ↦ q
-      | no q ↦ absurd (not-below (clashesAt s k l) h (least-below (clashesAt s k) (count s) l (omega arith)))
+      | no q ↦ absurd (true≢false (sym h ∙ least-below (clashesAt s k) (count s) l (omega arith)))
     ] in
     let b : clashesLater s k ≡ true = lt-ltb (laterOf s k) (count s) (omega arith) in
     let n : i ≤ k =
     elim (decLe i k) [
       | yes q ↦ q
-      | no q ↦ absurd (not-below (clashesLater s k) b (least-below (clashesLater s) (count s) k (omega arith)))
+      | no q ↦ absurd (true≢false (sym b ∙ least-below (clashesLater s) (count s) k (omega arith)))
     ] in
     ⊎-elim
     (λ (q : i ≡ k).

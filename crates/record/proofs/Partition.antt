@@ -10,6 +10,7 @@ use native.Mathlib.Nat.{le-refl}
 use native.Mathlib.Omega.{arith}
 use borrow.Author.Tests.{lt-ltb, le-ltb, le-leb, lt-leb, ltb-true, leb-true}
 use lib.Dec.{leb, ltb, eqb}
+use Rattle.endian.proofs.Tests.{and-left, and-right, and-both}
 use Rattle.refusal.specs.Tests.{first}
 use Rattle.layout.specs.declared.Device.{Device}
 use Rattle.layout.specs.Limits.{sizeAllowed, metadataAllowed, reservedAllowed}
@@ -19,7 +20,7 @@ use Rattle.record.specs.Search.{every, total}
 use Rattle.record.specs.Items.{count, sectorsAt, segmentAt}
 use Rattle.record.specs.Accept.{recordTests}
 use Rattle.record.specs.Sectors.{within, holds, freeOf, isFree, one, parts, allocated, freeSectors}
-use Rattle.record.proofs.Search.{and-left, and-right, and-both, and-false-left, and-false-right, total-zero, total-suc, total-same}
+use Rattle.record.proofs.Search.{and-false-left, and-false-right, total-zero, total-suc, total-same}
 use Rattle.record.proofs.Meaning.{Apart, apart-holds, Accepted, accepted}
 
 -- x in an interval, or not

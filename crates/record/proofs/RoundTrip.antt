@@ -15,13 +15,14 @@ use lib.Seq.{take-at, drop-at, drop-drop}
 use Rattle.endian.specs.Bytes.{le, toLe, window, Bytes}
 use Rattle.endian.proofs.Numbers.{length-toLe, le-toLe, toLe-le}
 use Rattle.endian.proofs.Parts.{length-window-fits, window-append, bytes-window}
+use Rattle.endian.proofs.Tests.{and-left, and-right, and-both}
 use Rattle.record.specs.declared.Segment.{Segment}
 use Rattle.record.specs.Search.{every}
 use Rattle.record.specs.Items.{itemOf, isHead, headBytes, headRight, blockSize, blockSizeAllowed, count, place, sizeAt, kindAt, startAt, sectorsAt, kindKnown, segmentAt, segmentsFrom, segments}
 use Rattle.record.specs.Accept.{itemRight, wellFormed}
 use Rattle.record.specs.Making.{headOf, segmentBytes, allBytes, recordOf}
 use mathlib.Core.Logic.{⊎-elim}
-use Rattle.record.proofs.Search.{and-left, and-right, and-both, every-at, every-all}
+use Rattle.record.proofs.Search.{every-at, every-all}
 use Rattle.record.proofs.Making.{length-head, length-segment}
 
 -- a part between two others

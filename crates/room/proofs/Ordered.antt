@@ -10,12 +10,12 @@ use native.Mathlib.Omega.{arith}
 use borrow.Author.Tests.{leb-true, lt-leb, le-leb}
 use lib.Dec.{leb}
 use lib.ListN.{getD}
+use Rattle.endian.proofs.Tests.{and-left, and-right}
 use Rattle.layout.specs.declared.Device.{Device}
 use Rattle.layout.specs.Places.{dataStart, dataEnd}
 use Rattle.record.specs.Items.{count, startAt, sectorsAt, segmentAt}
 use Rattle.record.specs.Sectors.{holds, isFree}
 use Rattle.record.specs.Ascending.{endAt, edgeAt}
-use Rattle.record.proofs.Search.{and-left, and-right}
 use Rattle.record.proofs.Accept.{leb-shift}
 use Rattle.record.proofs.Ascending.{InOrder, edge-first, edge-more}
 use Rattle.record.proofs.Meaning.{Accepted}

@@ -11,13 +11,14 @@ use native.Mathlib.Numerals.{add-one}
 use borrow.Author.Needs.{zero≤}
 use borrow.Author.Tests.{lt-ltb, le-ltb, le-leb, lt-leb, leb-true, eq-eqb, ne-eqb}
 use lib.Dec.{leb}
+use Rattle.endian.proofs.Tests.{and-left, and-right, and-both}
 use Rattle.layout.specs.declared.Device.{Device}
 use Rattle.layout.specs.Places.{dataStart, dataEnd}
 use Rattle.record.specs.declared.Segment.{Segment}
 use Rattle.record.specs.Search.{least, total}
 use Rattle.record.specs.Items.{count, startAt, sectorsAt, segmentAt}
 use Rattle.record.specs.Sectors.{within, holds, freeOf, isFree}
-use Rattle.record.proofs.Search.{and-left, and-right, and-both, every-all, every-false, total-suc, least-le, least-none, least-more, least-found, least-holds, least-below}
+use Rattle.record.proofs.Search.{every-all, every-false, total-suc, least-le, least-none, least-more, least-found, least-holds, least-below}
 use Rattle.record.proofs.Meaning.{Accepted}
 use Rattle.record.proofs.Partition.{in-within, within-low, within-high, holds-in, not-holds-low, not-holds-high, ends}
 use Rattle.room.specs.declared.Run.{Run}

@@ -7,6 +7,7 @@ use native.Mathlib.Omega.{arith}
 use borrow.Author.Tests.{lt-ltb, le-ltb, le-leb, lt-leb, eq-eqb, ne-eqb, not-true, not-false}
 use lib.Dec.{leb, ltb, eqb}
 use lib.ListN.{length}
+use Rattle.endian.proofs.Tests.{and-both}
 use Rattle.refusal.specs.Numbers.{noStore}
 use Rattle.refusal.specs.Tests.{first}
 use Rattle.refusal.proofs.Order.{first-pass, first-fail, first-all, answer-no, answer-yes}
@@ -16,6 +17,7 @@ use Rattle.block.specs.declared.BlockFields.{BlockFields}
 use Rattle.block.specs.Block.{poolOf, uuidOf}
 use Rattle.block.specs.Writing.{writeTests, written}
 use Rattle.discovery.specs.Copy.{blockIn}
+use Rattle.discovery.specs.Discovery.{sized}
 use Rattle.update.specs.declared.Part.{Part}
 use Rattle.update.specs.declared.Plan.{Plan}
 use Rattle.update.specs.declared.Given.{Given}
@@ -23,6 +25,10 @@ use Rattle.update.specs.declared.Given.the-variants as Given
 use Rattle.update.specs.Update.{sectorOf}
 use Rattle.update.specs.Plan.{storesIn, groupOf, sectorIn, within, unlessRefused, blockAnswer, blockBytes, partAnswer, partBytes, lentRight, storeTests, sidesAnswer, sidesBytes, storeAnswer, storeBytes}
 use Rattle.update.proofs.Padding.{sector-laid}
+
+-- copies of the right size, and a sector's bytes
+pub lent-right : (f b out : List ℕ) → sized f b ≡ true → length out ≡ 512 → lentRight f b out ≡ true
+lent-right f b out z room = and-both (sized f b) (eqb (length out) 512) z (eq-eqb (length out) 512 room)
 
 module _ (p : Plan) (i : ℕ) where
   pub in-front-area : i < p .sectors → 0 ≡ groupOf p i

@@ -7,18 +7,16 @@ use mathlib.Core.List.{List}
 use native.Mathlib.Decide.{ℕ-discrete}
 use native.Mathlib.Nat.{le-refl}
 use native.Mathlib.Omega.{arith}
-use borrow.Author.Tests.{eq-eqb}
-use lib.Dec.{leb, lit<, eqb}
+use lib.Dec.{leb, lit<}
 use lib.ListN.{length}
-use Rattle.endian.proofs.Tests.{and-both}
 use Rattle.refusal.specs.Numbers.{noStore}
-use Rattle.refusal.specs.Tests.{first, AllHold}
+use Rattle.refusal.specs.Tests.{AllHold}
 use Rattle.refusal.proofs.Order.{first-holds, answer-yes}
 use Rattle.layout.specs.declared.Device.{Device}
 use Rattle.layout.specs.declared.Side.{Side}
 use Rattle.layout.specs.declared.Side.the-variants.{Front, Back}
 use Rattle.layout.specs.declared.Area.{Area}
-use Rattle.layout.specs.Limits.{recordLimit, lengthAllowed}
+use Rattle.layout.specs.Limits.{lengthAllowed}
 use Rattle.layout.specs.Places.{blockSector, areaSector}
 use Rattle.layout.proofs.Laws.{length-facts}
 use Rattle.block.specs.declared.Time.{Time}
@@ -27,16 +25,16 @@ use Rattle.block.specs.declared.BlockFields.{BlockFields}
 use Rattle.block.specs.declared.Reading.{Reading}
 use Rattle.block.specs.declared.Verdict.the-variants as Verdict
 use Rattle.block.specs.Entry.{laterThan, timeOf}
-use Rattle.block.specs.Block.{poolOf, uuidOf, fieldsOf, readTests, reading}
+use Rattle.block.specs.Block.{poolOf, uuidOf, fieldsOf, reading}
 use Rattle.block.proofs.Readings.{accepted-length}
 use Rattle.discovery.specs.declared.Other.the-variants.{Both}
 use Rattle.discovery.specs.declared.Answer.{Answer}
 use Rattle.discovery.specs.declared.Answer.the-variants.{Found}
-use Rattle.discovery.specs.Copy.{blockIn, entryIn, whole, newest, readingIn}
+use Rattle.discovery.specs.Copy.{blockIn, entryIn, newest, readingIn}
 use Rattle.discovery.specs.Discovery.{recordAt, sameDevice, sized, discovery}
 use Rattle.device.specs.Device.{Sectors, Sound, Store, Cut, Groups, stores, storeIn, groupStart, CutIn, areaSectors, copyFrom}
 use Rattle.device.proofs.Landing.{landed-size}
-use Rattle.device.proofs.Copies.{limit-sectors, limit-small}
+use Rattle.device.proofs.Copies.{limit-small}
 use Rattle.update.specs.Update.{deviceIn, numberAfter, updateTests, updateNumber, sectorsOf, sectorOf, holdingFor, withEntry, spare, newBlock}
 use Rattle.update.specs.declared.Part.{Part}
 use Rattle.update.specs.declared.Plan.{Plan}
@@ -47,16 +45,16 @@ use Rattle.update.specs.Plan.{partOf, storesIn, groupOf, partAnswer, par
 use Rattle.update.specs.Demand.{Gives, heldIn, recordIn, InStepOn, Start, Excused, groupsOn, planOn, Cutting, after, Landing, Giving}
 use Rattle.update.proofs.NewBlock.{number-fits, device-kept, new-reads, new-writes, new-written}
 use Rattle.update.proofs.Holding.{Holds, newest-changed}
-use Rattle.update.proofs.Discovering.{gives, back-found, front-found, both-found, later-found}
-use Rattle.update.proofs.Padding.{sectors-most}
+use Rattle.update.proofs.Discovering.{gives, alone-gives, later-found}
+use Rattle.update.proofs.Padding.{sectors-few}
 use Rattle.update.proofs.OneSide as OneSide
-use Rattle.update.proofs.Choosing.{in-none, block-given, area-given, part-given, no-store, front-store, back-store}
+use Rattle.update.proofs.Choosing.{lent-right, in-none, block-given, area-given, part-given, no-store, front-store, back-store}
 use Rattle.update.proofs.InStep.{refused-differs, Stepped, verdict-facts, in-step-facts, same-device-test}
-use Rattle.update.proofs.OneCopy.{used, old-held, new-held, block-of}
-use Rattle.update.proofs.Facts.{other-differs, renamed, same-time-is, sized-copies, stands-as}
-use Rattle.update.proofs.Agreeing.{agree-gives, agree-in-step}
+use Rattle.update.proofs.OneCopy.{used, new-held, block-of, stepped-held}
+use Rattle.update.proofs.Facts.{other-differs, renamed, sized-copies, stands-as}
+use Rattle.update.proofs.Agreeing.{found-front, agree-gives, agree-in-step}
 use Rattle.update.proofs.Places.{Sizes, sizes-accepted, near, area-near, area-below, block-apart, areas-apart}
-use Rattle.update.proofs.Stores.{starting, begin, count, which, stored-size, side, group-starts, grouped}
+use Rattle.update.proofs.Stores.{starting, begin, count, by-side, stored-size, side, group-starts, grouped}
 
 module _ (v : Device) (d : Sectors) (t : Time) (r : List ℕ) (s : Start v d t r) where
   -- a side's copy before the update, the numbers of its block and the area that is present
@@ -86,7 +84,7 @@ module _ (v : Device) (d : Sectors) (t : Time) (r : List ℕ) (s : Start v d t r
   -- a side's copy holds the old record, or the new one
   abbrev OldHeld : Side → Sectors → Type 0
   OldHeld w e =
-      Holds (copyFrom w v e) (fields w) (poolOf (blockIn (copy Front))) (uuidOf (blockIn (copy Front))) (present w) (heldIn (copy w)) (recordIn (copy w))
+      Holds (copyFrom w v e) (fields w) (poolOf (blockIn (copy Front))) (uuidOf (blockIn (copy Front))) (present w) (heldIn (copy w)) (recordIn (copy Front))
 
   abbrev NewHeld : Side → Sectors → Type 0
   NewHeld w e =
@@ -110,33 +108,14 @@ module _ (v : Device) (d : Sectors) (t : Time) (r : List ℕ) (s : Start v d t r
   GivesNew e = Gives (copyFrom Front v e) (copyFrom Back v e) t r
 
   -- what the start says of the device and of each side
-  stepped : Stepped (copy Front) (copy Back)
-  stepped = in-step-facts (copy Front) (copy Back) (s .in-step)
+  stepped : Stepped copy
+  stepped = in-step-facts copy (s .in-step)
 
   its-sizes : Sizes v
-  its-sizes = subst Sizes (s .placed) (sizes-accepted (blockIn (copy Front)) (stepped .front))
-
-  big : 8 ≤ v .sectors
-  big = let c : 2097152 ≤ v .sectors = its-sizes .sectors in omega arith
-
-  accepted : (w : Side) → first (readTests (blockIn (copy w))) ≡ 0
-  accepted Front = stepped .front
-  accepted Back = stepped .back
-
-  its-whole : (w : Side) → whole (copy w) (fields w) (present w) ≡ true
-  its-whole Front = stepped .front-whole
-  its-whole Back = stepped .back-whole
-
-  its-pool : (w : Side) → poolOf (blockIn (copy w)) ≡ poolOf (blockIn (copy Front))
-  its-pool Front = refl
-  its-pool Back = sym (stepped .pool)
-
-  its-uuid : (w : Side) → uuidOf (blockIn (copy w)) ≡ uuidOf (blockIn (copy Front))
-  its-uuid Front = refl
-  its-uuid Back = sym (stepped .uuid)
+  its-sizes = subst Sizes (s .placed) (sizes-accepted (blockIn (copy Front)) (stepped .accepted Front))
 
   its-used : (w : Side) → entryIn (fields w) (present w) ≡ Used (heldIn (copy w))
-  its-used w = used w v d (s .sound) big (accepted w) (its-whole w)
+  its-used w = used w v d (s .sound) its-sizes (stepped .accepted w) (stepped .newest-whole w)
 
   one-device : sameDevice (fields Front) (fields Back) ≡ true
   one-device = same-device-test (fields Front) (fields Back) (stepped .device)
@@ -144,12 +123,12 @@ module _ (v : Device) (d : Sectors) (t : Time) (r : List ℕ) (s : Start v d t r
   -- the old block and the old sectors of its area: the old record
   holds-old : (w : Side) (e : Sectors) → Sound e → e (blockSector w v) ≡ d (blockSector w v)
       → ((i : ℕ) → i < areaSectors → e (areaSector w (present w) v + i) ≡ d (areaSector w (present w) v + i)) → OldHeld w e
-  holds-old w e se b a = renamed (its-pool w) (its-uuid w) (old-held w v d (s .sound) big (accepted w) (its-whole w) e se b a)
+  holds-old = stepped-held v d (s .sound) its-sizes stepped
 
   found : discovery (copy Front) (copy Back) ≡ Found (recordAt Front (present Front) (heldIn (copy Front))) Both
   found =
-      both-found (copy Front) (copy Back) (stepped .sizes) (holds-old Front d (s .sound) refl (λ i l. refl)) (holds-old Back d (s .sound) refl (λ i l. refl))
-      one-device (stepped .times) (stepped .records)
+      found-front (holds-old Front d (s .sound) refl (λ i l. refl)) (holds-old Back d (s .sound) refl (λ i l. refl)) (stepped .sizes)
+      one-device _ refl (stepped .times Back)
 
   -- what it says of the time and the record: no test refuses them
   holds-all : AllHold (updateTests (copy Front) (copy Back) (timeOf (heldIn (copy Front))) t r)
@@ -163,26 +142,20 @@ module _ (v : Device) (d : Sectors) (t : Time) (r : List ℕ) (s : Start v d t r
   its-time = holds-all .1 .0
 
   its-later : (w : Side) → laterThan t (timeOf (heldIn (copy w))) ≡ true
-  its-later Front = holds-all .1 .1 .0
-  its-later Back = ap (laterThan t) (sym (same-time-is _ _ (stepped .times))) ∙ holds-all .1 .1 .0
+  its-later w = ap (laterThan t) (stepped .times w) ∙ holds-all .1 .1 .0
 
   its-length : lengthAllowed (length r) ≡ true
   its-length = holds-all .1 .1 .1 .0
 
   tiny : k ≤ 1020
-  tiny =
-      let l : length r ≤ recordLimit = length-facts (length r) its-length .1 in
-      let m : areaSectors * 512 ≡ recordLimit = limit-sectors in
-      let a : areaSectors ≤ 1020 = limit-small in
-      let b : k ≤ areaSectors = sectors-most (length r) areaSectors (omega arith) in
-      omega arith
+  tiny = sectors-few (length r) (length-facts (length r) its-length .1)
 
   -- the new block and the record's sectors: the new record
   holds-new : (w : Side) (e : Sectors) → Sound e → e (blockSector w v) ≡ newBlock (copy w) t r
       → ((i : ℕ) → i < k → e (areaSector w (spare (copy w)) v + i) ≡ sectorOf r i) → NewHeld w e
   holds-new w e se b a =
-      renamed (its-pool w) (its-uuid w)
-      (new-held w v d (s .sound) big (accepted w) (its-whole w) e se t r (s .fits) its-time its-length (its-later w) b a)
+      renamed (stepped .pool w) (stepped .uuid w) refl
+      (new-held w v d (s .sound) its-sizes (stepped .accepted w) (stepped .newest-whole w) e se t r (s .fits) its-time its-length (its-later w) b a)
 
   new-device : (w : Side) → newFields w .device ≡ fields w .device
   new-device w = device-kept (fields w) (spare (copy w)) (Used (holdingFor t r))
@@ -204,7 +177,7 @@ module _ (v : Device) (d : Sectors) (t : Time) (r : List ℕ) (s : Start v d t r
     new-verdict : reading (newBlock (copy w) t r) .verdict ≡ Verdict.Accepted (newFields w)
     new-verdict =
         ap (λ (q : Reading). q .verdict)
-        (new-reads (copy w) (accepted w) (heldIn (copy w)) (its-used w) t r (s .fits) its-time its-length (its-later w))
+        (new-reads (copy w) (stepped .accepted w) (heldIn (copy w)) (its-used w) t r (s .fits) its-time its-length (its-later w))
 
     new-size : length (newBlock (copy w) t r) ≡ 512
     new-size = accepted-length (newBlock (copy w) t r) (verdict-facts (newBlock (copy w) t r) _ new-verdict .0)
@@ -217,7 +190,7 @@ module _ (v : Device) (d : Sectors) (t : Time) (r : List ℕ) (s : Start v d t r
         (sym (newest-changed (fields w) (present w) (heldIn (copy w)) (holdingFor t r) (its-used w) (its-later w)) ∙ ap newest f)
 
     at-block : (e : Sectors) → Sound e → blockIn (copyFrom w v e) ≡ e (blockSector w v)
-    at-block e se = block-of w v d (s .sound) big (accepted w) (its-whole w) e se
+    at-block e se = block-of w v d (s .sound) its-sizes (stepped .accepted w) (stepped .newest-whole w) e se
 
     state : (e : Sectors) → (Excused v d e t r → ⊥) → IsOld w e ⊎ (IsNew w e ⊎ IsRefused w e)
     state e x = stands-as (blockIn (copyFrom w v e)) (blockIn (copy w)) (newBlock (copy w) t r) (λ p q z. x (w, p, q, z))
@@ -225,15 +198,10 @@ module _ (v : Device) (d : Sectors) (t : Time) (r : List ℕ) (s : Start v d t r
   module _ (e : Sectors) (se : Sound e) where
     -- what each pair of states gives
     gives-old : OldHeld Front e → OldHeld Back e → GivesOld e
-    gives-old m n =
-        gives (copyFrom Front v e) (copyFrom Back v e) Front (present Front) (heldIn (copy Front)) Both _ _
-        (both-found (copyFrom Front v e) (copyFrom Back v e) (sized-copies v e e se se) m n one-device (stepped .times) (stepped .records)) (m .bytes) (m .long) refl
+    gives-old m n = agree-gives m n (sized-copies v e e se se) one-device _ refl (stepped .times Back)
 
     gives-back : IsRefused Front e → OldHeld Back e → GivesOld e
-    gives-back a m =
-        gives (copyFrom Front v e) (copyFrom Back v e) Back (present Back) (heldIn (copy Back)) _ _ _
-        (back-found (copyFrom Front v e) (copyFrom Back v e) (sized-copies v e e se se) (a .0) (a .1) m)
-        (m .bytes ∙ sym (stepped .records)) (m .long ∙ ap length (sym (stepped .records))) (sym (same-time-is _ _ (stepped .times)))
+    gives-back a m = alone-gives (copyFrom Front v e) (copyFrom Back v e) (sized-copies v e e se se) Back (a .0) m (a .1) _ (stepped .times Back)
 
     module _ (m : NewHeld Front e) where
       gives-newer : OldHeld Back e → GivesNew e
@@ -245,9 +213,7 @@ module _ (v : Device) (d : Sectors) (t : Time) (r : List ℕ) (s : Start v d t r
       gives-both n = agree-gives m n (sized-copies v e e se se) new-new t refl refl
 
       gives-front : IsRefused Back e → GivesNew e
-      gives-front a =
-          gives (copyFrom Front v e) (copyFrom Back v e) Front (spare (copy Front)) (holdingFor t r) _ t r
-          (front-found (copyFrom Front v e) (copyFrom Back v e) (sized-copies v e e se se) (a .0) m (a .1)) (m .bytes) (m .long) refl
+      gives-front a = alone-gives (copyFrom Front v e) (copyFrom Back v e) (sized-copies v e e se se) Front (a .0) m (a .1) t refl
 
   -- what a cut leaves
   abbrev Outcome : Sectors → Type 0
@@ -384,8 +350,8 @@ module _ (v : Device) (d : Sectors) (t : Time) (r : List ℕ) (s : Start v d t r
     given-block =
         part-given (part w v) k (copy w) r k out (le-refl k) (blockSector w v) (newBlock (copy w) t r)
         (block-given (blockSector w v) (newFields w) (copy w) out (newBlock (copy w) t r)
-        (new-writes (copy w) (accepted w) (heldIn (copy w)) (its-used w) t r (s .fits) its-time its-length (its-later w) out room)
-        (new-written (copy w) (accepted w) (heldIn (copy w)) (its-used w) t r (s .fits) its-time its-length (its-later w) out room))
+        (new-writes (copy w) (stepped .accepted w) (heldIn (copy w)) (its-used w) t r (s .fits) its-time its-length (its-later w) out room)
+        (new-written (copy w) (stepped .accepted w) (heldIn (copy w)) (its-used w) t r (s .fits) its-time its-length (its-later w) out room))
 
     -- store j of a side is the store that the update has at its number
     given-store : (j : ℕ) → j ≤ k
@@ -413,7 +379,7 @@ module _ (v : Device) (d : Sectors) (t : Time) (r : List ℕ) (s : Start v d t r
 
   module _ (out : List ℕ) (room : length out ≡ 512) where
     lent : lentRight (copy Front) (copy Back) out ≡ true
-    lent = and-both (sized (copy Front) (copy Back)) (eqb (length out) 512) (stepped .sizes) (eq-eqb (length out) 512 room)
+    lent = lent-right (copy Front) (copy Back) out (stepped .sizes) room
 
     -- the plan gives it at that number
     plan-gives : (w : Side) (j : ℕ) → j ≤ k
@@ -432,15 +398,14 @@ module _ (v : Device) (d : Sectors) (t : Time) (r : List ℕ) (s : Start v d t r
         (ap (λ (i : ℕ). partAnswer (part Back (deviceIn (copy Front))) k (copy Back) i out) n)
         (ap (λ (i : ℕ). partBytes (part Back (deviceIn (copy Front))) k (copy Back) r i out) n)
 
-    all-given : (i : ℕ) → i < all
-        → (storeAnswer plan (copy Front) (copy Back) r i out ≡ Given.At (storeIn groups i .sector))
+    abbrev GivenAt : ℕ → Type 0
+    GivenAt i =
+        (storeAnswer plan (copy Front) (copy Back) r i out ≡ Given.At (storeIn groups i .sector))
         × (storeBytes plan (copy Front) (copy Back) r i out ≡ storeIn groups i .content)
-    all-given i l = go (which k i l)
-      where
-        go : (w : Side) × (j : ℕ) × (j ≤ k) × (i ≡ begin k w + j)
-            → (storeAnswer plan (copy Front) (copy Back) r i out ≡ Given.At (storeIn groups i .sector))
-            × (storeBytes plan (copy Front) (copy Back) r i out ≡ storeIn groups i .content)
-        go (w, j, h, e) = rw e (sym (plan-gives w j h .0) ∙ given-at w out room j h .0, sym (plan-gives w j h .1) ∙ given-at w out room j h .1)
+
+    all-given : (i : ℕ) → i < all → GivenAt i
+    all-given =
+        by-side k GivenAt (λ w j h. (sym (plan-gives w j h .0) ∙ given-at w out room j h .0, sym (plan-gives w j h .1) ∙ given-at w out room j h .1))
 
     -- past the last
     none-given : (i : ℕ) → all ≤ i

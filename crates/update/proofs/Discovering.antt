@@ -25,7 +25,7 @@ use Rattle.discovery.specs.declared.Other.{Other}
 use Rattle.discovery.specs.declared.Other.the-variants.{Both, One}
 use Rattle.discovery.specs.declared.Answer.{Answer}
 use Rattle.discovery.specs.declared.Answer.the-variants.{Found, Refused}
-use Rattle.discovery.specs.Copy.{areaBytes, readingIn}
+use Rattle.discovery.specs.Copy.{areaBytes, otherSide, present, readingIn}
 use Rattle.discovery.specs.Discovery.{recordAt, aloneOf, newestOf, togetherOf, sameDevice, sameUuids, decide, sized, discovery, copyOn, readBytes}
 use Rattle.discovery.proofs.Deciding.{decide-same, discovery-sized}
 use Rattle.discovery.proofs.Found.{with-room}
@@ -52,21 +52,17 @@ gives f b s x h o t r e a l w =
     }
 
 module _ (f b : List ℕ) (z : sized f b ≡ true) where
-  -- the front's block is refused
-  pub back-found : {g : BlockFields} {p u : List ℕ} {y : Area} {k : Holding} {r : List ℕ} (n : ℕ) → readingIn f .verdict ≡ Verdict.Refused n
-      → Holds b g p u y k r → discovery f b ≡ Found (recordAt Back y k) (One n)
-  back-found {g} {p} {u} {y} {k} {r} n e h =
-      sym (discovery-sized f b z)
-      ∙ (ap₂ (λ v w. decide v w (sameUuids (readingIn f) (readingIn b)) f b) e (ap (λ (q : Reading). q .verdict) (h .reads))
-      ∙ ap (λ (q : Present). aloneOf Back q n) (its-present h))
-
-  -- the back's is
-  pub front-found : {g : BlockFields} {p u : List ℕ} {x : Area} {k : Holding} {r : List ℕ} (n : ℕ) → Holds f g p u x k r
-      → readingIn b .verdict ≡ Verdict.Refused n → discovery f b ≡ Found (recordAt Front x k) (One n)
-  front-found {g} {p} {u} {x} {k} {r} n h e =
-      sym (discovery-sized f b z)
-      ∙ (ap₂ (λ v w. decide v w (sameUuids (readingIn f) (readingIn b)) f b) (ap (λ (q : Reading). q .verdict) (h .reads)) e
-      ∙ ap (λ (q : Present). aloneOf Front q n) (its-present h))
+  -- a side's copy holds a record, and the other side's block is refused
+  pub alone-gives : (w : Side) {g : BlockFields} {p u : List ℕ} {x : Area} {k : Holding} {r : List ℕ} (n : ℕ) → Holds (copyOn w f b) g p u x k r
+      → readingIn (copyOn (otherSide w) f b) .verdict ≡ Verdict.Refused n → (t : Time) → timeOf k ≡ t → Gives f b t r
+  alone-gives w {g} {p} {u} {x} {k} {r} n h e t l =
+      gives f b w x k (One n) t r
+      (sym (discovery-sized f b z) ∙ (go w (ap (λ (q : Reading). q .verdict) (h .reads)) e ∙ ap (λ (q : Present). aloneOf w q n) (its-present h))) (h .bytes) (h .long) l
+    where
+      go : (w : Side) → readingIn (copyOn w f b) .verdict ≡ Verdict.Accepted g → readingIn (copyOn (otherSide w) f b) .verdict ≡ Verdict.Refused n
+          → decide (readingIn f .verdict) (readingIn b .verdict) (sameUuids (readingIn f) (readingIn b)) f b ≡ aloneOf w (present (copyOn w f b) g) n
+      go Front i j = ap₂ (λ v w. decide v w (sameUuids (readingIn f) (readingIn b)) f b) i j
+      go Back i j = ap₂ (λ v w. decide v w (sameUuids (readingIn f) (readingIn b)) f b) j i
 
   module _ {g j : BlockFields} {p u : List ℕ} {x y : Area} {h k : Holding} {r q : List ℕ} (m : Holds f g p u x h r) (n : Holds b j p u y k q)
       (one : sameDevice g j ≡ true) where

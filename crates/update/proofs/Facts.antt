@@ -11,6 +11,7 @@ use lib.Dec.{eqb}
 use lib.ListN.{length}
 use Rattle.endian.specs.Bytes.{same}
 use Rattle.endian.proofs.Tests.{and-both, same-equal, equal-same}
+use Rattle.checksum.specs.Crc as Crc
 use Rattle.refusal.specs.Tests.{first}
 use Rattle.layout.specs.declared.Device.{Device}
 use Rattle.layout.specs.declared.Side.the-variants.{Front, Back}
@@ -26,7 +27,7 @@ use Rattle.block.specs.Entry.{sameTime}
 use Rattle.block.specs.Block.{fieldsOf, readTests, reading}
 use Rattle.block.specs.Writing.{holdingOf}
 use Rattle.block.proofs.Readings.{refused-reading}
-use Rattle.block.proofs.Times.{same-facts, same-test}
+use Rattle.block.proofs.Times.{same-test}
 use Rattle.discovery.specs.Copy.{blockIn, areaBytes, entryIn, otherArea, newest}
 use Rattle.discovery.specs.Discovery.{sized}
 use Rattle.device.specs.Device.{Sectors, Sound, copyFrom}
@@ -39,25 +40,20 @@ pub other-differs : (x : Area) → otherArea x ≡ x → ⊥
 other-differs A e = let o : _≡_ {A = ℕ} 0 1 = cc in omega arith
 other-differs B e = let o : _≡_ {A = ℕ} 0 1 = cc in omega arith
 
--- the same under equal names
-pub renamed : {c : List ℕ} {f : BlockFields} {p q u w : List ℕ} {x : Area} {h : Holding} {r : List ℕ} → p ≡ q → u ≡ w → Holds c f p u x h r → Holds c f q w x h r
-renamed {c} {f} {p} {q} {u} {w} {x} {h} {r} a b k =
+-- the same under equal names, and an equal record
+pub renamed : {c : List ℕ} {f : BlockFields} {p q u w : List ℕ} {x : Area} {h : Holding} {r s : List ℕ} → p ≡ q → u ≡ w → r ≡ s → Holds c f p u x h r → Holds c f q w x h s
+renamed {c} {f} {p} {q} {u} {w} {x} {h} {r} {s} a b e k =
     record {
       reads = k .reads ∙ ap₂ (λ (y z : List ℕ). reading-of f y z) a b;
       area = k .area;
       entry = k .entry;
-      bytes = k .bytes;
-      sum = k .sum;
-      long = k .long;
+      bytes = k .bytes ∙ e;
+      sum = k .sum ∙ ap Crc.checksum e;
+      long = k .long ∙ ap length e;
     }
   where
     reading-of : BlockFields → List ℕ → List ℕ → Reading
     reading-of f y z = record { verdict = Verdict.Accepted f; pool = y; device = z }
-
-pub same-time-is : (t u : Time) → sameTime t u ≡ true → t ≡ u
-same-time-is t u h =
-    let s : (t .seconds ≡ u .seconds) × (t .nanoseconds ≡ u .nanoseconds) = same-facts t u h in
-    λ i. record { seconds = s .0 i; nanoseconds = s .1 i }
 
 pub same-time-refl : (t : Time) → sameTime t t ≡ true
 same-time-refl t = same-test t t refl refl

@@ -11,7 +11,12 @@ use Rattle.endian.specs.Bytes.{same}
 use Rattle.endian.proofs.Tests.{and-left, and-right, and-both, same-equal, equal-same, same-refl}
 use Rattle.refusal.specs.Tests.{first}
 use Rattle.layout.specs.declared.Device.{Device}
+use Rattle.layout.specs.declared.Side.{Side}
+use Rattle.layout.specs.declared.Side.the-variants.{Front, Back}
+use Rattle.layout.specs.declared.Area.{Area}
+use Rattle.block.specs.declared.Time.{Time}
 use Rattle.block.specs.declared.Holding.{Holding}
+use Rattle.block.specs.declared.Entry.the-variants.{Used}
 use Rattle.block.specs.declared.BlockFields.{BlockFields}
 use Rattle.block.specs.declared.Reading.{Reading}
 use Rattle.block.specs.declared.Verdict.{Verdict}
@@ -20,10 +25,9 @@ use Rattle.block.specs.Entry.{sameTime, timeOf}
 use Rattle.block.specs.Block.{poolOf, uuidOf, fieldsOf, readTests, reading, acceptedReading}
 use Rattle.block.specs.Writing.{holdingOf}
 use Rattle.block.proofs.Readings.{accepted-reading, refused-reading}
+use Rattle.block.proofs.Times.{same-facts}
 use Rattle.discovery.specs.Copy.{blockIn, areaBytes, entryIn, whole, newest, readingIn}
 use Rattle.discovery.specs.Discovery.{sameDevice, sameUuids, sized, agree, stepped, inStepOf, inStep}
-use Rattle.layout.specs.declared.Area.{Area}
-use Rattle.block.specs.declared.Entry.the-variants.{Used}
 use Rattle.update.specs.Demand.{heldIn, recordIn}
 use Rattle.update.proofs.Holding.{Holds, its-whole}
 
@@ -43,17 +47,25 @@ verdict-facts b f e =
         let v : Verdict.Accepted (fieldsOf b) ≡ Verdict.Accepted f = ap (λ (r : Reading). r .verdict) (accepted-reading b z) ∙ e in
         cc
 
-pub record Stepped (f b : List ℕ) : Type 0 where
-  pub sizes : sized f b ≡ true
-  pub front : first (readTests (blockIn f)) ≡ 0
-  pub back : first (readTests (blockIn b)) ≡ 0
-  pub device : fieldsOf (blockIn f) .device ≡ fieldsOf (blockIn b) .device
-  pub pool : poolOf (blockIn f) ≡ poolOf (blockIn b)
-  pub uuid : uuidOf (blockIn f) ≡ uuidOf (blockIn b)
-  pub front-whole : whole f (fieldsOf (blockIn f)) (newest (fieldsOf (blockIn f))) ≡ true
-  pub back-whole : whole b (fieldsOf (blockIn b)) (newest (fieldsOf (blockIn b))) ≡ true
-  pub times : sameTime (timeOf (heldIn f)) (timeOf (heldIn b)) ≡ true
-  pub records : recordIn f ≡ recordIn b
+-- the sides' copies: each is accepted and whole, with the front's identity, time and record
+pub record Stepped (c : Side → List ℕ) : Type 0 where
+  pub sizes : sized (c Front) (c Back) ≡ true
+  pub device : fieldsOf (blockIn (c Front)) .device ≡ fieldsOf (blockIn (c Back)) .device
+  pub accepted : (w : Side) → first (readTests (blockIn (c w))) ≡ 0
+  pub newest-whole : (w : Side) → whole (c w) (fieldsOf (blockIn (c w))) (newest (fieldsOf (blockIn (c w)))) ≡ true
+  pub pool : (w : Side) → poolOf (blockIn (c w)) ≡ poolOf (blockIn (c Front))
+  pub uuid : (w : Side) → uuidOf (blockIn (c w)) ≡ uuidOf (blockIn (c Front))
+  pub times : (w : Side) → timeOf (heldIn (c w)) ≡ timeOf (heldIn (c Front))
+  pub records : (w : Side) → recordIn (c w) ≡ recordIn (c Front)
+
+each : (P : Side → Type 0) → P Front → P Back → (w : Side) → P w
+each P p q Front = p
+each P p q Back = q
+
+same-time-is : (t u : Time) → sameTime t u ≡ true → t ≡ u
+same-time-is t u h =
+    let s : (t .seconds ≡ u .seconds) × (t .nanoseconds ≡ u .nanoseconds) = same-facts t u h in
+    λ i. record { seconds = s .0 i; nanoseconds = s .1 i }
 
 pub same-device-facts : (x y : BlockFields) → sameDevice x y ≡ true → x .device ≡ y .device
 same-device-facts x y h =
@@ -75,9 +87,15 @@ same-device-test x y e =
     (eq-eqb (x .device .metadata) (y .device .metadata) (ap (λ (d : Device). d .metadata) e))
     (eq-eqb (x .device .reserved) (y .device .reserved) (ap (λ (d : Device). d .reserved) e)))
 
-module _ (f b : List ℕ) where
+module _ (c : Side → List ℕ) where
+  abbrev f : List ℕ
+  f = c Front
+
+  abbrev b : List ℕ
+  b = c Back
+
   by-verdicts : (u : Bool) → u ≡ sameUuids (readingIn f) (readingIn b) → sized f b ≡ true → (v w : Verdict) → readingIn f .verdict ≡ v → readingIn b .verdict ≡ w
-      → inStepOf v w u f b ≡ true → Stepped f b
+      → inStepOf v w u f b ≡ true → Stepped c
   by-verdicts u k z (Verdict.Refused m) w p q h = absurd (true≢false (sym h))
   by-verdicts u k z (Verdict.Accepted x) (Verdict.Refused n) p q h = absurd (true≢false (sym h))
   by-verdicts u k z (Verdict.Accepted x) (Verdict.Accepted y) p q h =
@@ -94,22 +112,22 @@ module _ (f b : List ℕ) where
       let s3 : (st && sb) ≡ true = and-right wb (st && sb) s2 in
       let rf : acceptedReading (blockIn f) ≡ readingIn f = accepted-reading (blockIn f) (fx .0) in
       let rb : acceptedReading (blockIn b) ≡ readingIn b = accepted-reading (blockIn b) (fy .0) in
-      let uu : (same (poolOf (blockIn f)) (poolOf (blockIn b)) && same (uuidOf (blockIn f)) (uuidOf (blockIn b))) ≡ true =
-      ap₂ sameUuids rf rb ∙ (sym k ∙ and-right (sameDevice x y) u i) in
+      let sp : Bool = same (poolOf (blockIn f)) (poolOf (blockIn b)) in
+      let su : Bool = same (uuidOf (blockIn f)) (uuidOf (blockIn b)) in
+      let uu : (sp && su) ≡ true = ap₂ sameUuids rf rb ∙ (sym k ∙ and-right (sameDevice x y) u i) in
       record {
         sizes = z;
-        front = fx .0;
-        back = fy .0;
         device = sym (ap (λ (g : BlockFields). g .device) (fx .1)) ∙ (same-device-facts x y (and-left (sameDevice x y) u i) ∙ ap (λ (g : BlockFields). g .device) (fy .1));
-        pool = same-equal (poolOf (blockIn f)) (poolOf (blockIn b)) (and-left (same (poolOf (blockIn f)) (poolOf (blockIn b))) (same (uuidOf (blockIn f)) (uuidOf (blockIn b))) uu);
-        uuid = same-equal (uuidOf (blockIn f)) (uuidOf (blockIn b)) (and-right (same (poolOf (blockIn f)) (poolOf (blockIn b))) (same (uuidOf (blockIn f)) (uuidOf (blockIn b))) uu);
-        front-whole = and-left wf (wb && (st && sb)) s;
-        back-whole = and-left wb (st && sb) s2;
-        times = and-left st sb s3;
-        records = same-equal (recordIn f) (recordIn b) (and-right st sb s3);
+        accepted = each (λ (w : Side). first (readTests (blockIn (c w))) ≡ 0) (fx .0) (fy .0);
+        newest-whole =
+            each (λ (w : Side). whole (c w) (fieldsOf (blockIn (c w))) (newest (fieldsOf (blockIn (c w)))) ≡ true) (and-left wf (wb && (st && sb)) s) (and-left wb (st && sb) s2);
+        pool = each (λ (w : Side). poolOf (blockIn (c w)) ≡ poolOf (blockIn f)) refl (sym (same-equal (poolOf (blockIn f)) (poolOf (blockIn b)) (and-left sp su uu)));
+        uuid = each (λ (w : Side). uuidOf (blockIn (c w)) ≡ uuidOf (blockIn f)) refl (sym (same-equal (uuidOf (blockIn f)) (uuidOf (blockIn b)) (and-right sp su uu)));
+        times = each (λ (w : Side). timeOf (heldIn (c w)) ≡ timeOf (heldIn f)) refl (sym (same-time-is (timeOf (heldIn f)) (timeOf (heldIn b)) (and-left st sb s3)));
+        records = each (λ (w : Side). recordIn (c w) ≡ recordIn f) refl (sym (same-equal (recordIn f) (recordIn b) (and-right st sb s3)));
       }
 
-  pub in-step-facts : inStep f b ≡ true → Stepped f b
+  pub in-step-facts : inStep f b ≡ true → Stepped c
   unfolding inStep
   in-step-facts h =
       by-verdicts (sameUuids (readingIn f) (readingIn b)) refl (and-left (sized f b) _ h) (readingIn f .verdict) (readingIn b .verdict) refl refl

@@ -16,11 +16,9 @@ use Rattle.layout.specs.declared.Area.{Area}
 use Rattle.layout.specs.Limits.{recordLimit, lengthAllowed}
 use Rattle.layout.specs.Places.{areaOffset, copyBytes}
 use Rattle.layout.proofs.Laws.{length-facts}
-use Rattle.device.specs.Device.{areaSectors}
-use Rattle.device.proofs.Copies.{limit-sectors}
 use Rattle.update.specs.Update.{sectorsOf}
 use Rattle.update.specs.Plan.{layTests, laid}
-use Rattle.update.proofs.Padding.{sectors-most, zeros-begun}
+use Rattle.update.proofs.Padding.{padded-within, zeros-begun}
 use Rattle.update.proofs.OneCopy.{area-fits}
 
 -- a refused record changes nothing
@@ -41,9 +39,7 @@ module _ (c : List ℕ) (x : Area) (r : List ℕ) (m : ℕ) (em : m ≡ copyByte
   pub lay-fits : at + (length r + 511) / 512 * 512 ≤ length c
   unfolding sectorsOf
   lay-fits =
-      let l : length r ≤ recordLimit = length-facts (length r) right .1 in
-      let k : areaSectors * 512 ≡ recordLimit = limit-sectors in
-      let s : (length r + 511) / 512 ≤ areaSectors = sectors-most (length r) areaSectors (omega arith) in
+      let s : (length r + 511) / 512 * 512 ≤ recordLimit = padded-within (length r) (length-facts (length r) right .1) in
       let a : areaOffset x + recordLimit ≤ copyBytes = area-fits x in
       let n : length c ≡ copyBytes = long in
       omega arith

@@ -31,12 +31,15 @@ use Rattle.block.specs.Block.{poolOf, uuidOf, fieldsOf, readTests, reading}
 use Rattle.block.proofs.Readings.{accepted-reading}
 use Rattle.discovery.specs.Copy.{blockIn, entryIn, wholeEntry, whole, newest}
 use Rattle.device.specs.Device.{Sectors, Sound, gather, areaSectors, copyFrom}
-use Rattle.device.proofs.Copies.{limit-sectors, length-copy, copy-block, copy-area, gather-same}
+use Rattle.device.proofs.Copies.{length-copy, copy-block, copy-area, gather-same}
 use Rattle.update.specs.Update.{sectorsOf, sectorOf, holdingFor, withEntry, spare, newBlock}
 use Rattle.update.specs.Demand.{heldIn, recordIn}
 use Rattle.update.proofs.NewBlock.{entry-allowed, new-reads}
 use Rattle.update.proofs.Holding.{Holds, newest-changed, entry-changed, whole-used}
-use Rattle.update.proofs.Padding.{gather-record, sectors-most}
+use Rattle.update.proofs.InStep.{Stepped}
+use Rattle.update.proofs.Facts.{renamed}
+use Rattle.update.proofs.Places.{Sizes}
+use Rattle.update.proofs.Padding.{gather-record, sectors-within}
 
 -- an area lies within a copy
 pub area-fits : (x : Area) → areaOffset x + recordLimit ≤ copyBytes
@@ -45,22 +48,22 @@ area-fits A = omega arith
 area-fits B = omega arith
 
 -- the block's sector follows the header's first
-pub block-place : (s : Side) (v : Device) → 8 ≤ v .sectors → suc (headerSector s v) ≡ blockSector s v
-block-place Front v h = refl
-block-place Back v h = omega arith
+pub block-place : (s : Side) (v : Device) → Sizes v → suc (headerSector s v) ≡ blockSector s v
+block-place Front v z = refl
+block-place Back v z = let h : 2097152 ≤ v .sectors = z .sectors in omega arith
 
 pub used-bytes : (e : Entry) (h : Holding) → e ≡ Used h → entryAllowed e ≡ true → h .bytes ≤ recordLimit
 used-bytes e h d w =
     length-facts (h .bytes) (and-left (lengthAllowed (h .bytes)) (leb (h .nanoseconds) 999999999) (sym (ap entryAllowed d) ∙ w)) .1
 
 -- a copy read from sectors where a block names a record, and its area begins with the record
-pub holds-at : (s : Side) (v : Device) (e : Sectors) → Sound e → 8 ≤ v .sectors → {g : BlockFields} {p u : List ℕ} {x : Area} {h : Holding} {r : List ℕ}
+pub holds-at : (s : Side) (v : Device) (e : Sectors) → Sound e → Sizes v → {g : BlockFields} {p u : List ℕ} {x : Area} {h : Holding} {r : List ℕ}
     → reading (e (blockSector s v)) ≡ record { verdict = Verdict.Accepted g; pool = p; device = u } → newest g ≡ x → entryIn g x ≡ Used h
     → h .checksum ≡ Crc.checksum r → h .bytes ≡ length r → h .bytes ≤ recordLimit → take (h .bytes) (gather e (areaSector s x v) areaSectors) ≡ r
     → Holds (copyFrom s v e) g p u x h r
-holds-at s v e se big {g} {p} {u} {x} {h} {r} rd ar en su lo sm by =
+holds-at s v e se z {g} {p} {u} {x} {h} {r} rd ar en su lo sm by =
     record {
-      reads = ap reading (copy-block s v e se ∙ ap e (block-place s v big)) ∙ rd;
+      reads = ap reading (copy-block s v e se ∙ ap e (block-place s v z)) ∙ rd;
       area = ar;
       entry = en;
       bytes = copy-area s v e se x (h .bytes) sm ∙ by;
@@ -68,7 +71,7 @@ holds-at s v e se big {g} {p} {u} {x} {h} {r} rd ar en su lo sm by =
       long = lo;
     }
 
-module _ (s : Side) (v : Device) (d : Sectors) (sd : Sound d) (big : 8 ≤ v .sectors) (ok : first (readTests (blockIn (copyFrom s v d))) ≡ 0)
+module _ (s : Side) (v : Device) (d : Sectors) (sd : Sound d) (z : Sizes v) (ok : first (readTests (blockIn (copyFrom s v d))) ≡ 0)
     (wh : whole (copyFrom s v d) (fieldsOf (blockIn (copyFrom s v d))) (newest (fieldsOf (blockIn (copyFrom s v d)))) ≡ true) where
   c : List ℕ
   c = copyFrom s v d
@@ -99,18 +102,18 @@ module _ (s : Side) (v : Device) (d : Sectors) (sd : Sound d) (big : 8 ≤ v .se
 
   module _ (e : Sectors) (se : Sound e) where
     pub block-of : blockIn (copyFrom s v e) ≡ e (blockSector s v)
-    block-of = copy-block s v e se ∙ ap e (block-place s v big)
+    block-of = copy-block s v e se ∙ ap e (block-place s v z)
 
     -- the block is old, and so are the sectors of the present area
-    pub old-held : e (blockSector s v) ≡ d (blockSector s v)
+    old-held : e (blockSector s v) ≡ d (blockSector s v)
         → ((i : ℕ) → i < areaSectors → e (areaSector s (newest (fieldsOf (blockIn (copyFrom s v d)))) v + i) ≡ d (areaSector s (newest (fieldsOf (blockIn (copyFrom s v d)))) v + i))
         → Holds (copyFrom s v e) (fieldsOf (blockIn (copyFrom s v d))) (poolOf (blockIn (copyFrom s v d))) (uuidOf (blockIn (copyFrom s v d)))
         (newest (fieldsOf (blockIn (copyFrom s v d)))) (heldIn (copyFrom s v d)) (recordIn (copyFrom s v d))
     old-held b a =
         let x : Area = newest (fieldsOf (blockIn (copyFrom s v d))) in
         let n : ℕ = heldIn (copyFrom s v d) .bytes in
-        holds-at s v e se big
-        (ap reading (b ∙ sym (copy-block s v d sd ∙ ap d (block-place s v big))) ∙ sym (accepted-reading (blockIn (copyFrom s v d)) ok)) refl used held-sum held-long
+        holds-at s v e se z
+        (ap reading (b ∙ sym (copy-block s v d sd ∙ ap d (block-place s v z))) ∙ sym (accepted-reading (blockIn (copyFrom s v d)) ok)) refl used held-sum held-long
         held-small (ap (take n) (gather-same e d (areaSector s x v) areaSectors a) ∙ sym (copy-area s v d sd x n held-small))
 
     -- the block is new, and the record's sectors have landed
@@ -123,9 +126,16 @@ module _ (s : Side) (v : Device) (d : Sectors) (sd : Sound d) (big : 8 ≤ v .se
     new-held t r fits ns len later b a =
         let y : Area = spare (copyFrom s v d) in
         let l : length r ≤ recordLimit = length-facts (length r) len .1 in
-        let m : areaSectors * 512 ≡ recordLimit = limit-sectors in
-        holds-at s v e se big
+        holds-at s v e se z
         (ap reading b ∙ new-reads (copyFrom s v d) ok (heldIn (copyFrom s v d)) used t r fits ns len later)
         (newest-changed (fieldsOf (blockIn (copyFrom s v d))) (newest (fieldsOf (blockIn (copyFrom s v d)))) (heldIn (copyFrom s v d)) (holdingFor t r) used later)
         (entry-changed (fieldsOf (blockIn (copyFrom s v d))) y (Used (holdingFor t r))) refl refl l
-        (gather-record e r (areaSector s y v) areaSectors (sectors-most (length r) areaSectors (omega arith)) a)
+        (gather-record e r (areaSector s y v) areaSectors (sectors-within (length r) l) a)
+
+-- of copies in step, a side whose block and present area still stand holds the front's record
+pub stepped-held : (v : Device) (d : Sectors) → Sound d → Sizes v → Stepped (λ (w : Side). copyFrom w v d)
+    → (w : Side) (e : Sectors) → Sound e → e (blockSector w v) ≡ d (blockSector w v)
+    → ((i : ℕ) → i < areaSectors → e (areaSector w (newest (fieldsOf (blockIn (copyFrom w v d)))) v + i) ≡ d (areaSector w (newest (fieldsOf (blockIn (copyFrom w v d)))) v + i))
+    → Holds (copyFrom w v e) (fieldsOf (blockIn (copyFrom w v d))) (poolOf (blockIn (copyFrom Front v d))) (uuidOf (blockIn (copyFrom Front v d)))
+    (newest (fieldsOf (blockIn (copyFrom w v d)))) (heldIn (copyFrom w v d)) (recordIn (copyFrom Front v d))
+stepped-held v d sd z k w e se b a = renamed (k .pool w) (k .uuid w) (k .records w) (old-held w v d sd z (k .accepted w) (k .newest-whole w) e se b a)

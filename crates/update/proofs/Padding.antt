@@ -10,7 +10,9 @@ use lib.Seq.{take-at, take-append-add, drop-drop, drop-at}
 use Rattle.endian.specs.Bytes.{window, zeros, splice}
 use Rattle.endian.proofs.Parts.{window-rest, length-window, splice-fits}
 use Rattle.endian.proofs.Tests.{length-zeros, zeros-add}
-use Rattle.device.specs.Device.{Sectors, gather}
+use Rattle.layout.specs.Limits.{recordLimit}
+use Rattle.device.specs.Device.{Sectors, gather, areaSectors}
+use Rattle.device.proofs.Copies.{limit-sectors, limit-small}
 use Rattle.update.specs.Update.{sectorsOf, sectorOf}
 use Rattle.update.specs.Plan.{sectorIn}
 
@@ -29,6 +31,16 @@ sectors-enough n = omega arith
 pub sectors-most : (n m : ℕ) → n ≤ m * 512 → sectorsOf n ≤ m
 unfolding sectorsOf
 sectors-most n m h = omega arith
+
+-- a record within the limit fills an area at most, and at most 1020 sectors
+pub sectors-within : (n : ℕ) → n ≤ recordLimit → sectorsOf n ≤ areaSectors
+sectors-within n h = let m : areaSectors * 512 ≡ recordLimit = limit-sectors in sectors-most n areaSectors (omega arith)
+
+pub sectors-few : (n : ℕ) → n ≤ recordLimit → sectorsOf n ≤ 1020
+sectors-few n h = let a : areaSectors ≤ 1020 = limit-small in let b : sectorsOf n ≤ areaSectors = sectors-within n h in omega arith
+
+pub padded-within : (n : ℕ) → n ≤ recordLimit → sectorsOf n * 512 ≤ recordLimit
+padded-within n h = let m : areaSectors * 512 ≡ recordLimit = limit-sectors in let b : sectorsOf n ≤ areaSectors = sectors-within n h in omega arith
 
 pub sectors-least : (n : ℕ) → 1 ≤ n → 1 ≤ sectorsOf n
 unfolding sectorsOf

@@ -14,9 +14,8 @@ use Rattle.layout.specs.declared.Device.{Device}
 use Rattle.layout.specs.declared.Side.{Side}
 use Rattle.layout.specs.declared.Side.the-variants.{Front, Back}
 use Rattle.layout.specs.declared.Area.{Area}
-use Rattle.layout.specs.Limits.{recordLimit}
 use Rattle.layout.specs.Places.{blockSector, areaSector}
-use Rattle.layout.proofs.Laws.{length-facts}
+use Rattle.layout.proofs.Laws.{length-fits}
 use Rattle.block.specs.declared.Time.{Time}
 use Rattle.block.specs.declared.Holding.{Holding}
 use Rattle.block.specs.declared.Entry.the-variants.{Used}
@@ -32,8 +31,6 @@ use Rattle.discovery.specs.declared.Answer.the-variants.{Found, Refused}
 use Rattle.discovery.specs.Copy.{areaBytes, otherArea, newest, present, readingIn}
 use Rattle.discovery.specs.Discovery.{aloneOf, newestOf, togetherOf, sameDevice, sameUuids, decide, sized, discovery}
 use Rattle.discovery.specs.Newest.{timeAt}
-use Rattle.device.specs.Device.{areaSectors}
-use Rattle.device.proofs.Copies.{limit-sectors, limit-small}
 use Rattle.update.specs.declared.Part.{Part}
 use Rattle.update.specs.declared.Plan.{Plan}
 use Rattle.update.specs.declared.Planned.{Planned}
@@ -108,11 +105,7 @@ module _ (f b : List ℕ) (t : Time) (r : List ℕ) where
 
   -- the record of an update that is not refused has a length that fits
   pub record-small : (n : ℕ) → n ≡ updateNumber f b t r → n ≡ 0 → length r < 4294967296
-  record-small n e z =
-      let l : length r ≤ recordLimit = length-facts (length r) (not-refused (sym e ∙ z) .1 .1 .1 .1 .0) .1 in
-      let m : areaSectors * 512 ≡ recordLimit = limit-sectors in
-      let k : areaSectors ≤ 1020 = limit-small in
-      omega arith
+  record-small n e z = length-fits (length r) (not-refused (sym e ∙ z) .1 .1 .1 .1 .0)
 
   pub plan-refused : (n : ℕ) → n ≡ updateNumber f b t r → (n ≡ 0 → ⊥) → Planned.Refused n ≡ planned f b t r
   plan-refused n e z = answer-no (Planned.Ready (planOf f b t r)) Planned.Refused n (updateNumber f b t r) e z

@@ -33,12 +33,12 @@ within : (k : ℕ) (w : Side) → begin k w + k < k + 1 + k + 1
 within k Front = omega arith
 within k Back = omega arith
 
--- every number is one side's
-pub which : (k j : ℕ) → j < k + 1 + k + 1 → (w : Side) × (i : ℕ) × (i ≤ k) × (j ≡ begin k w + i)
-which k j l =
+-- what holds of each side's stores holds of every store
+pub by-side : (k : ℕ) (P : ℕ → Type 0) → ((w : Side) (i : ℕ) → i ≤ k → P (begin k w + i)) → (j : ℕ) → j < k + 1 + k + 1 → P j
+by-side k P h j l =
     elim (decLe j k) [
-      | yes h ↦ (Front, j, h, sym (zero-add j))
-      | no h ↦ (Back, j - (k + 1), omega arith, omega arith)
+      | yes a ↦ subst P (zero-add j) (h Front j a)
+      | no a ↦ subst P (let e : k + 1 + (j - (k + 1)) ≡ j = omega arith in e) (h Back (j - (k + 1)) (omega arith))
     ]
 
 pub length-record : (a : ℕ) (r : List ℕ) → length (recordStores a r) ≡ sectorsOf (length r)
@@ -95,15 +95,15 @@ module _ (c : Side → List ℕ) (t : Time) (r : List ℕ) (v : Device) (at : de
   length-part w = length-append (areaPart w) (blockPart w) ∙ ap (λ (n : ℕ). n + 1) (length-record (areaSector w (spare (c w)) v) r)
 
   -- the front's stores, then the back's
-  by-side : stores groups ≡ part Front ++ part Back
+  sides : stores groups ≡ part Front ++ part Back
   unfolding updateGroups stores
-  by-side =
+  sides =
       ap (λ (u : Device). stores (sideGroups Front u (c Front) t r ++ sideGroups Back u (c Back) t r)) at
       ∙ sym (append-assoc (areaPart Front) (blockPart Front) (part Back))
 
   pub count : length (stores groups) ≡ k + 1 + k + 1
   count =
-      ap length by-side
+      ap length sides
       ∙ (length-append (part Front) (part Back)
       ∙ (ap₂ _+_ (length-part Front) (length-part Back) ∙ (let e : k + 1 + (k + 1) ≡ k + 1 + k + 1 = omega arith in e)))
 
@@ -111,9 +111,9 @@ module _ (c : Side → List ℕ) (t : Time) (r : List ℕ) (v : Device) (at : de
   unfolding storeIn
   at-side Front j l =
       let m : length (part Front) ≡ k + 1 = length-part Front in
-      ap₂ (λ (s : List Store) (n : ℕ). getD s n none) by-side (zero-add j) ∙ at-left none (part Front) (part Back) j (omega arith)
+      ap₂ (λ (s : List Store) (n : ℕ). getD s n none) sides (zero-add j) ∙ at-left none (part Front) (part Back) j (omega arith)
   at-side Back j l =
-      ap₂ (λ (s : List Store) (n : ℕ). getD s (n + j) none) by-side (sym (length-part Front)) ∙ at-right none (part Front) (part Back) j
+      ap₂ (λ (s : List Store) (n : ℕ). getD s (n + j) none) sides (sym (length-part Front)) ∙ at-right none (part Front) (part Back) j
 
   -- a side's k stores to its area, and the one to its block
   side-area : (w : Side) (i : ℕ) → i < k → storeIn groups (begin k w + i) ≡ record { sector = areaSector w (spare (c w)) v + i; content = sectorOf r i }
@@ -129,14 +129,12 @@ module _ (c : Side → List ℕ) (t : Time) (r : List ℕ) (v : Device) (at : de
 
   -- every store has 512 bytes, where the new blocks have
   pub stored-size : ((w : Side) → length (newBlock (c w) t r) ≡ 512) → (j : ℕ) → j < k + 1 + k + 1 → length (storeIn groups j .content) ≡ 512
-  stored-size h j l = go (which k j l)
-    where
-      go : (w : Side) × (i : ℕ) × (i ≤ k) × (j ≡ begin k w + i) → length (storeIn groups j .content) ≡ 512
-      go (w, i, m, e) =
-          elim (ℕ-discrete i k) [
-            | yes q ↦ ap (λ (s : Store). length (s .content)) (ap (storeIn groups) (e ∙ ap (λ (n : ℕ). begin k w + n) q) ∙ side-block w) ∙ h w
-            | no q ↦ ap (λ (s : Store). length (s .content)) (ap (storeIn groups) e ∙ side-area w i (omega arith)) ∙ length-sector r i
-          ]
+  stored-size h =
+      by-side k (λ (j : ℕ). length (storeIn groups j .content) ≡ 512) (λ w i m.
+      elim (ℕ-discrete i k) [
+        | yes e ↦ rw (e, side-block w) (h w)
+        | no e ↦ rw (side-area w i (omega arith)) (length-sector r i)
+      ])
 
   module _ (z : Sizes v) (small : k ≤ 1020) where
     -- a side's stores are near it
@@ -149,12 +147,10 @@ module _ (c : Side → List ℕ) (t : Time) (r : List ℕ) (v : Device) (at : de
 
     -- and no others
     own : (w : Side) (j : ℕ) → j < k + 1 + k + 1 → near w v (storeIn groups j .sector) → (begin k w ≤ j) × (j ≤ begin k w + k)
-    own w j l n = go (which k j l)
-      where
-        go : (u : Side) × (i : ℕ) × (i ≤ k) × (j ≡ begin k u + i) → (begin k w ≤ j) × (j ≤ begin k w + k)
-        go (u, i, m, e) =
-            subst (λ (s : Side). (begin k s ≤ j) × (j ≤ begin k s + k))
-            (same-side v z u w (storeIn groups j .sector) (rw e (near-stores u i m)) n) (omega arith, omega arith)
+    own w =
+        by-side k (λ (j : ℕ). near w v (storeIn groups j .sector) → (begin k w ≤ j) × (j ≤ begin k w + k)) (λ u i m n.
+        subst (λ (s : Side). (begin k s ≤ begin k u + i) × (begin k u + i ≤ begin k s + k))
+        (same-side v z u w (storeIn groups (begin k u + i) .sector) (near-stores u i m) n) (omega arith, omega arith))
 
     pub side : (w : Side) → OneSide.Side (storeIn groups) (k + 1 + k + 1) (begin k w) k (areaSector w (spare (c w)) v) (blockSector w v) r (newBlock (c w) t r) (near w v)
     side w =

@@ -1,11 +1,13 @@
 -- `format::first_fields` meets its contract. Assumes nothing.
-use Rattle.format.proofs.Filling.{record-small, fields-made}
+use lib.ListN.{length}
+use Rattle.layout.proofs.Laws.{length-fits}
+use Rattle.format.proofs.Filling.{fields-made}
 use borrow.Author.Needs.{needs}
 use Rattle.format.proofs.first_fields.Statement.{statement}
 use Rattle.format.proofs.first_fields.Tie as tie
 
 cast-t6 : tie.Need-cast-t6
-cast-t6 c = record { fits = record-small (c .before .args .r .now) (c .before .pre) }
+cast-t6 c = record { fits = length-fits (length (c .before .args .r .now)) (c .before .pre) }
 
 checksum-requires : tie.Need-checksum-requires
 checksum-requires c κs = search needs
