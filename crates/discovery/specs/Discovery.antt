@@ -24,6 +24,7 @@ use Rattle.discovery.specs.declared.Other.{Other}
 use Rattle.discovery.specs.declared.Other.the-variants.{Both, One}
 use Rattle.discovery.specs.declared.Answer.{Answer}
 use Rattle.discovery.specs.declared.Answer.the-variants.{Found, Refused}
+use Rattle.discovery.specs.declared.View.{View}
 use Rattle.discovery.specs.Copy.{areaBytes, entryIn, whole, newest, present, readingIn}
 
 -- which copy and area, the length and time
@@ -99,6 +100,10 @@ inStepOf (Verdict.Accepted x) (Verdict.Accepted y) u f b = (sameDevice x y && u)
 -- document 01's 'in step'
 unfoldable pub inStep : List ℕ → List ℕ → Bool
 inStep f b = sized f b && inStepOf (readingIn f .verdict) (readingIn b .verdict) (sameUuids (readingIn f) (readingIn b)) f b
+
+-- what `survey` answers: both at once
+abbrev pub surveyed : List ℕ → List ℕ → View
+surveyed f b = record { answer = discovery f b; step = inStep f b }
 
 -- the copy on a side
 abbrev pub copyOn : Side → List ℕ → List ℕ → List ℕ

@@ -1,5 +1,5 @@
--- What is seen of two copies at once: what discovery answers, and whether they are in step; and the tests by which `survey`
--- knows the second from the first without a second look at the copies. Assumes nothing.
+-- How `survey` knows whether two copies are in step from their present records and from what discovery answers for them, without
+-- a second look at the copies. Private contracts cite this; nothing public does. Assumes nothing.
 use Prim.Native.Nat.{ℕ}
 use mathlib.Core.Bool.{Bool, true, false}
 use mathlib.Core.List.{List}
@@ -14,13 +14,9 @@ use Rattle.discovery.specs.declared.Answer.{Answer}
 use Rattle.discovery.specs.declared.Answer.the-variants.{Found, Refused}
 use Rattle.discovery.specs.declared.View.{View}
 use Rattle.discovery.specs.Copy.{newest, present}
-use Rattle.discovery.specs.Discovery.{togetherOf, decide, discovery, stepped, inStepOf, inStep}
+use Rattle.discovery.specs.Discovery.{togetherOf, decide, stepped, inStepOf}
 
--- what `survey` answers
-abbrev pub surveyed : List ℕ → List ℕ → View
-surveyed f b = record { answer = discovery f b; step = inStep f b }
-
--- the same, by what reading the two blocks answered
+-- what `survey` answers, by what reading the two blocks answered
 abbrev pub surveyOf : Verdict → Verdict → Bool → List ℕ → List ℕ → View
 surveyOf v w u f b = record { answer = decide v w u f b; step = inStepOf v w u f b }
 

@@ -19,7 +19,8 @@ use Rattle.record.proofs.Meaning.{accepted}
 use Rattle.record.proofs.Partition.{counted, holds-in}
 use Rattle.room.specs.declared.Run.{Run}
 use Rattle.examples.specs.Examples.{device, pair, inRow, segments, nine}
-use Rattle.room.specs.Runs.{runFrom, runAt, noRun, runCount, longEnough, fitAt, holderOf, lowestStart}
+use Rattle.room.specs.Runs.{runFrom, runAt, noRun, runCount, longEnough, fitAt}
+use Rattle.room.specs.Searching.{holderOf, lowestStart}
 use Rattle.room.proofs.Runs.{HeldUpTo, held-none, next-free-here, next-free-end, run-some, run-none, OnRun, at-first, on-run, run-is, count-more, count-done}
 
 -- 11. Segments (2,048, 100) and (2,147, 1): 19. With (2,148, 1) instead: accepted.

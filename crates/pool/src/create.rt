@@ -2,7 +2,6 @@
 use crate::find;
 use crate::image;
 use crate::words::complain;
-use crate::words::is_word;
 use crate::words::refused;
 use crate::words::say;
 use block::Time;
@@ -86,7 +85,7 @@ fn make(fd: i32, path: &[u8], pool: &[u8], uuid: &[u8], anyway: bool) {
 }
 
 // Formats the image at a path, with the UUIDs that the command line has.
-pub fn run(path: &[u8]) {
+pub(crate) fn run(path: &[u8]) {
     let mut pool = [0u8; 64];
     let mut uuid = [0u8; 64];
     let mut word = [0u8; 16];
@@ -107,7 +106,7 @@ pub fn run(path: &[u8]) {
         path,
         &pool[..p],
         &uuid[..u],
-        is_word(&word[..w], b"replace"),
+        endian::same(&word[..w], b"replace"),
     );
     libc::close(fd);
 }

@@ -9,7 +9,7 @@ use layout::Device;
 use layout::Side;
 
 // The smallest device, in sectors.
-pub const SMALLEST: u64 = 2097152;
+pub(crate) const SMALLEST: u64 = 2097152;
 
 // The device's numbers as the block in a sector says them; 0 in each where it is refused or cannot be read.
 fn numbers_at(fd: i32, sector: u64) -> Device {
@@ -29,7 +29,7 @@ fn numbers_at(fd: i32, sector: u64) -> Device {
 }
 
 // The device's numbers: the front's, or, where it is refused, those of the block at the device's end.
-pub fn numbers(fd: i32, sectors: u64) -> Device {
+pub(crate) fn numbers(fd: i32, sectors: u64) -> Device {
     let d = numbers_at(fd, 1);
     if d.sectors != 0 {
         return d;
@@ -41,7 +41,7 @@ pub fn numbers(fd: i32, sectors: u64) -> Device {
 }
 
 // Whether a block can be read at all, at either end of an image with n sectors.
-pub fn readable(fd: i32, n: u64) -> bool {
+pub(crate) fn readable(fd: i32, n: u64) -> bool {
     let mut s = [0u8; 512];
     let front = image::read(fd, 1, &mut s);
     if n < 7 {
@@ -74,7 +74,7 @@ fn print_block(r: Reading) {
 }
 
 // Prints discovery's line for two copies, and the identity of the first that is accepted.
-pub fn print_found(front: &[u8], back: &[u8]) {
+pub(crate) fn print_found(front: &[u8], back: &[u8]) {
     let mut line = [0u8; 128];
     let k = dump_line::line(front, back, &mut line);
     print(endian::window(&line, 0, k));
@@ -121,7 +121,7 @@ fn show(fd: i32, path: &[u8]) {
 }
 
 // Prints what is found in the image at a path.
-pub fn run(path: &[u8]) {
+pub(crate) fn run(path: &[u8]) {
     let fd = os::open_read(path);
     if fd < 0 {
         os::fail(path);

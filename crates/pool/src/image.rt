@@ -8,7 +8,7 @@ use layout::Side;
 const LAST: u64 = 18014398509481982;
 
 // How many whole sectors the image has; 0 where that cannot be told.
-pub fn sectors(fd: i32) -> u64 {
+pub(crate) fn sectors(fd: i32) -> u64 {
     let n = libc::lseek(fd, 0, libc::SEEK_END);
     if n < 0 {
         return 0;
@@ -26,7 +26,7 @@ fn seek(fd: i32, sector: u64) -> bool {
 }
 
 // Reads from a sector on until out is full; whether it was.
-pub fn read(fd: i32, sector: u64, out: &mut [u8]) -> bool {
+pub(crate) fn read(fd: i32, sector: u64, out: &mut [u8]) -> bool {
     if !seek(fd, sector) {
         return false;
     }
@@ -35,7 +35,7 @@ pub fn read(fd: i32, sector: u64, out: &mut [u8]) -> bool {
 }
 
 // Writes from a sector on; whether all was written.
-pub fn write(fd: i32, sector: u64, s: &[u8]) -> bool {
+pub(crate) fn write(fd: i32, sector: u64, s: &[u8]) -> bool {
     if !seek(fd, sector) {
         return false;
     }
@@ -72,7 +72,7 @@ fn read_area(fd: i32, sector: u64, copy: &mut [u8], at: usize) -> bool {
 }
 
 // A side's copy as it is lent to the library; whether all of it was read.
-pub fn read_copy(fd: i32, side: Side, d: Device, copy: &mut [u8]) -> bool {
+pub(crate) fn read_copy(fd: i32, side: Side, d: Device, copy: &mut [u8]) -> bool {
     let a = layout::area_sector(side, Area::A, d);
     let b = layout::area_sector(side, Area::B, d);
     let h = read_header(fd, header(side, d), copy);
@@ -82,7 +82,7 @@ pub fn read_copy(fd: i32, side: Side, d: Device, copy: &mut [u8]) -> bool {
 }
 
 // Writes a side's copy to its places; whether all was written. The header comes last.
-pub fn write_copy(fd: i32, side: Side, d: Device, copy: &[u8]) -> bool {
+pub(crate) fn write_copy(fd: i32, side: Side, d: Device, copy: &[u8]) -> bool {
     let a = layout::area_offset(Area::A);
     let b = layout::area_offset(Area::B);
     let p = write(

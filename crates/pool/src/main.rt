@@ -16,7 +16,6 @@ mod image;
 mod repair;
 mod words;
 
-use words::is_word;
 use words::say;
 
 // Says what the program takes.
@@ -26,15 +25,15 @@ fn usage() {
 
 // Does what the first argument says with the image that the second names.
 fn run(word: &[u8], path: &[u8]) {
-    if is_word(word, b"find") {
+    if endian::same(word, b"find") {
         find::run(path);
         return;
     }
-    if is_word(word, b"format") {
+    if endian::same(word, b"format") {
         create::run(path);
         return;
     }
-    if is_word(word, b"mend") {
+    if endian::same(word, b"mend") {
         repair::run(path);
         return;
     }

@@ -86,7 +86,7 @@ fn work(fd: i32, path: &[u8]) {
 }
 
 // Mends the image at a path.
-pub fn run(path: &[u8]) {
+pub(crate) fn run(path: &[u8]) {
     let fd = os::open_update(path);
     if fd < 0 {
         os::fail(path);

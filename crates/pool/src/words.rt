@@ -1,22 +1,22 @@
 // Lines on standard error and output, and words of the command line. Assumes what `io` and `libc` do.
 
 // A line on standard error.
-pub fn say(s: &[u8]) {
+pub(crate) fn say(s: &[u8]) {
     io::write_all(libc::STDERR_FILENO, s);
 }
 
 // On standard output.
-pub fn print(s: &[u8]) {
+pub(crate) fn print(s: &[u8]) {
     io::write_all(libc::STDOUT_FILENO, s);
 }
 
 // A number on standard output.
-pub fn number(n: u64) {
+pub(crate) fn number(n: u64) {
     io::print_decimal(libc::STDOUT_FILENO, n);
 }
 
 // Says of an image what is wrong with it.
-pub fn complain(path: &[u8], what: &[u8]) {
+pub(crate) fn complain(path: &[u8], what: &[u8]) {
     say(path);
     say(b": ");
     say(what);
@@ -24,14 +24,9 @@ pub fn complain(path: &[u8], what: &[u8]) {
 }
 
 // The same with a refusal number.
-pub fn refused(path: &[u8], n: u8) {
+pub(crate) fn refused(path: &[u8], n: u8) {
     say(path);
     say(b": refused ");
     io::print_decimal(libc::STDERR_FILENO, n as u64);
     say(b"\n");
-}
-
-// Whether a is the word b.
-pub fn is_word(a: &[u8], b: &[u8]) -> bool {
-    endian::same(a, b)
 }

@@ -17,7 +17,8 @@ use Rattle.record.proofs.Search.{least-holds}
 use Rattle.record.proofs.Meaning.{Accepted, accepted}
 use Rattle.record.proofs.Partition.{ends, counted}
 use Rattle.room.specs.declared.Run.{Run}
-use Rattle.room.specs.Runs.{runAt, longEnough, fitAt, fitting, fitRun, endRun}
+use Rattle.room.specs.Runs.{runAt, longEnough, fitAt, fitting}
+use Rattle.room.specs.Searching.{fitRun, endRun}
 use Rattle.room.specs.Answers.{fitTests}
 
 -- the free total from the allocated sectors

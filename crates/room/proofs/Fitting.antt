@@ -16,7 +16,8 @@ use Rattle.record.proofs.Ascending.{InOrder, edge-first}
 use Rattle.record.proofs.Meaning.{Accepted}
 use Rattle.record.proofs.Partition.{ends}
 use Rattle.room.specs.declared.Run.{Run}
-use Rattle.room.specs.Runs.{runFrom, longEnough, fitRun}
+use Rattle.room.specs.Runs.{runFrom, longEnough}
+use Rattle.room.specs.Searching.{fitRun}
 use Rattle.room.proofs.Runs.{HeldUpTo, held-none, AtRun, OnRun, at-first, on-run, fit-more, fit-found, fit-none}
 use Rattle.room.proofs.Ordered.{Standing, Onward, onward, run-before, run-after, run-past}
 

@@ -17,7 +17,8 @@ use Rattle.record.specs.Sectors.{isFree}
 use Rattle.record.proofs.Search.{least-below, least-holds}
 use Rattle.record.proofs.Meaning.{Accepted}
 use Rattle.room.specs.declared.Run.{Run}
-use Rattle.room.specs.Runs.{nextFree, runEnd, edge, runAt, noRun, runCount, longEnough, fitAt, fitting, endRun}
+use Rattle.room.specs.Runs.{nextFree, runEnd, edge, runAt, noRun, runCount, longEnough, fitAt, fitting}
+use Rattle.room.specs.Searching.{endRun}
 use Rattle.room.proofs.Runs.{both, low-not-free, free-high, next-free-before, next-taken-taken, RunFacts, run-facts, run-over, run-stays, edge-zero, edge-suc, AtRun, OnRun, at-first, on-run, runs-few}
 
 -- where a run is looked for is not free

@@ -20,7 +20,8 @@ use Rattle.record.proofs.Accept.{leb-shift}
 use Rattle.record.proofs.Ascending.{InOrder, edge-first, edge-more}
 use Rattle.record.proofs.Meaning.{Accepted}
 use Rattle.record.proofs.Partition.{holds-in, not-holds-low, not-holds-high}
-use Rattle.room.specs.Runs.{nextFree, nextTaken, runEnd, runFrom, standsAt}
+use Rattle.room.specs.Runs.{nextFree, nextTaken, runEnd, runFrom}
+use Rattle.room.specs.Searching.{standsAt}
 use Rattle.room.proofs.Runs.{HeldUpTo, held-more, passed-not-free, not-held-free, held-not-free, high-not-free, next-free-found, next-taken-is, next-free-end, run-none}
 
 -- the test of a hint, as the code has it: nothing before the first place, a segment that begins past y, and one that does not

@@ -22,7 +22,8 @@ use Rattle.record.proofs.Search.{every-all, every-false, total-suc, least-le, l
 use Rattle.record.proofs.Meaning.{Accepted}
 use Rattle.record.proofs.Partition.{in-within, within-low, within-high, holds-in, not-holds-low, not-holds-high, ends}
 use Rattle.room.specs.declared.Run.{Run}
-use Rattle.room.specs.Runs.{freeFrom, nextFree, takenFrom, nextTaken, runEnd, runFrom, edge, runAt, noRun, runCount, longEnough, fitAt, fitting, endRun, fitRun, heldAt, holderOf, lower, lowestStart}
+use Rattle.room.specs.Runs.{freeFrom, nextFree, takenFrom, nextTaken, runEnd, runFrom, edge, runAt, noRun, runCount, longEnough, fitAt, fitting}
+use Rattle.room.specs.Searching.{endRun, fitRun, heldAt, holderOf, lower, lowestStart}
 
 pub not-true-false : (b : Bool) → (b ≡ true → ⊥) → b ≡ false
 not-true-false true h = absurd (h refl)

@@ -1,5 +1,5 @@
 -- `room::holder_of` meets its contract: no segment that was passed holds x. Assumes nothing.
-use Rattle.room.specs.Runs.{heldAt, holderOf}
+use Rattle.room.specs.Searching.{heldAt, holderOf}
 use Rattle.record.proofs.Search.{least-zero, least-more, least-found}
 use Rattle.record.specs.Sectors.{holds}
 use Rattle.record.specs.Items.{count}

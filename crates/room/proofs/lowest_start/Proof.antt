@@ -1,6 +1,6 @@
 -- `room::lowest_start` meets its contract: b is the lowest start of the segments passed. Assumes nothing.
 use Rattle.room.proofs.Runs.{lowest-zero, lowest-more}
-use Rattle.room.specs.Runs.{lower, lowestStart}
+use Rattle.room.specs.Searching.{lower, lowestStart}
 use Rattle.record.specs.Items.{count, startAt}
 use borrow.Author.Needs.{needs}
 use native.Mathlib.Omega.{arith}

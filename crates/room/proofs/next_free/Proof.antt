@@ -1,6 +1,6 @@
 -- `room::next_free` meets its contract: the sectors passed are held, from the data range's start on. Assumes nothing.
 use Rattle.room.proofs.Runs.{HeldUpTo, held-none, held-more, holds-high, holder-holds, next-free-here, next-free-end}
-use Rattle.room.specs.Runs.{holderOf}
+use Rattle.room.specs.Searching.{holderOf}
 use Rattle.record.proofs.Meaning.{accepted}
 use Rattle.record.specs.Sectors.{holds}
 use Rattle.record.specs.Items.{count, startAt, sectorsAt, segmentAt}

@@ -4,7 +4,7 @@ use mathlib.Core.Path.{_≡_, ap, _∙_}
 use mathlib.Core.List.{List}
 use Rattle.layout.specs.declared.Device.{Device}
 use Rattle.layout.specs.Places.{dataStart, dataEnd}
-use Rattle.room.specs.Runs.{standsAt}
+use Rattle.room.specs.Searching.{standsAt}
 use Rattle.record.specs.Items.{count, startAt}
 use Rattle.record.proofs.Ascending.{InOrder, in-order}
 use Rattle.record.proofs.Meaning.{Accepted, accepted}

@@ -2,7 +2,7 @@
 use Prim.Native.Nat.{ℕ, max}
 use mathlib.Core.Path.{sym, ap, _∙_}
 use mathlib.Core.List.{List}
-use Rattle.room.specs.Runs.{standsAt}
+use Rattle.room.specs.Searching.{standsAt}
 use borrow.Author.Needs.{needs}
 use Rattle.room.proofs.run_on.Statement.{statement}
 use Rattle.room.proofs.run_on.Tie as tie

@@ -1,5 +1,5 @@
 -- `room::stands` meets its contract. Assumes nothing.
-use Rattle.room.specs.Runs.{standsAt}
+use Rattle.room.specs.Searching.{standsAt}
 use borrow.Author.Needs.{needs}
 use Rattle.room.proofs.stands.Statement.{statement}
 use Rattle.room.proofs.stands.Tie as tie
