@@ -3,7 +3,7 @@
  *
  * Link with libcapi.a. It needs no operating system: it calls nothing but the compiler's memory functions, keeps no state,
  * and allocates nothing. Every call is proved to end, for any bytes and numbers, and to stay within the memory it is lent.
- * No call takes more than 12 KiB of stack; tests/stack.c measures that.
+ * No call takes more than 16 KiB of stack; tests/stack.c measures that.
  *
  * A slice is a pointer and a length. A pointer is never null unless its length is 0, and slices that a call may change overlap
  * nothing else that it is lent. These two rules are the caller's; everything else is tested.

@@ -7,7 +7,7 @@
 
 #include "amseokbin.h"
 
-enum { ROOM = 1 << 18, MOST = 12 * 1024, SEGMENTS = 409, FILL = 0xa5 };
+enum { ROOM = 1 << 18, MOST = 16 * 1024, SEGMENTS = 409, FILL = 0xa5 };
 
 static unsigned char stack[ROOM];
 static ucontext_t outside, inside;
