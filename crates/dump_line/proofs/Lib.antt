@@ -1,4 +1,3 @@
 -- The laws that callers cite.
-pub mod Decimals
-pub mod Texts
+pub mod Lengths
 pub mod Lines

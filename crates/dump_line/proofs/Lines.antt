@@ -13,8 +13,9 @@ use Rattle.layout.specs.declared.Area.the-variants.{A}
 use Rattle.discovery.specs.declared.Other.the-variants.{Both}
 use Rattle.discovery.specs.declared.Answer.the-variants.{Found, Refused}
 use Rattle.discovery.specs.Discovery.{sized, discovery}
-use Rattle.dump_line.specs.Decimal.{digits}
-use Rattle.dump_line.specs.Line.{concat, lineOf, dumpLine}
+use Rattle.text.specs.Decimal.{digits}
+use Rattle.text.specs.Text.{concat}
+use Rattle.dump_line.specs.Line.{lineOf, dumpLine}
 
 both-false : (x y : Bool) → (x ≡ true → y ≡ true → ⊥) → x && y ≡ false
 both-false true true h = absurd (h refl refl)

@@ -1,7 +1,7 @@
 -- The line that the dump program prints: document 01, 'Discovery'. Words are ASCII bytes. Assumes nothing.
 use Prim.Native.Nat.{ℕ}
 use mathlib.Core.Bool.{cond}
-use mathlib.Core.List.{List, [], _∷_, _++_}
+use mathlib.Core.List.{List, [], _∷_}
 use lib.ListN.{length, take, drop}
 use Rattle.endian.specs.Bytes.{fits}
 use Rattle.layout.specs.Places.{copyBytes}
@@ -14,7 +14,8 @@ use Rattle.discovery.specs.declared.Other.the-variants.{Both, One}
 use Rattle.discovery.specs.declared.Answer.{Answer}
 use Rattle.discovery.specs.declared.Answer.the-variants.{Found, Refused}
 use Rattle.discovery.specs.Discovery.{discovery}
-use Rattle.dump_line.specs.Decimal.{decimal}
+use Rattle.text.specs.Decimal.{decimal}
+use Rattle.text.specs.Text.{concat}
 
 -- "front " or "back "
 abbrev pub sideWord : Side → List ℕ
@@ -50,10 +51,6 @@ pieces (Refused n) = refusedWord ∷ decimal n ∷ newline ∷ []
 pieces (Found r o) =
     foundWord ∷ sideWord (r .side) ∷ areaWord (r .area) ∷ decimal (r .bytes) ∷ space ∷ decimal (r .seconds) ∷ space
     ∷ decimal (r .nanoseconds) ∷ space ∷ otherWord o ∷ newline ∷ []
-
-unfoldable pub concat : List (List ℕ) → List ℕ
-concat [] = []
-concat (p ∷ ps) = p ++ concat ps
 
 -- the line for an answer of discovery
 unfoldable pub lineOf : Answer → List ℕ

@@ -1,82 +1,25 @@
 // The line that the dump program prints for two copies: what discovery answers, in words and decimal numbers.
 // Every call is total. Assumes nothing.
 ghost use mathlib.Core.Path.{_≡_};
-ghost use mathlib.Core.List.{[]};
-ghost use Prim.Native.Nat.{_+_, _<_};
 ghost use Rattle.endian.specs.Bytes.{splice};
 ghost use Rattle.discovery.specs.declared.Answer.the-variants as Answer;
 ghost use Rattle.discovery.specs.Discovery.{discovery};
-ghost use Rattle.dump_line.specs.Decimal.{decimal};
+ghost use Rattle.text.specs.Text.{text, added};
 ghost use Rattle.dump_line.specs.Line.{sideWord, areaWord, otherWord, lineOf, dumpLine, lengthPut};
-ghost use Rattle.dump_line.specs.Text.{text, added};
 use discovery::Answer;
 use discovery::Other;
 use discovery::Record;
 use layout::Area;
 use layout::Side;
-
-// A text in the making: the first `used` of its bytes. There is room for every line.
-struct Text {
-    bytes: [u8; 128],
-    used: usize,
-}
-
-// The empty text.
-fn empty() -> Text
-    ensures { λ r. ⌜ text r ≡ [] ⌝ }
-{
-    Text {
-        bytes: [0u8; 128],
-        used: 0,
-    }
-}
-
-// The text with one more piece, or as it was where the piece has no room.
-fn add(t: Text, piece: &[u8]) -> Text
-    ensures { λ r. ⌜ text r ≡ added (text t) (now (piece .entry)) ⌝ }
-{
-    let mut bytes = t.bytes;
-    let at = t.used;
-    if endian::put(&mut bytes, at, piece) != 0 {
-        return t;
-    }
-    Text {
-        bytes,
-        used: at + piece.len(),
-    }
-}
-
-// The ASCII digit of a number below ten.
-fn digit(d: u64) -> u8
-    requires { ⌜ d < 10 ⌝ }
-    ensures { λ r. ⌜ r ≡ 48 + d ⌝ }
-{
-    48 + d as u8
-}
-
-// The text with a number in decimal.
-fn add_decimal(t: Text, v: u64) -> Text
-    ensures { λ r. ⌜ text r ≡ added (text t) (decimal v) ⌝ }
-{
-    let mut d = [0u8; 20];
-    let mut x = v;
-    let mut i = 19;
-    while 10 <= x {
-        d[i] = digit(x % 10);
-        x = x / 10;
-        i -= 1;
-    }
-    d[i] = digit(x);
-    add(t, &d[i..])
-}
+use text::Text;
 
 // The text with the copy's name and a space.
 fn add_side(t: Text, s: Side) -> Text
     ensures { λ r. ⌜ text r ≡ added (text t) (sideWord s) ⌝ }
 {
     match s {
-        Side::Front => add(t, b"front "),
-        Side::Back => add(t, b"back "),
+        Side::Front => t.add(b"front "),
+        Side::Back => t.add(b"back "),
     }
 }
 
@@ -85,8 +28,8 @@ fn add_area(t: Text, x: Area) -> Text
     ensures { λ r. ⌜ text r ≡ added (text t) (areaWord x) ⌝ }
 {
     match x {
-        Area::A => add(t, b"a "),
-        Area::B => add(t, b"b "),
+        Area::A => t.add(b"a "),
+        Area::B => t.add(b"b "),
     }
 }
 
@@ -95,8 +38,8 @@ fn add_other(t: Text, o: Other) -> Text
     ensures { λ r. ⌜ text r ≡ added (text t) (otherWord o) ⌝ }
 {
     match o {
-        Other::Both => add(t, b"both"),
-        Other::One(n) => add_decimal(t, n as u64),
+        Other::Both => t.add(b"both"),
+        Other::One(n) => t.decimal(n as u64),
     }
 }
 
@@ -104,7 +47,7 @@ fn add_other(t: Text, o: Other) -> Text
 fn refused(n: u8) -> Text
     ensures { λ r. ⌜ text r ≡ lineOf (Answer.Refused n) ⌝ }
 {
-    add(add_decimal(add(empty(), b"refused "), n as u64), b"\n")
+    Text::new().add(b"refused ").decimal(n as u64).add(b"\n")
 }
 
 // The line for a found record: copy, area, length, seconds, nanoseconds, and the other copy.
@@ -113,11 +56,11 @@ fn found(r: Record, o: Other) -> Text
 {
     let side = r.side;
     let area = r.area;
-    let place = add_area(add_side(add(empty(), b"found "), side), area);
-    let length = add(add_decimal(place, r.bytes as u64), b" ");
-    let seconds = add(add_decimal(length, r.seconds), b" ");
-    let time = add(add_decimal(seconds, r.nanoseconds as u64), b" ");
-    add(add_other(time, o), b"\n")
+    let place = add_area(add_side(Text::new().add(b"found "), side), area);
+    let length = place.decimal(r.bytes as u64).add(b" ");
+    let seconds = length.decimal(r.seconds).add(b" ");
+    let time = seconds.decimal(r.nanoseconds as u64).add(b" ");
+    add_other(time, o).add(b"\n")
 }
 
 // The line for an answer of discovery.

@@ -15,17 +15,17 @@ add-requires c κs = search needs
 enum-known-o : tie.Need-enum-known-o
 enum-known-o c = search needs
 
-cast-add-decimal : tie.Need-cast-add-decimal
-cast-add-decimal c = search needs
+cast-decimal : tie.Need-cast-decimal
+cast-decimal c = search needs
 
-add-decimal-requires : tie.Need-add-decimal-requires
-add-decimal-requires c κs = search needs
+decimal-requires : tie.Need-decimal-requires
+decimal-requires c κs = search needs
 
 returns : tie.Need-returns
 returns c = rw (c .before .before .enum-told .given .1) (c .add .ensures)
 
 returns-2 : tie.Need-returns-2
-returns-2 c = rw (c .before .before .o .given .1) (c .add-decimal .ensures)
+returns-2 c = rw (c .before .before .o .given .1) (c .decimal .ensures)
 
 pub add-other-spec : {M : Type 1} → statement M
 add-other-spec =
@@ -35,7 +35,7 @@ add-other-spec =
     slice-aggregate-add
     add-requires
     enum-known-o
-    cast-add-decimal
-    add-decimal-requires
+    cast-decimal
+    decimal-requires
     returns
     returns-2)

@@ -3,10 +3,10 @@ use Prim.Native.Nat.{ℕ}
 use mathlib.Core.Path.{_≡_, ap, _∙_}
 use mathlib.Core.List.{List}
 use Rattle.endian.specs.Bytes.{window, splice}
+use Rattle.text.specs.Text.{text}
 use Rattle.discovery.specs.Discovery.{discovery}
 use Rattle.dump_line.specs.Line.{lineOf}
-use Rattle.dump_line.specs.Text.{text}
-use Rattle.dump_line.proofs.Texts.{line-short, line-put}
+use Rattle.dump_line.proofs.Lengths.{line-short, line-put}
 use borrow.Author.Needs.{needs}
 use Rattle.dump_line.proofs.line.Statement.{statement}
 use Rattle.dump_line.proofs.line.Tie as tie

@@ -1,12 +1,13 @@
 -- `dump_line::refused` meets its contract. Assumes nothing.
-use Rattle.dump_line.proofs.Texts.{addedAll, line-text}
+use Rattle.text.proofs.Texts.{addedAll}
+use Rattle.dump_line.proofs.Lengths.{line-text}
 use Rattle.discovery.specs.declared.Answer.the-variants as Answer
 use borrow.Author.Needs.{needs}
 use Rattle.dump_line.proofs.refused.Statement.{statement}
 use Rattle.dump_line.proofs.refused.Tie as tie
 
-empty-requires : tie.Need-empty-requires
-empty-requires c κs = search needs
+new-requires : tie.Need-new-requires
+new-requires c κs = search needs
 
 slice-aggregate-add : tie.Need-slice-aggregate-add
 slice-aggregate-add c = search needs
@@ -14,8 +15,8 @@ slice-aggregate-add c = search needs
 add-requires : tie.Need-add-requires
 add-requires c κs = search needs
 
-add-decimal-requires : tie.Need-add-decimal-requires
-add-decimal-requires c κs = search needs
+decimal-requires : tie.Need-decimal-requires
+decimal-requires c κs = search needs
 
 slice-aggregate-add-2 : tie.Need-slice-aggregate-add-2
 slice-aggregate-add-2 c = search needs
@@ -25,16 +26,16 @@ add-requires-2 c κs = search needs
 
 returns : tie.Need-returns
 unfolding addedAll
-returns c = line-text (Answer.Refused (c .before .before .before .before .before .before .args .n)) _ (rw (c .add2 .ensures, c .before .before .add-decimal .ensures, c .before .before .before .add .ensures, c .before .before .before .before .before .empty .ensures))
+returns c = line-text (Answer.Refused (c .before .before .before .before .before .before .args .n)) _ (rw (c .add2 .ensures, c .before .before .decimal .ensures, c .before .before .before .add .ensures, c .before .before .before .before .before .new .ensures))
 
 pub refused-spec : {M : Type 1} → statement M
 refused-spec =
     tie.close
     (tie.spec
-    empty-requires
+    new-requires
     slice-aggregate-add
     add-requires
-    add-decimal-requires
+    decimal-requires
     slice-aggregate-add-2
     add-requires-2
     returns)

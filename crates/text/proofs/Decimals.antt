@@ -13,7 +13,7 @@ use lib.ListN.{length, getD, drop, set, length-append, length-set, List·getD-ap
 use lib.Seq.{drop-cons, getD-set-same, drop-set-lt}
 use Rattle.endian.specs.Bytes.{all}
 use Rattle.endian.proofs.Tests.{and-left, and-right, and-both}
-use Rattle.dump_line.specs.Decimal.{digits, decimal, valueAfter, value, isDigit}
+use Rattle.text.specs.Decimal.{digits, decimal, valueAfter, value, isDigit}
 
 pub digits-one : (k n : ℕ) → n < 10 → digits (suc k) n ≡ (48 + n) ∷ []
 unfolding digits

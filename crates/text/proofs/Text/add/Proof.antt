@@ -1,14 +1,14 @@
--- `dump_line::add` meets its contract. Assumes nothing.
+-- `text::Text::add` meets its contract. Assumes nothing.
 use Prim.Native.Nat.{ℕ, _+_}
 use mathlib.Core.Path.{ap, _∙_}
 use mathlib.Core.List.{List}
 use native.Mathlib.Omega.{arith}
 use lib.ListN.{length, take}
-use Rattle.dump_line.specs.Text.{text}
-use Rattle.dump_line.proofs.Texts.{fits-of, short-of, unplaced, placed}
+use Rattle.text.specs.Text.{text}
+use Rattle.text.proofs.Texts.{fits-of, short-of, unplaced, placed}
 use borrow.Author.Needs.{needs}
-use Rattle.dump_line.proofs.add.Statement.{statement}
-use Rattle.dump_line.proofs.add.Tie as tie
+use Rattle.text.proofs.Text.add.Statement.{statement}
+use Rattle.text.proofs.Text.add.Tie as tie
 
 slice-aggregate-put : tie.Need-slice-aggregate-put
 slice-aggregate-put c = search needs
@@ -33,8 +33,8 @@ add-t11 c =
 returns-2 : tie.Need-returns-2
 unfolding text
 returns-2 c =
-    let b : List ℕ = c .before .before .before .before .before .before .args .t .bytes in
-    let u : ℕ = c .before .before .before .before .before .before .args .t .used in
+    let b : List ℕ = c .before .before .before .before .before .before .args .self .bytes in
+    let u : ℕ = c .before .before .before .before .before .before .args .self .used in
     let p : List ℕ = c .before .before .before .before .before .before .args .piece .now in
     ap (take (u + length p)) (c .before .before .put .ensures .1)
     ∙ placed b u p (search needs) (fits-of _ _ _ _ (c .before .before .put .ensures .0) (c .if1 .left))

@@ -1,0 +1,67 @@
+-- A line's length: there is room for every line, so that its pieces make it whole; and what putting it answers.
+-- Assumes nothing.
+use Prim.Native.Nat.{ℕ, _+_, _≤_, _<_}
+use mathlib.Core.Path.{_≡_, _∙_}
+use mathlib.Core.List.{List, []}
+use native.Mathlib.Omega.{arith}
+use lib.Dec.{lit≤}
+use borrow.Author.Tests.{le-leb, lt-leb}
+use lib.ListN.{length, length-append}
+use Rattle.endian.specs.Bytes.{fits, room}
+use Rattle.layout.specs.declared.Side.{Side}
+use Rattle.layout.specs.declared.Side.the-variants.{Front, Back}
+use Rattle.layout.specs.declared.Area.{Area}
+use Rattle.layout.specs.declared.Area.the-variants.{A, B}
+use Rattle.discovery.specs.declared.Other.{Other}
+use Rattle.discovery.specs.declared.Other.the-variants.{Both, One}
+use Rattle.discovery.specs.declared.Answer.{Answer}
+use Rattle.discovery.specs.declared.Answer.the-variants.{Found, Refused}
+use Rattle.text.specs.Text.{concat}
+use Rattle.text.proofs.Decimals.{length-digits}
+use Rattle.text.proofs.Texts.{fits-of, short-of, addedAll, added-all}
+use Rattle.dump_line.specs.Line.{sideWord, areaWord, otherWord, pieces, lineOf, lengthPut}
+
+side-length : (s : Side) → length (sideWord s) ≤ 6
+side-length Front = lit≤ tt
+side-length Back = lit≤ tt
+
+area-length : (x : Area) → length (areaWord x) ≤ 2
+area-length A = lit≤ tt
+area-length B = lit≤ tt
+
+other-length : (o : Other) → length (otherWord o) ≤ 20
+other-length Both = lit≤ tt
+other-length (One n) = length-digits 20 n
+
+-- every line has room
+line-length : (a : Answer) → length (concat (pieces a)) ≤ 128
+unfolding concat
+line-length (Refused n) = simp length-append (omega (arith, length-digits 20 n))
+line-length (Found r o) =
+    simp length-append
+    (omega
+    (arith, side-length (r .side), area-length (r .area), length-digits 20 (r .bytes), length-digits 20 (r .seconds), length-digits 20 (r .nanoseconds), other-length o))
+
+pub line-room : (a : Answer) → length (lineOf a) ≤ 128
+unfolding lineOf
+line-room a = line-length a
+
+-- and is not empty, so that the length 0 says that there was no room
+pub line-some : (a : Answer) → 0 < length (lineOf a)
+unfolding lineOf concat
+line-some (Refused n) = omega arith
+line-some (Found r o) = omega arith
+
+-- a text to which a line's pieces were added is the line
+pub line-text : (a : Answer) (t : List ℕ) → t ≡ addedAll [] (pieces a) → t ≡ lineOf a
+unfolding lineOf
+line-text a t e = e ∙ added-all (pieces a) [] (omega (arith, line-length a))
+
+-- what putting a line at the start of out answers
+pub line-short : (out v w : List ℕ) (r : ℕ) → v ≡ w → r ≡ room out 0 (length v) → (r ≡ 0 → ⊥) → 0 ≡ lengthPut out w
+unfolding lengthPut fits
+line-short out v w r e h z = rw (← e, lt-leb (0 + length v) (length out) (short-of out 0 (length v) r h z))
+
+pub line-put : (out v w : List ℕ) (r : ℕ) → v ≡ w → r ≡ room out 0 (length v) → r ≡ 0 → length v ≡ lengthPut out w
+unfolding lengthPut fits
+line-put out v w r e h z = rw (← e, le-leb (0 + length v) (length out) (fits-of out 0 (length v) r h z))
