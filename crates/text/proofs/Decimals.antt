@@ -103,6 +103,13 @@ decimal-value n h = value-digits 20 n h
 pub decimal-leading : (n : ℕ) → n < 10 ^ 20 → getD (decimal n) 0 0 ≡ 48 → n ≡ 0
 decimal-leading n h e = leading-digit 20 n h e
 
+pub decimal-some : (n : ℕ) → 0 < length (decimal n)
+decimal-some n =
+    elim (decLe 10 n) [
+      | yes h ↦ rw (digits-more 19 n h, length-append) (omega arith)
+      | no h ↦ rw (digits-one 19 n (let m : n < 10 = omega arith in m)) (omega arith)
+    ]
+
 drop-set : (d : List ℕ) (i w : ℕ) → i < length d → drop i (set d i w) ≡ w ∷ drop (i + 1) d
 drop-set d i w h =
     rw (add-one i, drop-cons (set d i w) i 0 (rw length-set h), getD-set-same d i w 0 h, drop-set-lt (suc i) d i w (let l : i < suc i = omega arith in l))
