@@ -1,0 +1,41 @@
+-- What a date means: the day number of a civil date, and that a date is found for each second and each date found.
+-- `proofs/Demand.antt` proves it. Assumes nothing.
+use Prim.Native.Nat.{ℕ, _+_, _-_, _*_, _≤_, _<_}
+use mathlib.Core.Path.{_≡_}
+use Rattle.calendar.specs.declared.Date.{Date}
+use Rattle.calendar.specs.declared.Dated.the-variants.{At, Beyond}
+use Rattle.calendar.specs.Calendar.{yearLength, monthLength, sum, dateOf}
+
+-- a date that there is, from 1970 to 9999
+pub record Valid (d : Date) : Type 0 where
+  pub early : 1970 ≤ d .year
+  pub late : d .year ≤ 9999
+  pub month-low : 1 ≤ d .month
+  pub month-high : d .month ≤ 12
+  pub day-low : 1 ≤ d .day
+  pub day-high : d .day ≤ monthLength (d .year) (d .month)
+  pub hours : d .hour < 24
+  pub minutes : d .minute < 60
+  pub seconds : d .second < 60
+
+-- the days before a date: those of the years and of the months before it, and of the month
+abbrev pub dayNumber : Date → ℕ
+dayNumber d = sum yearLength 1970 (d .year - 1970) + sum (monthLength (d .year)) 1 (d .month - 1) + (d .day - 1)
+
+-- the seconds before it
+abbrev pub secondsOf : Date → ℕ
+secondsOf d = dayNumber d * 86400 + d .hour * 3600 + d .minute * 60 + d .second
+
+-- The date of a number of seconds is one that there is, with so many seconds before it.
+abbrev pub Meaning : Type 0
+Meaning = (s : ℕ) (d : Date) → dateOf s ≡ At d → Valid d × (secondsOf d ≡ s)
+
+-- Every date from 1970 to 9999 is the date of its seconds, so that no two have the same.
+abbrev pub Every : Type 0
+Every = (d : Date) → Valid d → dateOf (secondsOf d) ≡ At d
+
+-- Past the year 9999, and only there, there is none: its years have as many days.
+abbrev pub Past : Type 0
+Past =
+    ((s : ℕ) → sum yearLength 1970 8030 * 86400 ≤ s → dateOf s ≡ Beyond)
+    × ((s : ℕ) → dateOf s ≡ Beyond → sum yearLength 1970 8030 * 86400 ≤ s)
