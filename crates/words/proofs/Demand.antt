@@ -15,9 +15,9 @@ use Rattle.endian.proofs.Tests.{and-left, and-right, all-at}
 use Rattle.text.specs.Decimal.{decimal, value, isDigit}
 use Rattle.text.proofs.Decimals.{all-digits, decimal-value, decimal-some}
 use Rattle.block.specs.Block.{isHex}
-use Rattle.words.specs.declared.Amount.{Amount}
-use Rattle.words.specs.declared.Amount.the-variants.{Is, Nothing}
-use Rattle.words.specs.Words.{numberAfter, numberOf, unitOf, timesOf, sectorsOf, last, dash, dashed, joined, undashed, lower, noId, hexId, idOf}
+use Rattle.words.specs.declared.answers.Number.{Number}
+use Rattle.words.specs.declared.answers.Number.the-variants.{Is, Nothing}
+use Rattle.words.specs.Words.{numberAfter, numberOf, unitOf, timesOf, sectorsOf, last, dash, dashed, joined, undashed, lower, noUuid, hexUuid, uuidOf}
 use Rattle.words.specs.Demand.{ReadBack, DigitsAlone, Sizes, Digits, Dashes}
 use Rattle.words.proofs.Words.{and-false, number-start, undashed-joined, undashed-same}
 
@@ -28,7 +28,7 @@ read-back n h =
     ∙ rw (all-digits 20 n, decimal-value n (omega arith), lt-ltb n (2 ^ 64) h)
 
 -- a choice that says a number was for the first
-said : (b : Bool) (a : Amount) (n : ℕ) → cond b a Nothing ≡ Is n → (b ≡ true) × (a ≡ Is n)
+said : (b : Bool) (a : Number) (n : ℕ) → cond b a Nothing ≡ Is n → (b ≡ true) × (a ≡ Is n)
 said true a n e = (refl, e)
 said false a n e = absurd (let z : _≡_ {A = ℕ} 0 1 = cc in omega arith)
 
@@ -99,7 +99,7 @@ unfolding dashed
 not-dashed s h = rw (ne-eqb (length s) 36 (λ e. omega arith))
 
 pub digits : Digits
-unfolding idOf hexId
+unfolding uuidOf hexUuid
 digits s h a =
     rw (undashed-same s false (not-dashed s h) refl, eq-eqb (length s) 32 h, all-small s a, a)
 
@@ -169,6 +169,6 @@ module _ (a b c d e : List ℕ) (la : length a ≡ 8) (lb : length b ≡ 4) (lc 
       ∙ sym (undashed-same (a ++ (b ++ (c ++ (d ++ e)))) false (not-dashed (a ++ (b ++ (c ++ (d ++ e)))) (simp length-append (omega arith))) refl))
 
 pub dashes : Dashes
-unfolding idOf
+unfolding uuidOf
 dashes a b c d e la lb lc ld le =
-    ap (λ (z : List ℕ). cond (eqb (length z) 32) (hexId (map lower z)) noId) (same-digits a b c d e la lb lc ld le)
+    ap (λ (z : List ℕ). cond (eqb (length z) 32) (hexUuid (map lower z)) noUuid) (same-digits a b c d e la lb lc ld le)

@@ -17,10 +17,10 @@ use Rattle.endian.proofs.Parts.{length-window-fits, splice-next, splice-whole}
 use Rattle.endian.proofs.Tests.{and-left, length-zeros}
 use Rattle.text.specs.Decimal.{valueAfter, isDigit}
 use Rattle.block.specs.Block.{isHex}
-use Rattle.words.specs.declared.Amount.{Amount}
-use Rattle.words.specs.declared.Amount.the-variants.{Is, Nothing}
-use Rattle.words.specs.declared.Id.{Id}
-use Rattle.words.specs.Words.{numberAfter, numberOf, unitOf, timesOf, sectorsOf, last, dash, dashed, joined, undashed, lower, noId, hexId, idOf}
+use Rattle.words.specs.declared.answers.Number.{Number}
+use Rattle.words.specs.declared.answers.Number.the-variants.{Is, Nothing}
+use Rattle.words.specs.declared.answers.Uuid.{Uuid}
+use Rattle.words.specs.Words.{numberAfter, numberOf, unitOf, timesOf, sectorsOf, last, dash, dashed, joined, undashed, lower, noUuid, hexUuid, uuidOf}
 
 -- digits only add
 value-grows : (v : ℕ) (s : List ℕ) → v ≤ valueAfter v s
@@ -92,7 +92,7 @@ module _ (s : List ℕ) (i v : ℕ) (whole : numberAfter v (drop i s) ≡ number
 pub below : (x : ℕ) (r : Bool) → r ≡ ltb x (2 ^ 64) → not r ≡ false → x < 2 ^ 64
 below x r e f = ltb-true x (2 ^ 64) (sym e ∙ not-false r f)
 
-module _ (u : ℕ) (some : 0 < u) (a : Amount) where
+module _ (u : ℕ) (some : 0 < u) (a : Number) where
   pub times-none : a ≡ Nothing → Nothing ≡ timesOf u a
   unfolding timesOf
   times-none e = rw e
@@ -123,7 +123,7 @@ module _ (s : List ℕ) (u : ℕ) (named : u ≡ unitOf (last s)) where
   unfolding sectorsOf
   sectors-number z = rw (le-ltb 0 (unitOf (last s)) (let l : unitOf (last s) ≤ 0 = omega arith in l))
 
-  pub sectors-times : (a r : Amount) → (u ≡ 0 → ⊥) → a ≡ numberOf (take (length s - 1) s) → r ≡ timesOf u a → r ≡ sectorsOf s
+  pub sectors-times : (a r : Number) → (u ≡ 0 → ⊥) → a ≡ numberOf (take (length s - 1) s) → r ≡ timesOf u a → r ≡ sectorsOf s
   unfolding sectorsOf
   sectors-times a r z e f = rw (lt-ltb 0 (unitOf (last s)) (let l : 0 < unitOf (last s) = omega arith in l)) (f ∙ ap₂ timesOf named e)
 
@@ -178,12 +178,12 @@ lower-next d l i w h e f =
 pub lower-done : (d l : List ℕ) (i : ℕ) → length d ≤ i → l ≡ map lower (take i d) ++ drop i d → l ≡ map lower d
 lower-done d l i h f = f ∙ (ap₂ (λ (x y : List ℕ). map lower x ++ y) (take-all i d h) (drop-of-length-le d h) ∙ append-nil (map lower d))
 
-pub hex-none : (l m : List ℕ) (r : Bool) → l ≡ m → r ≡ all isHex l → not r ≡ true → noId ≡ hexId m
-unfolding hexId
+pub hex-none : (l m : List ℕ) (r : Bool) → l ≡ m → r ≡ all isHex l → not r ≡ true → noUuid ≡ hexUuid m
+unfolding hexUuid
 hex-none l m r e t f = rw (← e, ← t, not-true r f)
 
-pub hex-given : (l m : List ℕ) (r : Bool) → l ≡ m → r ≡ all isHex l → not r ≡ false → record { given = true; digits = l } ≡ hexId m
-unfolding hexId
+pub hex-given : (l m : List ℕ) (r : Bool) → l ≡ m → r ≡ all isHex l → not r ≡ false → record { given = true; digits = l } ≡ hexUuid m
+unfolding hexUuid
 hex-given l m r e t f = rw (← e, ← t, not-false r f)
 
 module _ (s : List ℕ) (r : Bool) (tested : r ≡ dashed s) where
@@ -195,16 +195,16 @@ module _ (s : List ℕ) (r : Bool) (tested : r ≡ dashed s) where
   unfolding undashed
   undashed-same f = rw (sym tested ∙ f)
 
-  pub id-dashed : (j : List ℕ) (x : Id) → r ≡ true → j ≡ joined s → x ≡ hexId (map lower j) → x ≡ idOf s
-  unfolding idOf
-  id-dashed j x f e g =
-      rw (undashed-joined f, eq-eqb (length (joined s)) 32 (length-joined s (dashed-length s r tested f))) (g ∙ ap (λ (z : List ℕ). hexId (map lower z)) e)
+  pub uuid-dashed : (j : List ℕ) (x : Uuid) → r ≡ true → j ≡ joined s → x ≡ hexUuid (map lower j) → x ≡ uuidOf s
+  unfolding uuidOf
+  uuid-dashed j x f e g =
+      rw (undashed-joined f, eq-eqb (length (joined s)) 32 (length-joined s (dashed-length s r tested f))) (g ∙ ap (λ (z : List ℕ). hexUuid (map lower z)) e)
 
-  pub id-none : r ≡ false → (length s ≡ 32 → ⊥) → noId ≡ idOf s
-  unfolding idOf
-  id-none f h = rw (undashed-same f, ne-eqb (length s) 32 h)
+  pub uuid-none : r ≡ false → (length s ≡ 32 → ⊥) → noUuid ≡ uuidOf s
+  unfolding uuidOf
+  uuid-none f h = rw (undashed-same f, ne-eqb (length s) 32 h)
 
-  pub id-plain : (d : List ℕ) (x : Id) → r ≡ false → length s ≡ 32 → d ≡ splice (zeros 32) 0 s → x ≡ hexId (map lower d) → x ≡ idOf s
-  unfolding idOf
-  id-plain d x f h e g =
-      rw (undashed-same f, eq-eqb (length s) 32 h) (g ∙ ap (λ (z : List ℕ). hexId (map lower z)) (e ∙ splice-whole (zeros 32) s (h ∙ sym (length-zeros 32))))
+  pub uuid-plain : (d : List ℕ) (x : Uuid) → r ≡ false → length s ≡ 32 → d ≡ splice (zeros 32) 0 s → x ≡ hexUuid (map lower d) → x ≡ uuidOf s
+  unfolding uuidOf
+  uuid-plain d x f h e g =
+      rw (undashed-same f, eq-eqb (length s) 32 h) (g ∙ ap (λ (z : List ℕ). hexUuid (map lower z)) (e ∙ splice-whole (zeros 32) s (h ∙ sym (length-zeros 32))))

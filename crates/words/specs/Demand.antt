@@ -7,8 +7,8 @@ use lib.ListN.{length}
 use Rattle.endian.specs.Bytes.{all}
 use Rattle.text.specs.Decimal.{decimal, value, isDigit}
 use Rattle.block.specs.Block.{isHex}
-use Rattle.words.specs.declared.Amount.the-variants.{Is}
-use Rattle.words.specs.Words.{numberOf, sectorsOf, idOf}
+use Rattle.words.specs.declared.answers.Number.the-variants.{Is}
+use Rattle.words.specs.Words.{numberOf, sectorsOf, uuidOf}
 
 -- Every number of 64 bits is read back from its decimal digits.
 abbrev pub ReadBack : Type 0
@@ -30,9 +30,9 @@ Sizes =
 -- 32 hex digits in small letters come back as they are, also where dashes stand between them.
 abbrev pub Digits : Type 0
 Digits =
-    (s : List ℕ) → length s ≡ 32 → all isHex s ≡ true → idOf s ≡ record { given = true; digits = s }
+    (s : List ℕ) → length s ≡ 32 → all isHex s ≡ true → uuidOf s ≡ record { given = true; digits = s }
 
 abbrev pub Dashes : Type 0
 Dashes =
     (a b c d e : List ℕ) → length a ≡ 8 → length b ≡ 4 → length c ≡ 4 → length d ≡ 4 → length e ≡ 12
-    → idOf (a ++ (45 ∷ (b ++ (45 ∷ (c ++ (45 ∷ (d ++ (45 ∷ e)))))))) ≡ idOf (a ++ (b ++ (c ++ (d ++ e))))
+    → uuidOf (a ++ (45 ∷ (b ++ (45 ∷ (c ++ (45 ∷ (d ++ (45 ∷ e)))))))) ≡ uuidOf (a ++ (b ++ (c ++ (d ++ e))))

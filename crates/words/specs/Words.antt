@@ -7,16 +7,16 @@ use lib.ListN.{length, getD, take}
 use Rattle.endian.specs.Bytes.{window, same, all, zeros}
 use Rattle.text.specs.Decimal.{valueAfter, isDigit}
 use Rattle.block.specs.Block.{isHex}
-use Rattle.words.specs.declared.Amount.{Amount}
-use Rattle.words.specs.declared.Amount.the-variants.{Is, Nothing}
-use Rattle.words.specs.declared.Id.{Id}
+use Rattle.words.specs.declared.answers.Number.{Number}
+use Rattle.words.specs.declared.answers.Number.the-variants.{Is, Nothing}
+use Rattle.words.specs.declared.answers.Uuid.{Uuid}
 
 -- what digits say after those that make v: their number, where it is below 2^64
-unfoldable pub numberAfter : ℕ → List ℕ → Amount
+unfoldable pub numberAfter : ℕ → List ℕ → Number
 numberAfter v s = cond (all isDigit s && ltb (valueAfter v s) (2 ^ 64)) (Is (valueAfter v s)) Nothing
 
 -- the number that a word says: digits alone, one at least
-unfoldable pub numberOf : List ℕ → Amount
+unfoldable pub numberOf : List ℕ → Number
 numberOf s = cond (ltb 0 (length s)) (numberAfter 0 s) Nothing
 
 -- the sectors in the unit that a letter names, K, M, G or T: 2^10, 2^20, 2^30 or 2^40 bytes; 0 for any other
@@ -25,7 +25,7 @@ unitOf c =
     cond (eqb c 75) (2 ^ 1) (cond (eqb c 77) (2 ^ 11) (cond (eqb c 71) (2 ^ 21) (cond (eqb c 84) (2 ^ 31) 0)))
 
 -- a number times u, where it is below 2^64
-unfoldable pub timesOf : ℕ → Amount → Amount
+unfoldable pub timesOf : ℕ → Number → Number
 timesOf u (Is n) = cond (ltb (n * u) (2 ^ 64)) (Is (n * u)) Nothing
 timesOf u Nothing = Nothing
 
@@ -34,7 +34,7 @@ abbrev pub last : List ℕ → ℕ
 last s = getD s (length s - 1) 0
 
 -- the sectors that a size says: a number of sectors, or of the units that the letter behind it names
-unfoldable pub sectorsOf : List ℕ → Amount
+unfoldable pub sectorsOf : List ℕ → Number
 sectorsOf s = cond (ltb 0 (unitOf (last s))) (timesOf (unitOf (last s)) (numberOf (take (length s - 1) s))) (numberOf s)
 
 -- "thin-metadata", "thin-data", "spare", "metadata-volume"
@@ -78,13 +78,13 @@ unfoldable pub lower : ℕ → ℕ
 lower c = cond (leb 65 c && leb c 70) (c + 32) c
 
 -- no UUID
-abbrev pub noId : Id
-noId = record { given = false; digits = zeros 32 }
+abbrev pub noUuid : Uuid
+noUuid = record { given = false; digits = zeros 32 }
 
 -- the UUID of 32 characters, where all are hex digits
-unfoldable pub hexId : List ℕ → Id
-hexId d = cond (all isHex d) (record { given = true; digits = d }) noId
+unfoldable pub hexUuid : List ℕ → Uuid
+hexUuid d = cond (all isHex d) (record { given = true; digits = d }) noUuid
 
 -- the UUID that a word says: 32 hex digits, with dashes or with none, in small letters or in capitals
-unfoldable pub idOf : List ℕ → Id
-idOf s = cond (eqb (length (undashed s)) 32) (hexId (map lower (undashed s))) noId
+unfoldable pub uuidOf : List ℕ → Uuid
+uuidOf s = cond (eqb (length (undashed s)) 32) (hexUuid (map lower (undashed s))) noUuid

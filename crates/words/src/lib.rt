@@ -8,19 +8,12 @@ ghost use lib.Dec.{ltb};
 ghost use lib.ListN.{length};
 ghost use Rattle.endian.specs.Bytes.{same};
 ghost use Rattle.text.specs.Decimal.{isDigit};
-ghost use Rattle.words.specs.Words.{numberOf, unitOf, timesOf, sectorsOf, kindOf, dash, dashed, joined, lower, hexId, idOf};
+ghost use Rattle.words.specs.Words.{numberOf, unitOf, timesOf, sectorsOf, kindOf, dash, dashed, joined, lower, hexUuid, uuidOf};
 
-// The number that a word says, or nothing where it says none.
-pub enum Amount {
-    Is(u64),
-    Nothing,
-}
+mod answers;
 
-// The UUID that a word says: its 32 digits, letters small. Where it says none, not given, and zeros.
-pub struct Id {
-    pub given: bool,
-    pub digits: [u8; 32],
-}
+pub use answers::Number;
+pub use answers::Uuid;
 
 // Whether c is a decimal digit.
 fn is_digit(c: u8) -> bool
@@ -50,26 +43,26 @@ fn fits(v: u64, d: u64) -> bool
 }
 
 // The number that a word says: decimal digits alone, one at least, below 2^64.
-pub fn number(s: &[u8]) -> Amount
+pub fn number(s: &[u8]) -> Number
     ensures { λ r. ⌜ r ≡ numberOf (now (s .entry)) ⌝ }
 {
     if s.len() == 0 {
-        return Amount::Nothing;
+        return Number::Nothing;
     }
     let mut v: u64 = 0;
     let mut i = 0;
     while i < s.len() {
         if !is_digit(s[i]) {
-            return Amount::Nothing;
+            return Number::Nothing;
         }
         let d = worth(s[i]);
         if !fits(v, d) {
-            return Amount::Nothing;
+            return Number::Nothing;
         }
         v = v * 10 + d;
         i += 1;
     }
-    Amount::Is(v)
+    Number::Is(v)
 }
 
 // The sectors in the unit that a letter names, or 0 where it names none.
@@ -92,26 +85,26 @@ fn unit(c: u8) -> u64
 }
 
 // A number of units in sectors, or nothing where it is not below 2^64.
-fn times(a: Amount, u: u64) -> Amount
+fn times(a: Number, u: u64) -> Number
     requires { ⌜ 0 < u ⌝ }
     ensures { λ r. ⌜ r ≡ timesOf u a ⌝ }
 {
-    let Amount::Is(n) = a else {
-        return Amount::Nothing;
+    let Number::Is(n) = a else {
+        return Number::Nothing;
     };
     if 18446744073709551615 / u < n {
-        return Amount::Nothing;
+        return Number::Nothing;
     }
-    Amount::Is(n * u)
+    Number::Is(n * u)
 }
 
 // The sectors that a size says: a number of sectors, or a number with K, M, G or T behind it.
-pub fn sectors(s: &[u8]) -> Amount
+pub fn sectors(s: &[u8]) -> Number
     ensures { λ r. ⌜ r ≡ sectorsOf (now (s .entry)) ⌝ }
 {
     let n = s.len();
     if n == 0 {
-        return Amount::Nothing;
+        return Number::Nothing;
     }
     let u = unit(s[n - 1]);
     if u == 0 {
@@ -201,36 +194,36 @@ fn lowered(d: [u8; 32]) -> [u8; 32]
 }
 
 // The UUID of 32 characters, where all are hex digits.
-fn hex_id(d: [u8; 32]) -> Id
-    ensures { λ r. ⌜ r ≡ hexId (map lower d) ⌝ }
+fn hex_uuid(d: [u8; 32]) -> Uuid
+    ensures { λ r. ⌜ r ≡ hexUuid (map lower d) ⌝ }
 {
     let l = lowered(d);
     if !block::all_hex(&l) {
-        return Id {
+        return Uuid {
             given: false,
             digits: [0u8; 32],
         };
     }
-    Id {
+    Uuid {
         given: true,
         digits: l,
     }
 }
 
 // The UUID that a word says: 32 hex digits, or 36 characters with dashes after the 8th, 12th, 16th and 20th digit.
-pub fn uuid(s: &[u8]) -> Id
-    ensures { λ r. ⌜ r ≡ idOf (now (s .entry)) ⌝ }
+pub fn uuid(s: &[u8]) -> Uuid
+    ensures { λ r. ⌜ r ≡ uuidOf (now (s .entry)) ⌝ }
 {
     if dashed(s) {
-        return hex_id(joined(s));
+        return hex_uuid(joined(s));
     }
     let mut d = [0u8; 32];
     if s.len() != 32 {
-        return Id {
+        return Uuid {
             given: false,
             digits: d,
         };
     }
     endian::put(&mut d, 0, s);
-    hex_id(d)
+    hex_uuid(d)
 }

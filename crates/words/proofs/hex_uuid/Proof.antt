@@ -1,9 +1,9 @@
--- `words::hex_id` meets its contract. Assumes nothing.
+-- `words::hex_uuid` meets its contract. Assumes nothing.
 use Rattle.endian.specs.Bytes.{zeros}
 use Rattle.words.proofs.Words.{hex-none, hex-given}
 use borrow.Author.Needs.{needs}
-use Rattle.words.proofs.hex_id.Statement.{statement}
-use Rattle.words.proofs.hex_id.Tie as tie
+use Rattle.words.proofs.hex_uuid.Statement.{statement}
+use Rattle.words.proofs.hex_uuid.Tie as tie
 
 lowered-requires : tie.Need-lowered-requires
 lowered-requires c κs = search needs
@@ -23,7 +23,7 @@ returns-2 : tie.Need-returns-2
 returns-2 c =
     hex-given _ _ _ (c .before .before .before .lowered .ensures) (c .before .all-hex .ensures) (c .if1 .left)
 
-pub hex-id-spec : {M : Type 1} → statement M
-hex-id-spec =
+pub hex-uuid-spec : {M : Type 1} → statement M
+hex-uuid-spec =
     tie.close
     (tie.spec lowered-requires slice-aggregate-all-hex all-hex-requires returns returns-2)
