@@ -1,0 +1,2 @@
+-- The laws of `command`.
+pub mod Signed

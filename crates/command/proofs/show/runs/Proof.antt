@@ -1,0 +1,46 @@
+-- `command::show::runs` meets its contract. Assumes nothing.
+use Prim.Native.Nat.{_≤_, _-_}
+use borrow.Author.Needs.{needs}
+use Rattle.command.proofs.show.runs.Statement.{statement}
+use Rattle.command.proofs.show.runs.Tie as tie
+
+abbrev Inv-loop : tie.InvT-loop
+Inv-loop before plain look r n ok₀ i₀ ok i = i ≤ n
+
+abbrev μ-loop : tie.MeasureT-loop
+μ-loop before plain look r n ok₀ i₀ ok i = n - i
+
+run-count-requires : tie.Need-run-count-requires Inv-loop μ-loop
+run-count-requires c κs = search needs
+
+loop-holds : tie.Need-loop-holds Inv-loop μ-loop
+loop-holds c = search needs
+
+run-line-requires : tie.Need-run-line-requires Inv-loop μ-loop
+run-line-requires c κs = search needs
+
+add-i : tie.Need-add-i Inv-loop μ-loop
+add-i c = search needs
+
+loop-less : tie.Need-loop-less Inv-loop μ-loop
+loop-less c = search needs
+
+loop-again : tie.Need-loop-again Inv-loop μ-loop
+loop-again c = search needs
+
+returns : tie.Need-returns Inv-loop μ-loop
+returns c = search needs
+
+pub runs-spec : {M : Type 1} → statement M
+runs-spec =
+    tie.close
+    (tie.spec
+    Inv-loop
+    μ-loop
+    run-count-requires
+    loop-holds
+    run-line-requires
+    add-i
+    loop-less
+    loop-again
+    returns)

@@ -1,0 +1,290 @@
+// The words `update`, `allocate` and `release`: a new record in place of the present one, by an update that survives a power cut.
+// Assumes what `libc` and `os` do.
+use crate::after;
+use crate::after::Expected;
+use crate::copies::Look;
+use crate::facts;
+use crate::say;
+use crate::say::Got;
+use crate::say::note;
+use crate::say::print;
+use crate::stores;
+use crate::stores::Work;
+use block::Time;
+use discovery::Answer;
+use record::Segment;
+use room::Allocation;
+use room::Released;
+use text::Text;
+use update::Planned;
+
+// The time one nanosecond after t; t where there is none.
+fn next_time(t: Time) -> Time {
+    if t.nanoseconds < 999999999 {
+        return Time {
+            seconds: t.seconds,
+            nanoseconds: t.nanoseconds + 1,
+        };
+    }
+    if t.seconds == 18446744073709551615 {
+        return t;
+    }
+    Time {
+        seconds: t.seconds + 1,
+        nanoseconds: 0,
+    }
+}
+
+// The time of a new record: the clock's, or, where that is not later than the present record's, one nanosecond after it.
+fn new_time(now: Time, present: Time) -> Time {
+    if block::later(now, present) {
+        return now;
+    }
+    next_time(present)
+}
+
+// The time of the present record; 0 where none is found.
+fn present_time(front: &[u8], back: &[u8]) -> Time {
+    let a = discovery::discover(front, back);
+    match a {
+        Answer::Found(r, _) => facts::record_time(r),
+        Answer::Refused(_) => Time {
+            seconds: 0,
+            nanoseconds: 0,
+        },
+    }
+}
+
+// Whether the copies can be changed at all: all that matters was read.
+pub(crate) fn sure(path: &[u8], look: Look) -> bool {
+    if !look.sure {
+        note(
+            path,
+            Text::new().add(b"not done: a sector that matters could not be read"),
+        );
+    }
+    look.sure
+}
+
+// Puts a record in place of the present one, or lists the stores that would.
+fn apply(
+    path: &[u8],
+    look: Look,
+    now: Time,
+    dry: bool,
+    before: Text,
+    front: &[u8],
+    back: &[u8],
+    r: &[u8],
+) -> u8 {
+    let t = new_time(now, present_time(front, back));
+    let planned = update::work_out(front, back, t, r);
+    let Planned::Ready(p) = planned else {
+        return refused(path, look, planned);
+    };
+    let w = Work::Change(p);
+    let mut list = [0u8; 17680];
+    let all = stores::work_out(w, front, back, r, &mut list);
+    let ok = print(true, before.decimal(stores::count(w)).add(b" stores\n"));
+    if dry {
+        return facts::unless(
+            stores::print_all(ok, w, r.len() as u64, &list) & all,
+            facts::FAILED,
+        );
+    }
+    if !(ok & all) {
+        return facts::FAILED;
+    }
+    let e = Expected {
+        given: true,
+        time: t,
+    };
+    after::carried_out(path, look.fd, w, &list, b"updated: ", e)
+}
+
+// The refusal of an update.
+fn refused(path: &[u8], look: Look, p: Planned) -> u8 {
+    match p {
+        Planned::Refused(n) => facts::refuse_found(path, look, n),
+        Planned::Ready(_) => facts::WELL,
+    }
+}
+
+// Reads a file, up to as many bytes as out has.
+fn read_file(file: &[u8], out: &mut [u8]) -> Got {
+    let fd = os::open_read(file);
+    if fd < 0 {
+        os::fail(file);
+        return Got {
+            bytes: 0,
+            good: false,
+        };
+    }
+    let g = say::read_all(fd, out);
+    if !g.good {
+        os::fail(file);
+    }
+    libc::close(fd);
+    g
+}
+
+// The word `update`.
+pub(crate) fn update_word(
+    path: &[u8],
+    look: Look,
+    now: Time,
+    dry: bool,
+    file: &[u8],
+    front: &[u8],
+    back: &[u8],
+) -> u8 {
+    let mut r = [0u8; 8193];
+    let g = read_file(file, &mut r);
+    if !g.good {
+        return facts::FAILED;
+    }
+    if !sure(path, look) {
+        return facts::FAILED;
+    }
+    apply(
+        path,
+        look,
+        now,
+        dry,
+        Text::new(),
+        front,
+        back,
+        endian::window(&r, 0, g.bytes),
+    )
+}
+
+// A text with a segment.
+fn add_segment(t: Text, g: Segment) -> Text {
+    let u = facts::add_kind(t, g.kind).add(b" start ").decimal(g.start);
+    u.add(b" sectors ").decimal(g.sectors)
+}
+
+// The line of a segment after a first word and its position.
+fn segment_line(first: &[u8], position: u64, g: Segment) -> Text {
+    let t = Text::new().add(first).decimal(position).add(b" ");
+    add_segment(t, g).add(b"\n")
+}
+
+// The word `allocate`, of a record that was found.
+fn allocate_in(
+    path: &[u8],
+    look: Look,
+    now: Time,
+    dry: bool,
+    kind: u16,
+    sectors: u64,
+    front: &[u8],
+    back: &[u8],
+    r: &[u8],
+) -> u8 {
+    let mut out = [0u8; 8192];
+    let a = room::allocate(look.device, r, kind, sectors, &mut out);
+    match a {
+        Allocation::Refused(n) => facts::refuse(path, n),
+        Allocation::Placed(start, len) => {
+            let g = Segment {
+                kind,
+                start,
+                sectors,
+            };
+            let position = record::count_of(r) as u64;
+            let t = segment_line(b"segment ", position, g);
+            apply(
+                path,
+                look,
+                now,
+                dry,
+                t,
+                front,
+                back,
+                endian::window(&out, 0, len),
+            )
+        }
+    }
+}
+
+// The word `release`, of a record that was found.
+fn release_in(
+    path: &[u8],
+    look: Look,
+    now: Time,
+    dry: bool,
+    position: u64,
+    front: &[u8],
+    back: &[u8],
+    r: &[u8],
+) -> u8 {
+    let mut out = [0u8; 8192];
+    let a = room::release(look.device, r, position as usize, &mut out);
+    match a {
+        Released::Refused(n) => facts::refuse(path, n),
+        Released::Length(len) => {
+            let g = record::segment_at(r, position as usize);
+            let t = segment_line(b"released ", position, g);
+            apply(
+                path,
+                look,
+                now,
+                dry,
+                t,
+                front,
+                back,
+                endian::window(&out, 0, len),
+            )
+        }
+    }
+}
+
+// The word `allocate`, with its kind and size.
+pub(crate) fn allocate_word(
+    path: &[u8],
+    look: Look,
+    now: Time,
+    dry: bool,
+    kind: u16,
+    sectors: u64,
+    front: &[u8],
+    back: &[u8],
+) -> u8 {
+    if !sure(path, look) {
+        return facts::FAILED;
+    }
+    let mut r = [0u8; 8192];
+    let a = discovery::read_found(front, back, &mut r);
+    match a {
+        Answer::Refused(n) => facts::refuse_found(path, look, n),
+        Answer::Found(q, _) => {
+            let s = endian::window(&r, 0, q.bytes as usize);
+            allocate_in(path, look, now, dry, kind, sectors, front, back, s)
+        }
+    }
+}
+
+// The word `release`, with its position.
+pub(crate) fn release_word(
+    path: &[u8],
+    look: Look,
+    now: Time,
+    dry: bool,
+    position: u64,
+    front: &[u8],
+    back: &[u8],
+) -> u8 {
+    if !sure(path, look) {
+        return facts::FAILED;
+    }
+    let mut r = [0u8; 8192];
+    let a = discovery::read_found(front, back, &mut r);
+    match a {
+        Answer::Refused(n) => facts::refuse_found(path, look, n),
+        Answer::Found(q, _) => {
+            let s = endian::window(&r, 0, q.bytes as usize);
+            release_in(path, look, now, dry, position, front, back, s)
+        }
+    }
+}

@@ -1,0 +1,211 @@
+// The word `check`: each copy, each of the four areas, what discovery finds, whether the copies are in step, and what mending would
+// do. Only reads. Assumes what `libc` and `os` do.
+use crate::copies;
+use crate::copies::Look;
+use crate::facts;
+use crate::repair;
+use crate::say::note;
+use crate::say::print;
+use crate::sentences;
+use block::BlockFields;
+use block::Entry;
+use block::Time;
+use block::Verdict;
+use discovery::Answer;
+use layout::Area;
+use layout::Side;
+use text::Text;
+
+// What discovery's answer says of times: whether a record was found, and its time.
+struct When {
+    found: bool,
+    time: Time,
+}
+
+fn when_found(a: Answer) -> When {
+    match a {
+        Answer::Refused(_) => When {
+            found: false,
+            time: Time {
+                seconds: 0,
+                nanoseconds: 0,
+            },
+        },
+        Answer::Found(r, _) => When {
+            found: true,
+            time: facts::record_time(r),
+        },
+    }
+}
+
+// The state of an area that its entry uses: whole, torn, or not read.
+fn add_state(t: Text, c: &[u8], marks: &[u8], f: BlockFields, x: Area, bytes: u32) -> Text {
+    if !copies::area_read(marks, x, bytes) {
+        return t.add(b"unread ");
+    }
+    if discovery::whole(c, f, x) {
+        return t.add(b"whole ");
+    }
+    t.add(b"torn ")
+}
+
+// The line of an area of a copy whose block is accepted.
+fn area_line(t: Text, c: &[u8], marks: &[u8], f: BlockFields, x: Area, p: When) -> Text {
+    let e = discovery::entry_in(f, x);
+    let Entry::Used(h) = e else {
+        return t.add(b"unused\n");
+    };
+    let u = facts::add_holding(add_state(t, c, marks, f, x, h.bytes), h);
+    let whole = discovery::whole(c, f, x);
+    let later = p.found & block::later(facts::time_of(h), p.time);
+    if later & !whole {
+        return u.add(b", later than what is found\n");
+    }
+    u.add(b"\n")
+}
+
+// The first words of an area's line.
+fn area_of(side: Side, x: Area) -> Text {
+    facts::add_area(facts::add_side(Text::new(), side).add(b" "), x).add(b" ")
+}
+
+// Prints a copy whose block was read: the block, and both areas.
+fn print_copy(ok: bool, side: Side, c: &[u8], marks: &[u8], p: When) -> bool {
+    let first = facts::add_side(Text::new(), side).add(b" block ");
+    let r = facts::reading(c);
+    let v = r.verdict;
+    match v {
+        Verdict::Refused(n) => {
+            let a = print(ok, sentences::refused(first, n).add(b"\n"));
+            print_unknown(a, side)
+        }
+        Verdict::Accepted(f) => {
+            let a = print(ok, first.add(b"accepted\n"));
+            let b = print(
+                a,
+                area_line(area_of(side, Area::A), c, marks, f, Area::A, p),
+            );
+            print(
+                b,
+                area_line(area_of(side, Area::B), c, marks, f, Area::B, p),
+            )
+        }
+    }
+}
+
+// Prints the areas of a copy whose block says nothing of them.
+fn print_unknown(ok: bool, side: Side) -> bool {
+    let a = print(ok, area_of(side, Area::A).add(b"unknown\n"));
+    print(a, area_of(side, Area::B).add(b"unknown\n"))
+}
+
+// Prints a copy.
+fn print_side(ok: bool, side: Side, c: &[u8], marks: &[u8], p: When) -> bool {
+    if copies::block_read(marks) {
+        return print_copy(ok, side, c, marks, p);
+    }
+    let a = print(
+        ok,
+        facts::add_side(Text::new(), side).add(b" block unread\n"),
+    );
+    print_unknown(a, side)
+}
+
+// Prints whether the found record is accepted, with its refusal number n, and how many segments it has.
+fn print_record(ok: bool, n: u8, look: Look, front: &[u8], back: &[u8]) -> bool {
+    if n != 0 {
+        return print(
+            ok,
+            sentences::refused(Text::new().add(b"record "), n).add(b"\n"),
+        );
+    }
+    let k = facts::segments(look, front, back);
+    print(
+        ok,
+        Text::new()
+            .add(b"record accepted, ")
+            .decimal(k)
+            .add(b" segments\n"),
+    )
+}
+
+// What is wrong, on standard error.
+fn note_wrong(path: &[u8], look: Look, step: bool, n: u8, p: When, front: &[u8], back: &[u8]) {
+    facts::note_lost(path, look, true, p.time, front, back);
+    if !step {
+        note(
+            path,
+            Text::new().add(b"the copies are not in step; keep them with backup, then mend"),
+        );
+    }
+    if n != 0 {
+        note(
+            path,
+            sentences::refused(Text::new().add(b"the record is not accepted: "), n),
+        );
+    }
+}
+
+// Prints all that is known of two copies in which a record was found.
+fn print_found(
+    path: &[u8],
+    look: Look,
+    step: bool,
+    p: When,
+    front: &[u8],
+    back: &[u8],
+    before: bool,
+) -> u8 {
+    let n = facts::record_number(look, front, back);
+    let a = print_record(before, n, look, front, back);
+    let s = if step {
+        Text::new().add(b"in step yes\n")
+    } else {
+        Text::new().add(b"in step no\n")
+    };
+    let b = print(a, s);
+    let ok = print(
+        b,
+        repair::summary(Text::new().add(b"mend "), mend::work_out(front, back)).add(b"\n"),
+    );
+    note_wrong(path, look, step, n, p, front, back);
+    facts::worse(
+        facts::unless(step & (n == 0), facts::REFUSED),
+        facts::unless(ok, facts::FAILED),
+    )
+}
+
+pub(crate) fn run(
+    path: &[u8],
+    look: Look,
+    front: &[u8],
+    back: &[u8],
+    front_marks: &[u8],
+    back_marks: &[u8],
+) -> u8 {
+    let sure = facts::unless(look.sure, facts::FAILED);
+    let unread = facts::block_unread(front_marks, back_marks);
+    let v = discovery::survey(front, back);
+    let a = v.answer;
+    let p = when_found(a);
+    let f = print_side(true, Side::Front, front, front_marks, p);
+    let b = print_side(f, Side::Back, back, back_marks, p);
+    match a {
+        Answer::Refused(n) => {
+            let step = print(b, Text::new().add(b"in step no\n"));
+            let ok = print(
+                step,
+                sentences::refused(Text::new().add(b"mend "), n).add(b"\n"),
+            );
+            let s = facts::worse(
+                facts::refuse_found(path, look, n),
+                facts::unless(ok, facts::FAILED),
+            );
+            facts::worse(sure, s)
+        }
+        Answer::Found(_, _) => {
+            let ok = facts::print_answer(b, look, unread, front, back);
+            facts::worse(sure, print_found(path, look, v.step, p, front, back, ok))
+        }
+    }
+}

@@ -1,0 +1,311 @@
+// What each word does with an open image. Assumes what `io`, `os` and `libc` do.
+use crate::arguments;
+use crate::arguments::Request;
+use crate::arguments::Word;
+use crate::change;
+use crate::check;
+use crate::copies;
+use crate::copies::Look;
+use crate::create;
+use crate::create::Wanted;
+use crate::facts;
+use crate::find;
+use crate::keep;
+use crate::repair;
+use crate::say::complain;
+use crate::show;
+use block::Time;
+use text::Text;
+use words::Number;
+
+// What the machine gives: the open image, the terminal's columns (0 where there is none) and the time.
+pub(crate) struct Given {
+    pub fd: i32,
+    pub columns: u64,
+    pub now: Time,
+}
+
+// An argument that is a number, or another value where it is not given. `good` says whether it is one.
+struct Size {
+    good: bool,
+    value: u64,
+}
+
+// An argument by its number, at the start of out; how many bytes it has.
+fn argument(i: usize, out: &mut [u8]) -> usize {
+    let n = os::arg(i, out);
+    if os::errno() != 0 {
+        return 0;
+    }
+    n
+}
+
+// Reads an argument as a size in sectors; `other` where it is not given.
+fn size_of(i: usize, other: u64) -> Size {
+    if i == 0 {
+        return Size {
+            good: true,
+            value: other,
+        };
+    }
+    let mut buffer = io::buffer();
+    let n = argument(i, &mut buffer);
+    let s = endian::window(&buffer, 0, n);
+    let v = words::sectors(s);
+    match v {
+        Number::Is(x) => Size {
+            good: true,
+            value: x,
+        },
+        Number::Nothing => {
+            arguments::bad_value(
+                s,
+                Text::new().add(b" is no size: sectors, or a number with K, M, G or T"),
+            );
+            Size {
+                good: false,
+                value: 0,
+            }
+        }
+    }
+}
+
+// The same of a plain number.
+fn number_of(i: usize, other: u64) -> Size {
+    if i == 0 {
+        return Size {
+            good: true,
+            value: other,
+        };
+    }
+    let mut buffer = io::buffer();
+    let n = argument(i, &mut buffer);
+    let s = endian::window(&buffer, 0, n);
+    let v = words::number(s);
+    match v {
+        Number::Is(x) => Size {
+            good: true,
+            value: x,
+        },
+        Number::Nothing => {
+            arguments::bad_value(s, Text::new().add(b" is no number"));
+            Size {
+                good: false,
+                value: 0,
+            }
+        }
+    }
+}
+
+// The same of a kind; 0 where it is none.
+fn kind_of(i: usize) -> u16 {
+    let mut buffer = io::buffer();
+    let n = argument(i, &mut buffer);
+    let s = endian::window(&buffer, 0, n);
+    let k = words::kind(s);
+    if k == 0 {
+        arguments::bad_value(
+            s,
+            Text::new().add(
+                b" is no kind: thin-metadata, thin-data, spare, metadata-volume, or 1 to 4",
+            ),
+        );
+    }
+    k
+}
+
+// 32 random digits; whether there are any.
+struct Name {
+    good: bool,
+    digits: [u8; 32],
+}
+
+fn digit(x: u8) -> u8 {
+    let d = x % 16;
+    if d < 10 { d + 48 } else { d + 87 }
+}
+
+fn made_name() -> Name {
+    let mut bytes = [0u8; 32];
+    if libc::getentropy(&mut bytes) != 0 {
+        complain(b"amseokbin: no random bytes for a UUID\n");
+        return Name {
+            good: false,
+            digits: bytes,
+        };
+    }
+    let mut digits = [0u8; 32];
+    let mut i = 0;
+    while i < 32usize {
+        digits[i] = digit(bytes[i]);
+        i += 1;
+    }
+    Name { good: true, digits }
+}
+
+// A UUID from an argument, or a new one where it is not given.
+fn name_of(i: usize) -> Name {
+    if i == 0 {
+        return made_name();
+    }
+    let mut buffer = io::buffer();
+    let n = argument(i, &mut buffer);
+    let s = endian::window(&buffer, 0, n);
+    let u = words::uuid(s);
+    let digits = u.digits;
+    if !u.given {
+        arguments::bad_value(
+            s,
+            Text::new().add(b" is no UUID: 32 hex digits, or 8-4-4-4-12 with dashes"),
+        );
+    }
+    Name {
+        good: u.given,
+        digits,
+    }
+}
+
+// Whether the values on the command line are what they have to be; said where they are not. Nothing is opened before.
+pub(crate) fn values_good(p: Request) -> bool {
+    let w = p.word;
+    let sizes = size_of(p.metadata, 0).good
+        & (size_of(p.reserved, 0).good & size_of(p.block, 0).good);
+    let names = name_good(p.pool) & name_good(p.device);
+    let width = number_of(p.width, 0).good;
+    let own = match w {
+        Word::Allocate => (kind_of(p.second) != 0) & size_of(p.third, 0).good,
+        Word::Release => number_of(p.second, 0).good,
+        _ => true,
+    };
+    (sizes & names) & (width & own)
+}
+
+fn name_good(i: usize) -> bool {
+    if i == 0 {
+        return true;
+    }
+    name_of(i).good
+}
+
+// The word `format`.
+fn format_word(path: &[u8], p: Request, g: Given) -> u8 {
+    let pool = name_of(p.pool);
+    let device = name_of(p.device);
+    if !(pool.good & device.good) {
+        return facts::FAILED;
+    }
+    let a = pool.digits;
+    let b = device.digits;
+    let now = g.now;
+    let w = Wanted {
+        metadata: size_of(p.metadata, 2040).value,
+        reserved: size_of(p.reserved, 0).value,
+        block: size_of(p.block, 128).value,
+        replace: p.replace,
+        dry: p.dry,
+        now: now,
+        pool: a,
+        device: b,
+    };
+    create::run(path, g.fd, w)
+}
+
+// The words that read the copies first and take a file.
+fn with_file(
+    path: &[u8],
+    p: Request,
+    now: Time,
+    look: Look,
+    front: &[u8],
+    back: &[u8],
+    fm: &[u8],
+    bm: &[u8],
+) -> u8 {
+    let mut buffer = io::buffer();
+    let n = argument(p.second, &mut buffer);
+    let file = endian::window(&buffer, 0, n);
+    let w = p.word;
+    match w {
+        Word::Update => change::update_word(path, look, now, p.dry, file, front, back),
+        Word::Backup => keep::backup_word(path, look, file, front, back, fm, bm),
+        Word::Restore => keep::restore_word(path, look, p.dry, p.replace, file, front, back),
+        _ => facts::USAGE,
+    }
+}
+
+// The columns of the picture: as asked for, or the terminal's, or 80.
+fn columns_of(p: Request, g: Given) -> u64 {
+    if p.width != 0 {
+        return number_of(p.width, 80).value;
+    }
+    if g.columns == 0 {
+        return 80;
+    }
+    g.columns
+}
+
+// The words that read the copies first.
+fn with_copies(
+    path: &[u8],
+    p: Request,
+    g: Given,
+    look: Look,
+    front: &[u8],
+    back: &[u8],
+    fm: &[u8],
+    bm: &[u8],
+) -> u8 {
+    let w = p.word;
+    let now = g.now;
+    match w {
+        Word::Find => find::run(path, look, front, back, fm, bm),
+        Word::Check => check::run(path, look, front, back, fm, bm),
+        Word::Show => show::run(path, look, p.plain, columns_of(p, g), front, back, fm, bm),
+        Word::Mend => repair::run(path, look, p.dry, p.unreadable, front, back, fm, bm),
+        Word::Allocate => change::allocate_word(
+            path,
+            look,
+            now,
+            p.dry,
+            kind_of(p.second),
+            size_of(p.third, 0).value,
+            front,
+            back,
+        ),
+        Word::Release => change::release_word(
+            path,
+            look,
+            now,
+            p.dry,
+            number_of(p.second, 0).value,
+            front,
+            back,
+        ),
+        Word::Record => keep::record_word(path, look, front, back),
+        Word::Dump => keep::dump_word(path, look, front, back),
+        _ => with_file(path, p, now, look, front, back, fm, bm),
+    }
+}
+
+// Reads the copies of the image and does what a word asks for.
+fn read_copies(path: &[u8], p: Request, g: Given) -> u8 {
+    let mut front = [0u8; 20480];
+    let mut back = [0u8; 20480];
+    let mut fm = [0u8; 40];
+    let mut bm = [0u8; 40];
+    let look = copies::read(g.fd, &mut front, &mut back, &mut fm, &mut bm);
+    copies::note_unread(path, look, &fm, &bm);
+    with_copies(path, p, g, look, &front, &back, &fm, &bm)
+}
+
+// Does what is asked for; its status.
+pub(crate) fn run(p: Request, g: Given) -> u8 {
+    let mut buffer = io::buffer();
+    let n = argument(p.image, &mut buffer);
+    let path = endian::window(&buffer, 0, n);
+    let w = p.word;
+    match w {
+        Word::Format => format_word(path, p, g),
+        _ => read_copies(path, p, g),
+    }
+}

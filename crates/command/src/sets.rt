@@ -1,0 +1,176 @@
+// A set of sectors in memory: both copies, 80 entries, each the sector's number, its mark and its 512 bytes. Formatting and
+// restoring write one to the drive, a backup keeps one in a file. Assumes what `libc` and `os` do.
+ghost use Prim.Native.Nat.{_≤_};
+use crate::copies;
+use crate::say::print;
+use crate::stores;
+use layout::Device;
+use layout::Side;
+use text::Text;
+
+// Entries, the bytes of one, and the bytes of a set.
+pub(crate) const ENTRIES: usize = 80;
+
+pub(crate) const STRIDE: usize = 528;
+
+pub(crate) const BYTES: usize = 42240;
+
+// The entries of the two blocks.
+pub(crate) const FRONT_BLOCK: usize = 1;
+
+pub(crate) const BACK_BLOCK: usize = 41;
+
+// Where an entry stands in the set; past its end where there is none.
+fn place(k: usize) -> usize
+    ensures { λ r. ⌜ r ≤ 42240 ⌝ }
+{
+    if ENTRIES <= k {
+        return BYTES;
+    }
+    k * STRIDE
+}
+
+// Where sector i of a copy stands in it, in bytes; past its end where there is none.
+fn offset(i: usize) -> usize {
+    if copies::SECTORS <= i {
+        return copies::BYTES;
+    }
+    i * 512
+}
+
+// Puts sector i of a side's copy into entry k of the set.
+fn put_entry(set: &mut [u8], k: usize, side: Side, d: Device, i: usize, copy: &[u8], marks: &[u8]) {
+    let at = place(k);
+    endian::write_u64(set, at, sectors::sector_at(side, d, i));
+    endian::write_u64(set, at + 8, copies::mark_at(marks, i));
+    endian::put(set, at + 16, endian::window(copy, offset(i), 512));
+}
+
+// Puts the sectors of a side's copy into the entries from `first` on.
+fn put_copy(set: &mut [u8], first: usize, side: Side, d: Device, copy: &[u8], marks: &[u8])
+    requires { ⌜ first ≤ 40 ⌝ }
+{
+    let mut i = 0;
+    while i < copies::SECTORS {
+        put_entry(set, first + i, side, d, i, copy, marks);
+        i += 1;
+    }
+}
+
+// The set of both copies of a device: the front's sectors, then the back's.
+pub(crate) fn fill(
+    set: &mut [u8],
+    d: Device,
+    front: &[u8],
+    back: &[u8],
+    front_marks: &[u8],
+    back_marks: &[u8],
+) {
+    put_copy(set, 0, Side::Front, d, front, front_marks);
+    put_copy(set, 40, Side::Back, d, back, back_marks);
+}
+
+// The bytes of an entry.
+pub(crate) fn bytes_at(set: &[u8], k: usize) -> &[u8] {
+    endian::window(set, place(k) + 16, 512)
+}
+
+// The sector of an entry, and whether it was read.
+pub(crate) fn sector_of(set: &[u8], k: usize) -> u64 {
+    endian::read_u64(set, place(k))
+}
+
+pub(crate) fn was_read(set: &[u8], k: usize) -> bool {
+    endian::read_u64(set, place(k) + 8) == 0
+}
+
+// Whether an entry's sector is the one that a device with these numbers has there.
+fn placed_at(set: &[u8], d: Device, k: usize) -> bool {
+    if k < 40 {
+        return sector_of(set, k) == sectors::sector_at(Side::Front, d, k);
+    }
+    sector_of(set, k) == sectors::sector_at(Side::Back, d, k - 40)
+}
+
+// Whether all are.
+pub(crate) fn placed(set: &[u8], d: Device) -> bool {
+    let mut all = true;
+    let mut k = 0;
+    while k < ENTRIES {
+        let one = placed_at(set, d, k);
+        all = all & one;
+        k += 1;
+    }
+    all
+}
+
+// The entry that is written at a step: the back's areas, its header, the front's areas, its header. A block is written after the
+// areas that it names.
+fn entry_of(step: usize) -> usize {
+    if step < 32 {
+        return step + 48;
+    }
+    if step < 40 {
+        return step + 8;
+    }
+    if step < 72 {
+        return step - 32;
+    }
+    step - 72
+}
+
+// Whether a flush is due after a step.
+fn flush_due(step: usize) -> bool {
+    ((step == 31) | (step == 39)) | ((step == 71) | (step == 79))
+}
+
+// Writes the entry of a step, where it was read, with a flush where one is due; whether that went well.
+fn write_step(fd: i32, path: &[u8], set: &[u8], step: usize) -> bool {
+    let k = entry_of(step);
+    if was_read(set, k) {
+        if !stores::write(fd, path, sector_of(set, k), bytes_at(set, k)) {
+            return false;
+        }
+    }
+    stores::flush(fd, path, flush_due(step))
+}
+
+// Writes a set to the drive, up to the first write or flush that fails; whether all went well.
+pub(crate) fn write_all(fd: i32, path: &[u8], set: &[u8]) -> bool {
+    let mut step = 0;
+    while step < ENTRIES {
+        if !write_step(fd, path, set, step) {
+            return false;
+        }
+        step += 1;
+    }
+    true
+}
+
+// 1 where an entry was read, else 0.
+fn one_read(set: &[u8], k: usize) -> u64
+    ensures { λ r. ⌜ r ≤ 1 ⌝ }
+{
+    if was_read(set, k) { 1 } else { 0 }
+}
+
+// How many entries were read.
+pub(crate) fn count(set: &[u8]) -> u64 {
+    let mut n: u64 = 0;
+    let mut k = 0;
+    while k < ENTRIES {
+        n += one_read(set, k);
+        k += 1;
+    }
+    n
+}
+
+// A text with a number of sectors.
+pub(crate) fn add_sectors(t: Text, n: u64) -> Text {
+    t.decimal(n).add(b" sectors")
+}
+
+// Prints the first line of a word that writes a set.
+pub(crate) fn print_count(n: u64) -> bool {
+    print(true, add_sectors(Text::new(), n).add(b" to write\n"))
+}

@@ -1,0 +1,363 @@
+// The word `show`: the pool for people, with every segment, the free room and a picture; or, with `--plain`, one key and value a
+// line. Assumes what `libc` and `os` do.
+use crate::copies::Look;
+use crate::facts;
+use crate::picture;
+use crate::say::note;
+use crate::say::print;
+use crate::sentences;
+use block::Reading;
+use block::Time;
+use discovery::Answer;
+use discovery::Other;
+use discovery::Record;
+use layout::Side;
+use record::Segment;
+use room::FreeTotal;
+use room::Run;
+use room::RunFound;
+use room::RunNumber;
+use text::Text;
+
+// What is known of the record that is shown.
+pub(crate) struct Shown {
+    pub found: Record,
+    pub other: Other,
+    pub step: bool,
+    pub unread: bool,
+    pub number: u8,
+    pub columns: u64,
+}
+
+// A text with yes or no.
+fn add_yes(t: Text, yes: bool) -> Text {
+    if yes { t.add(b"yes\n") } else { t.add(b"no\n") }
+}
+
+// The number of free runs of an accepted record, and of its free sectors; 0 of any other.
+fn run_count(look: Look, r: &[u8]) -> u64 {
+    let n = room::count_runs(look.device, r);
+    match n {
+        RunNumber::Runs(k) => k,
+        RunNumber::Refused(_) => 0,
+    }
+}
+
+fn free_sectors(look: Look, r: &[u8]) -> u64 {
+    let n = room::free_total(look.device, r);
+    match n {
+        FreeTotal::Sectors(k) => k,
+        FreeTotal::Refused(_) => 0,
+    }
+}
+
+// A free run by its number.
+fn run_of(look: Look, r: &[u8], k: u64) -> Run {
+    let f = room::run_at(look.device, r, k);
+    match f {
+        RunFound::At(g) => g,
+        RunFound::Refused(_) => Run {
+            start: 0,
+            sectors: 0,
+        },
+    }
+}
+
+// A key with a number, as a line.
+fn pair(ok: bool, key: &[u8], n: u64) -> bool {
+    print(ok, Text::new().add(key).add(b"=").decimal(n).add(b"\n"))
+}
+
+// A key with a number in its middle.
+fn item(ok: bool, first: &[u8], i: u64, last: &[u8], n: u64) -> bool {
+    print(
+        ok,
+        Text::new()
+            .add(first)
+            .add(b".")
+            .decimal(i)
+            .add(b".")
+            .add(last)
+            .add(b"=")
+            .decimal(n)
+            .add(b"\n"),
+    )
+}
+
+fn plain_segment(ok: bool, r: &[u8], i: usize) -> bool {
+    let g = record::segment_at(r, i);
+    let k = item(ok, b"segment", i as u64, b"kind", g.kind as u64);
+    let s = item(k, b"segment", i as u64, b"start", g.start);
+    item(s, b"segment", i as u64, b"sectors", g.sectors)
+}
+
+fn plain_run(ok: bool, look: Look, r: &[u8], i: u64) -> bool {
+    let g = run_of(look, r, i);
+    let s = item(ok, b"free", i, b"start", g.start);
+    item(s, b"free", i, b"sectors", g.sectors)
+}
+
+// The lines of all segments, for people or plain.
+fn segments(before: bool, plain: bool, r: &[u8]) -> bool {
+    let n = record::count_of(r);
+    let mut ok = before;
+    let mut i = 0;
+    while i < n {
+        let next = segment_line(ok, plain, r, i);
+        ok = next;
+        i += 1;
+    }
+    ok
+}
+
+fn segment_line(ok: bool, plain: bool, r: &[u8], i: usize) -> bool {
+    if plain {
+        return plain_segment(ok, r, i);
+    }
+    let g = record::segment_at(r, i);
+    let t = row(
+        Text::new().padded(i as u64, 6).add(b"  "),
+        g.start,
+        g.sectors,
+    );
+    print(ok, facts::add_kind(t.add(b"  "), g.kind).add(b"\n"))
+}
+
+// A text with a start, a length and its size.
+fn row(t: Text, start: u64, sectors: u64) -> Text {
+    facts::add_size(
+        t.padded(start, 12)
+            .add(b"  ")
+            .padded(sectors, 12)
+            .add(b"  "),
+        sectors,
+    )
+}
+
+// The lines of all free runs. Each run is looked for by its number, so the time grows with the square of the segments: some
+// milliseconds for a full record.
+fn runs(before: bool, plain: bool, look: Look, r: &[u8]) -> bool {
+    let n = run_count(look, r);
+    let mut ok = before;
+    let mut i = 0;
+    while i < n {
+        let next = run_line(ok, plain, look, r, i);
+        ok = next;
+        i += 1;
+    }
+    ok
+}
+
+fn run_line(ok: bool, plain: bool, look: Look, r: &[u8], i: u64) -> bool {
+    if plain {
+        return plain_run(ok, look, r, i);
+    }
+    let g = run_of(look, r, i);
+    print(
+        ok,
+        row(Text::new().padded(i, 6).add(b"  "), g.start, g.sectors).add(b"  free\n"),
+    )
+}
+
+// The sectors of the data range that are in a segment.
+fn allocated(look: Look, r: &[u8]) -> u64 {
+    let d = look.device;
+    let data = difference(layout::data_end(d), layout::data_start(d));
+    difference(data, free_sectors(look, r))
+}
+
+fn difference(a: u64, b: u64) -> u64 {
+    if a < b { 0 } else { a - b }
+}
+
+// Prints UUIDs.
+fn uuids(ok: bool, first: &[u8], second: &[u8], q: Reading) -> bool {
+    let pool = q.pool;
+    let uuid = q.device;
+    facts::print_uuid(facts::print_uuid(ok, first, pool), second, uuid)
+}
+
+// The first lines of the plain form: identity, place and time.
+fn plain_head(look: Look, s: Shown, q: Reading) -> bool {
+    let d = look.device;
+    let f = s.found;
+    let side = f.side;
+    let area = f.area;
+    let u = uuids(true, b"pool=", b"device=", q);
+    let n = pair(u, b"sectors", d.sectors);
+    let m = pair(n, b"metadata", d.metadata as u64);
+    let e = pair(m, b"reserved", d.reserved as u64);
+    let p = print(
+        e,
+        facts::add_side(Text::new().add(b"found="), side).add(b"\n"),
+    );
+    let a = print(
+        p,
+        facts::add_area(Text::new().add(b"area="), area).add(b"\n"),
+    );
+    let b = pair(a, b"bytes", f.bytes as u64);
+    let c = pair(b, b"seconds", f.seconds);
+    pair(c, b"nanoseconds", f.nanoseconds as u64)
+}
+
+// The next lines: the other copy, in step, sure, and the record's number.
+fn plain_state(ok: bool, look: Look, s: Shown) -> bool {
+    let o = s.other;
+    let a = print(
+        ok,
+        facts::add_other(Text::new().add(b"other="), o, s.unread).add(b"\n"),
+    );
+    let b = print(a, add_yes(Text::new().add(b"in-step="), s.step));
+    let c = print(b, add_yes(Text::new().add(b"sure="), look.sure));
+    pair(c, b"record", s.number as u64)
+}
+
+// The lines of an accepted record.
+fn plain_record(ok: bool, look: Look, r: &[u8]) -> bool {
+    let a = pair(ok, b"block-size", record::block_size_of(r) as u64);
+    let b = pair(a, b"segments", record::count_of(r) as u64);
+    let c = segments(b, true, r);
+    let d = pair(c, b"allocated", allocated(look, r));
+    let e = pair(d, b"free-runs", run_count(look, r));
+    let f = pair(e, b"free", free_sectors(look, r));
+    runs(f, true, look, r)
+}
+
+fn plain(look: Look, s: Shown, q: Reading, r: &[u8]) -> bool {
+    let a = plain_head(look, s, q);
+    let b = plain_state(a, look, s);
+    if s.number != 0 {
+        return b;
+    }
+    plain_record(b, look, r)
+}
+
+// The first lines for people.
+fn people_head(look: Look, s: Shown, q: Reading) -> bool {
+    let d = look.device;
+    let u = uuids(true, b"pool      ", b"device    ", q);
+    let n = amount(u, Text::new().add(b"drive     "), d.sectors);
+    let e = facts::add_count(
+        Text::new().add(b"ends      metadata "),
+        d.metadata as u64,
+        b"sector",
+    );
+    let m = facts::add_count(e.add(b", reserved "), d.reserved as u64, b"sector");
+    people_record(
+        print(n, m.add(b", at the front and at the back\n")),
+        look,
+        s,
+    )
+}
+
+// The line of the found record.
+fn people_record(ok: bool, look: Look, s: Shown) -> bool {
+    let f = s.found;
+    let side = f.side;
+    let area = f.area;
+    let b = Text::new()
+        .add(b"record    ")
+        .decimal(f.bytes as u64)
+        .add(b" bytes of ");
+    let t = facts::add_date(b, facts::record_time(f)).add(b", ");
+    let p = facts::add_area(facts::add_side(t, side).add(b" "), area);
+    if !look.sure {
+        return print(ok, p.add(b", perhaps not the newest\n"));
+    }
+    if s.step {
+        return print(ok, p.add(b", the copies are in step\n"));
+    }
+    print(ok, p.add(b", the copies are NOT in step\n"))
+}
+
+// A line with a number of sectors and their size.
+fn amount(ok: bool, t: Text, sectors: u64) -> bool {
+    let u = facts::add_count(t, sectors, b"sector").add(b", ");
+    print(ok, facts::add_size(u, sectors).add(b"\n"))
+}
+
+// The lines of an accepted record, and the picture.
+fn people_content(ok: bool, look: Look, columns: u64, r: &[u8]) -> bool {
+    let a = amount(
+        ok,
+        Text::new().add(b"block     "),
+        record::block_size_of(r) as u64,
+    );
+    let c = facts::add_count(
+        Text::new().add(b"used      "),
+        record::count_of(r) as u64,
+        b"segment",
+    );
+    let b = amount(a, c.add(b", "), allocated(look, r));
+    let s = segments(b, false, r);
+    let f = facts::add_count(Text::new().add(b"free      "), run_count(look, r), b"run");
+    let h = amount(s, f.add(b", "), free_sectors(look, r));
+    let k = runs(h, false, look, r);
+    picture::draw(k, look.device, columns, r)
+}
+
+fn people(look: Look, s: Shown, q: Reading, r: &[u8]) -> bool {
+    let a = people_head(look, s, q);
+    if s.number != 0 {
+        return print(
+            a,
+            sentences::refused(Text::new().add(b"content   "), s.number).add(b"\n"),
+        );
+    }
+    people_content(a, look, s.columns, r)
+}
+
+// Shows a record that was found.
+fn show_found(
+    path: &[u8],
+    look: Look,
+    as_plain: bool,
+    s: Shown,
+    front: &[u8],
+    back: &[u8],
+    r: &[u8],
+) -> u8 {
+    let q = facts::first_reading(front, back);
+    let ok = if as_plain {
+        plain(look, s, q, r)
+    } else {
+        people(look, s, q, r)
+    };
+    let f = s.found;
+    facts::note_state(path, look, s.step, facts::record_time(f), front, back);
+    facts::worse(
+        facts::unless(s.number == 0, facts::REFUSED),
+        facts::unless(ok, facts::FAILED),
+    )
+}
+
+// The word `show`.
+pub(crate) fn run(
+    path: &[u8],
+    look: Look,
+    as_plain: bool,
+    columns: u64,
+    front: &[u8],
+    back: &[u8],
+    front_marks: &[u8],
+    back_marks: &[u8],
+) -> u8 {
+    let sure = facts::unless(look.sure, facts::FAILED);
+    let mut bytes = [0u8; 8192];
+    let a = discovery::read_found(front, back, &mut bytes);
+    match a {
+        Answer::Refused(n) => facts::worse(sure, facts::refuse_found(path, look, n)),
+        Answer::Found(f, o) => {
+            let r = endian::window(&bytes, 0, f.bytes as usize);
+            let s = Shown {
+                found: f,
+                other: o,
+                step: discovery::in_step(front, back),
+                unread: facts::block_unread(front_marks, back_marks),
+                number: record::check(look.device, r),
+                columns: columns,
+            };
+            facts::worse(sure, show_found(path, look, as_plain, s, front, back, r))
+        }
+    }
+}

@@ -1,2 +1,0 @@
--- The laws of `pool`.
-pub mod Signed

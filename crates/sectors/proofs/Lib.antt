@@ -1,0 +1,6 @@
+-- The laws that the functions' proofs cite, and the claims of specs/Demand.antt.
+pub mod Calls
+pub mod Parts
+pub mod Alone
+pub mod Placed
+pub mod Demand

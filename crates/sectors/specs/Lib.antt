@@ -1,0 +1,3 @@
+-- What the contracts of `sectors` cite, and what is promised of them.
+pub mod Sectors
+pub mod Demand

@@ -1,0 +1,164 @@
+// A copy read sector by sector: where each of its sectors lies, and whether those that could not be read matter to what
+// discovery answers. A copy is lent as discovery takes it, with any bytes in place of a sector that could not be read; marks
+// have a byte a sector, 0 where it was read. Assumes nothing.
+ghost use mathlib.Core.Path.{_≡_};
+ghost use Prim.Native.Nat.{_+_, _*_, _≤_, _<_};
+ghost use Rattle.layout.specs.Places.{headerSector};
+ghost use Rattle.record.specs.Search.{every};
+ghost use Rattle.sectors.specs.Sectors.{copySectors, areaStart, below, sectorAt, named, namedIn, mattersFor, matters, isRead, passes, known, settled};
+use block::BlockFields;
+use block::Entry;
+use block::Verdict;
+use layout::Area;
+use layout::Device;
+use layout::Side;
+
+// How many sectors a copy has as it is lent.
+pub fn copy_sectors() -> usize
+    ensures { λ r. ⌜ r ≡ copySectors ⌝ }
+{
+    layout::copy_bytes() / layout::SECTOR_BYTES
+}
+
+// The sector of a copy where an area begins.
+fn area_start(x: Area) -> usize
+    ensures { λ r. ⌜ r ≡ areaStart x ⌝ }
+{
+    layout::area_offset(x) / layout::SECTOR_BYTES
+}
+
+// The first sector of a copy's header; of any numbers, with a difference that stops at 0.
+fn header_sector(side: Side, d: Device) -> u64
+    ensures { λ r. ⌜ r ≡ headerSector side d ⌝ }
+{
+    match side {
+        Side::Front => 0,
+        Side::Back => if d.sectors < 8 { 0 } else { d.sectors - 8 },
+    }
+}
+
+// a + j, or s where that is not below s.
+fn sum_below(s: u64, a: u64, j: usize) -> u64
+    ensures { λ r. ⌜ r ≡ below s (a + j) ⌝ }
+{
+    if s <= a {
+        return s;
+    }
+    if s - a <= j as u64 {
+        return s;
+    }
+    a + j as u64
+}
+
+// The device sector that is sector i of a side's copy. Of any numbers: differences stop at 0, and sums at S, which stands for
+// every sector that the device does not have.
+pub fn sector_at(side: Side, d: Device, i: usize) -> u64
+    ensures { λ r. ⌜ r ≡ sectorAt side d i ⌝ }
+{
+    let a = area_start(Area::A);
+    let b = area_start(Area::B);
+    if i < a {
+        return sum_below(d.sectors, header_sector(side, d), i);
+    }
+    if i < b {
+        return sum_below(d.sectors, layout::area_sector(side, Area::A, d), i - a);
+    }
+    sum_below(d.sectors, layout::area_sector(side, Area::B, d), i - b)
+}
+
+// How many sectors n bytes lie in: the fewest that have room for them.
+fn sectors_for(n: u32) -> usize
+    ensures { λ r. ⌜ n ≤ 512 * r ⌝ }
+    ensures { λ r. ⌜ 512 * r < n + 512 ⌝ }
+{
+    (n as usize + 511) / layout::SECTOR_BYTES
+}
+
+// Whether an entry names sector j of its area.
+fn named(e: Entry, j: usize) -> bool
+    ensures { λ r. ⌜ r ≡ named e j ⌝ }
+{
+    match e {
+        Entry::Unused => false,
+        Entry::Used(h) => j < sectors_for(h.bytes),
+    }
+}
+
+// Whether an entry of a block names sector i of its copy.
+fn named_in(f: BlockFields, i: usize) -> bool
+    ensures { λ r. ⌜ r ≡ namedIn f i ⌝ }
+{
+    let a = area_start(Area::A);
+    let b = area_start(Area::B);
+    let in_a = f.a;
+    let in_b = f.b;
+    if i < a {
+        return false;
+    }
+    if i < b {
+        return named(in_a, i - a);
+    }
+    named(in_b, i - b)
+}
+
+// Whether sector i of a copy matters, by what reading its block answered.
+fn matters_for(v: Verdict, i: usize) -> bool
+    ensures { λ r. ⌜ r ≡ mattersFor v i ⌝ }
+{
+    match v {
+        Verdict::Accepted(f) => (i == 1) | named_in(f, i),
+        Verdict::Refused(_) => i == 1,
+    }
+}
+
+// Whether sector i of a copy matters to discovery: the signature block's, and where the block is accepted those that a used
+// entry names, the first ceiling(bytes / 512) of its area.
+pub fn matters(c: &[u8], i: usize) -> bool
+    ensures { λ r. ⌜ r ≡ matters (now (c .entry)) i ⌝ }
+{
+    let r = block::read(endian::window(c, 512, 512));
+    let v = r.verdict;
+    matters_for(v, i)
+}
+
+// Whether sector i was read. One without a mark was not.
+fn is_read(marks: &[u8], i: usize) -> bool
+    ensures { λ r. ⌜ r ≡ isRead (now (marks .entry)) i ⌝ }
+{
+    if i < marks.len() {
+        return marks[i] == 0;
+    }
+    false
+}
+
+// Whether each sector does not matter or was read, by what reading the copy's block answered.
+fn all_pass(v: Verdict, marks: &[u8]) -> bool
+    ensures { λ r. ⌜ r ≡ every (passes v (now (marks .entry))) copySectors ⌝ }
+{
+    let n = copy_sectors();
+    let mut i = 0;
+    while i < n {
+        let passes = !matters_for(v, i) | is_read(marks, i);
+        if !passes {
+            return false;
+        }
+        i += 1;
+    }
+    true
+}
+
+// Whether no sector of a copy that matters is marked. A sector without a mark counts as marked.
+pub fn known(c: &[u8], marks: &[u8]) -> bool
+    ensures { λ r. ⌜ r ≡ known (now (c .entry)) (now (marks .entry)) ⌝ }
+{
+    let r = block::read(endian::window(c, 512, 512));
+    let v = r.verdict;
+    all_pass(v, marks)
+}
+
+// Whether what discovery answers for two copies is sure: no sector that matters in either is marked.
+pub fn settled(f: &[u8], b: &[u8], fm: &[u8], bm: &[u8]) -> bool
+    ensures { λ r. ⌜ r ≡ settled (now (f .entry)) (now (b .entry)) (now (fm .entry)) (now (bm .entry)) ⌝ }
+{
+    known(f, fm) & known(b, bm)
+}
