@@ -1,6 +1,5 @@
 // The command line: its word, its arguments by their numbers, and its options. A word or an option that is not known is said, and
 // then nothing is opened. Assumes what `io`, `os` and `libc` do.
-use crate::help;
 use crate::say::complain;
 use crate::say::complain_text;
 use text::Text;
@@ -24,15 +23,39 @@ pub(crate) enum Word {
     Unknown,
 }
 
-// An option that takes a value.
-pub(crate) enum Valued {
-    Pool,
-    Device,
-    Metadata,
-    Reserved,
-    Block,
-    Width,
-    Nothing,
+// Places among a request's arguments: those that are no options, then the values of options.
+pub(crate) const IMAGE: usize = 0;
+
+pub(crate) const SECOND: usize = 1;
+
+pub(crate) const THIRD: usize = 2;
+
+pub(crate) const POOL: usize = 3;
+
+pub(crate) const DEVICE: usize = 4;
+
+pub(crate) const METADATA: usize = 5;
+
+pub(crate) const RESERVED: usize = 6;
+
+pub(crate) const BLOCK: usize = 7;
+
+pub(crate) const WIDTH: usize = 8;
+
+const PLACES: usize = 9;
+
+// No place: no option waits for its value.
+const NOWHERE: usize = 9;
+
+// What may follow a word: how many arguments have to, whether it writes to the image and so takes --dry-run, which last words it
+// takes, and whether it has the options of `format` or of `show`.
+pub(crate) struct Rules {
+    pub arguments: usize,
+    pub writes: bool,
+    pub replace: bool,
+    pub unreadable: bool,
+    pub sizes: bool,
+    pub plain: bool,
 }
 
 // What is asked for. An argument is its number on the command line, 0 where it is not given.
@@ -40,21 +63,14 @@ pub(crate) struct Request {
     pub word: Word,
     pub good: bool,
     pub help: bool,
-    pub image: usize,
-    pub second: usize,
-    pub third: usize,
     pub dry: bool,
     pub plain: bool,
     pub replace: bool,
     pub unreadable: bool,
-    pub pool: usize,
-    pub device: usize,
-    pub metadata: usize,
-    pub reserved: usize,
-    pub block: usize,
-    pub width: usize,
-    // The option whose value comes next.
-    pub next: Valued,
+    pub at: [usize; 9],
+    pub given: usize,
+    // The place of the option whose value comes next.
+    pub next: usize,
 }
 
 // The word that these bytes are.
@@ -109,26 +125,71 @@ fn word_after(s: &[u8]) -> Word {
     Word::Unknown
 }
 
+// The rules of a word that takes so many arguments and only reads.
+fn reading(arguments: usize) -> Rules {
+    Rules {
+        arguments,
+        writes: false,
+        replace: false,
+        unreadable: false,
+        sizes: false,
+        plain: false,
+    }
+}
+
+// The rules of a word that writes, with the last words that it takes.
+fn writing(arguments: usize, replace: bool, unreadable: bool, sizes: bool) -> Rules {
+    Rules {
+        arguments,
+        writes: true,
+        replace,
+        unreadable,
+        sizes,
+        plain: false,
+    }
+}
+
+// The rules of a word.
+pub(crate) fn rules_of(w: Word) -> Rules {
+    match w {
+        Word::Find => reading(1),
+        Word::Check => reading(1),
+        Word::Show => Rules {
+            arguments: 1,
+            writes: false,
+            replace: false,
+            unreadable: false,
+            sizes: false,
+            plain: true,
+        },
+        Word::Format => writing(1, true, false, true),
+        Word::Mend => writing(1, false, true, false),
+        Word::Allocate => writing(3, false, false, false),
+        Word::Release => writing(2, false, false, false),
+        Word::Update => writing(2, false, false, false),
+        Word::Record => reading(1),
+        Word::Dump => reading(1),
+        Word::Backup => reading(2),
+        Word::Restore => writing(2, true, false, false),
+        Word::Help => reading(0),
+        Word::Version => reading(0),
+        Word::Unknown => reading(0),
+    }
+}
+
 // A request for a word, with nothing else given.
 fn begun(word: Word) -> Request {
     Request {
         word: word,
         good: true,
         help: false,
-        image: 0,
-        second: 0,
-        third: 0,
         dry: false,
         plain: false,
         replace: false,
         unreadable: false,
-        pool: 0,
-        device: 0,
-        metadata: 0,
-        reserved: 0,
-        block: 0,
-        width: 0,
-        next: Valued::Nothing,
+        at: [0usize; 9],
+        given: 0,
+        next: NOWHERE,
     }
 }
 
@@ -147,73 +208,28 @@ fn not_known(p: Request, s: &[u8]) -> Request {
     wrong(p)
 }
 
-// How many words stand after a word, the image among them.
-fn most(w: Word) -> usize {
-    match w {
-        Word::Find => 1,
-        Word::Check => 1,
-        Word::Show => 1,
-        Word::Format => 1,
-        Word::Mend => 1,
-        Word::Allocate => 3,
-        Word::Release => 2,
-        Word::Update => 2,
-        Word::Record => 1,
-        Word::Dump => 1,
-        Word::Backup => 2,
-        Word::Restore => 2,
-        Word::Help => 1,
-        Word::Version => 0,
-        Word::Unknown => 0,
+// A request's argument at a place; 0 where it is not given.
+pub(crate) fn at(p: Request, k: usize) -> usize {
+    let a = p.at;
+    if k < PLACES {
+        return a[k];
     }
+    0
 }
 
-// Whether a word writes to the image.
-pub(crate) fn writes(w: Word) -> bool {
-    match w {
-        Word::Format => true,
-        Word::Mend => true,
-        Word::Allocate => true,
-        Word::Release => true,
-        Word::Update => true,
-        Word::Restore => true,
-        _ => false,
+// A request with argument i of the command line at a place.
+fn with_at(p: Request, k: usize, i: usize) -> Request {
+    let mut q = p;
+    if k < PLACES {
+        q.at[k] = i;
     }
+    q
 }
 
-// Whether a word may be followed by `replace`, and by `unreadable`.
-fn replaces(w: Word) -> bool {
+// Whether a word takes a word of help.
+fn is_help(w: Word) -> bool {
     match w {
-        Word::Format => true,
-        Word::Restore => true,
-        _ => false,
-    }
-}
-
-fn mends(w: Word) -> bool {
-    match w {
-        Word::Mend => true,
-        _ => false,
-    }
-}
-
-fn unknown(w: Word) -> bool {
-    match w {
-        Word::Unknown => true,
-        _ => false,
-    }
-}
-
-fn formats(w: Word) -> bool {
-    match w {
-        Word::Format => true,
-        _ => false,
-    }
-}
-
-fn shows(w: Word) -> bool {
-    match w {
-        Word::Show => true,
+        Word::Help => true,
         _ => false,
     }
 }
@@ -221,138 +237,75 @@ fn shows(w: Word) -> bool {
 // A request with one more argument that is no option, number i on the command line.
 fn with_argument(p: Request, s: &[u8], i: usize) -> Request {
     let w = p.word;
-    let n = most(w);
+    let r = rules_of(w);
+    let most = if is_help(w) { 1 } else { r.arguments };
+    let n = p.given;
+    if (n < most) & (n < 3) {
+        let mut q = with_at(p, n, i);
+        q.given = if n < 3 { n + 1 } else { n };
+        return q;
+    }
     let mut q = p;
-    if (p.image == 0) & (1 <= n) {
-        q.image = i;
-        return q;
-    }
-    if (p.second == 0) & (2 <= n) {
-        q.second = i;
-        return q;
-    }
-    if (p.third == 0) & (3 <= n) {
-        q.third = i;
-        return q;
-    }
-    if replaces(w) & endian::same(s, b"replace") {
+    if r.replace & endian::same(s, b"replace") {
         q.replace = true;
         return q;
     }
-    if mends(w) & endian::same(s, b"unreadable") {
+    if r.unreadable & endian::same(s, b"unreadable") {
         q.unreadable = true;
         return q;
     }
     not_known(p, s)
 }
 
-// The option with a value that these bytes are, for a word.
-fn option_of(w: Word, s: &[u8]) -> Valued {
-    if shows(w) & endian::same(s, b"--width") {
-        return Valued::Width;
+// The place of the option with a value that these bytes are.
+fn place_of(r: Rules, s: &[u8]) -> usize {
+    if r.plain & endian::same(s, b"--width") {
+        return WIDTH;
     }
-    if !formats(w) {
-        return Valued::Nothing;
+    if !r.sizes {
+        return NOWHERE;
     }
     if endian::same(s, b"--pool") {
-        return Valued::Pool;
+        return POOL;
     }
     if endian::same(s, b"--device") {
-        return Valued::Device;
+        return DEVICE;
     }
     if endian::same(s, b"--metadata") {
-        return Valued::Metadata;
+        return METADATA;
     }
     if endian::same(s, b"--reserved") {
-        return Valued::Reserved;
+        return RESERVED;
     }
     if endian::same(s, b"--block") {
-        return Valued::Block;
+        return BLOCK;
     }
-    Valued::Nothing
-}
-
-// A request that waits for the value of an option.
-fn waiting(p: Request, o: Valued) -> Request {
-    let w = p.word;
-    Request {
-        word: w,
-        good: p.good,
-        help: p.help,
-        image: p.image,
-        second: p.second,
-        third: p.third,
-        dry: p.dry,
-        plain: p.plain,
-        replace: p.replace,
-        unreadable: p.unreadable,
-        pool: p.pool,
-        device: p.device,
-        metadata: p.metadata,
-        reserved: p.reserved,
-        block: p.block,
-        width: p.width,
-        next: o,
-    }
-}
-
-// Whether an option waits for its value.
-fn waits(o: Valued) -> bool {
-    match o {
-        Valued::Nothing => false,
-        _ => true,
-    }
-}
-
-// A request with the value that its option waited for.
-fn with_value(p: Request, i: usize) -> Request {
-    let o = p.next;
-    let mut q = waiting(p, Valued::Nothing);
-    match o {
-        Valued::Pool => {
-            q.pool = i;
-        }
-        Valued::Device => {
-            q.device = i;
-        }
-        Valued::Metadata => {
-            q.metadata = i;
-        }
-        Valued::Reserved => {
-            q.reserved = i;
-        }
-        Valued::Block => {
-            q.block = i;
-        }
-        Valued::Width => {
-            q.width = i;
-        }
-        Valued::Nothing => {}
-    }
-    q
+    NOWHERE
 }
 
 // A request with one more option.
 fn with_option(p: Request, s: &[u8]) -> Request {
     let w = p.word;
+    let r = rules_of(w);
     let mut q = p;
     if endian::same(s, b"--help") {
         q.help = true;
         return q;
     }
-    if writes(w) & endian::same(s, b"--dry-run") {
+    if r.writes & endian::same(s, b"--dry-run") {
         q.dry = true;
         return q;
     }
-    if shows(w) & endian::same(s, b"--plain") {
+    if r.plain & endian::same(s, b"--plain") {
         q.plain = true;
         return q;
     }
-    let o = option_of(w, s);
-    if waits(o) {
-        return waiting(p, o);
+    let k = place_of(r, s);
+    if k == NOWHERE {
+        return not_known(p, s);
     }
-    not_known(p, s)
+    q.next = k;
+    q
 }
 
 // Whether these bytes are an option: they begin with a dash.
@@ -372,13 +325,11 @@ fn taken(p: Request, i: usize) -> Request {
         return wrong(p);
     }
     let s = endian::window(&buffer, 0, n);
-    let o = p.next;
-    let w = p.word;
-    if unknown(w) {
-        return p;
-    }
-    if waits(o) {
-        return with_value(p, i);
+    let k = p.next;
+    if k != NOWHERE {
+        let mut q = with_at(p, k, i);
+        q.next = NOWHERE;
+        return q;
     }
     if is_option(s) {
         return with_option(p, s);
@@ -396,48 +347,37 @@ fn first_word() -> Word {
     word_of(endian::window(&buffer, 0, n))
 }
 
-// How many arguments a request has that are no options.
-fn given(p: Request) -> usize {
-    if p.third != 0 {
-        return 3;
-    }
-    if p.second != 0 {
-        return 2;
-    }
-    if p.image != 0 { 1 } else { 0 }
-}
-
-// Whether a word can do with no argument.
-fn alone(w: Word) -> bool {
-    match w {
-        Word::Help => true,
-        Word::Version => true,
-        _ => false,
-    }
-}
-
 // A request as it is when the command line has ended: wrong where something is missing.
 fn ended(p: Request) -> Request {
     let w = p.word;
-    let o = p.next;
+    let r = rules_of(w);
     if !p.good | p.help {
         return p;
     }
-    if waits(o) {
+    if p.next != NOWHERE {
         complain(b"amseokbin: an option has no value\n");
         return wrong(p);
     }
-    if (given(p) < most(w)) & !alone(w) {
+    if p.given < r.arguments {
         complain(b"amseokbin: an argument is missing\n");
         return wrong(p);
     }
     p
 }
 
-// What the command line asks for.
+// Whether a word is known.
+fn is_known(w: Word) -> bool {
+    match w {
+        Word::Unknown => false,
+        _ => true,
+    }
+}
+
+// What the command line asks for. Behind a word that is not known nothing is looked at.
 pub(crate) fn asked() -> Request {
-    let n = os::arg_count();
-    let mut p = begun(first_word());
+    let w = first_word();
+    let n = if is_known(w) { os::arg_count() } else { 0 };
+    let mut p = begun(w);
     let mut i = 2;
     while i < n {
         let next = taken(p, i);

@@ -14,6 +14,7 @@ use block::Verdict;
 use discovery::Answer;
 use layout::Area;
 use layout::Side;
+use mend::Mending;
 use text::Text;
 
 // What discovery's answer says of times: whether a record was found, and its time.
@@ -132,7 +133,7 @@ fn print_record(ok: bool, n: u8, look: Look, front: &[u8], back: &[u8]) -> bool 
 // What is wrong, on standard error.
 fn note_wrong(path: &[u8], look: Look, step: bool, n: u8, p: When, front: &[u8], back: &[u8]) {
     facts::note_lost(path, look, true, p.time, front, back);
-    if !step {
+    if look.sure & !step {
         note(
             path,
             Text::new().add(b"the copies are not in step; keep them with backup, then mend"),
@@ -144,6 +145,22 @@ fn note_wrong(path: &[u8], look: Look, step: bool, n: u8, p: When, front: &[u8],
             sentences::refused(Text::new().add(b"the record is not accepted: "), n),
         );
     }
+}
+
+// Prints whether the copies are in step, and what a mend would do. Where a sector that matters was not read, neither is known.
+fn print_step(ok: bool, look: Look, step: bool, m: Mending) -> bool {
+    if !look.sure {
+        return print(
+            ok,
+            Text::new().add(b"in step unknown\nmend nothing without the word unreadable\n"),
+        );
+    }
+    let t = if step {
+        Text::new().add(b"in step yes\nmend ")
+    } else {
+        Text::new().add(b"in step no\nmend ")
+    };
+    print(ok, repair::summary(t, m).add(b"\n"))
 }
 
 // Prints all that is known of two copies in which a record was found.
@@ -158,16 +175,7 @@ fn print_found(
 ) -> u8 {
     let n = facts::record_number(look, front, back);
     let a = print_record(before, n, look, front, back);
-    let s = if step {
-        Text::new().add(b"in step yes\n")
-    } else {
-        Text::new().add(b"in step no\n")
-    };
-    let b = print(a, s);
-    let ok = print(
-        b,
-        repair::summary(Text::new().add(b"mend "), mend::work_out(front, back)).add(b"\n"),
-    );
+    let ok = print_step(a, look, step, mend::work_out(front, back));
     note_wrong(path, look, step, n, p, front, back);
     facts::worse(
         facts::unless(step & (n == 0), facts::REFUSED),
@@ -192,11 +200,7 @@ pub(crate) fn run(
     let b = print_side(f, Side::Back, back, back_marks, p);
     match a {
         Answer::Refused(n) => {
-            let step = print(b, Text::new().add(b"in step no\n"));
-            let ok = print(
-                step,
-                sentences::refused(Text::new().add(b"mend "), n).add(b"\n"),
-            );
+            let ok = print_step(b, look, false, mend::work_out(front, back));
             let s = facts::worse(
                 facts::refuse_found(path, look, n),
                 facts::unless(ok, facts::FAILED),

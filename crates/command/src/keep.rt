@@ -291,7 +291,7 @@ pub(crate) fn restore_word(
     }
     let set = endian::window(&all, PAGE, sets::BYTES);
     if !may_restore(path, replace, set, front, back) {
-        return facts::REFUSED;
+        return facts::worse(facts::unless(look.sure, facts::FAILED), facts::REFUSED);
     }
     if !fits(path, file, look, set) {
         return facts::REFUSED;

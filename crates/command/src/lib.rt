@@ -71,7 +71,7 @@ fn wanted(p: Request) -> Asked
         return done(help::print_word(w));
     }
     match w {
-        Word::Help => done(help::run(p.image)),
+        Word::Help => done(help::run(arguments::at(p, arguments::IMAGE))),
         Word::Version => done(help::version()),
         Word::Unknown => done(help::unknown(1)),
         _ => open(p),
@@ -88,8 +88,12 @@ fn open(p: Request) -> Asked
     }
     Asked {
         status: 0,
-        access: if arguments::writes(w) & !p.dry { 2 } else { 1 },
-        image: p.image as u64,
+        access: if arguments::rules_of(w).writes & !p.dry {
+            2
+        } else {
+            1
+        },
+        image: arguments::at(p, arguments::IMAGE) as u64,
     }
 }
 

@@ -279,7 +279,7 @@ pub(crate) fn draw(before: bool, d: Device, columns: u64, r: &[u8]) -> bool {
     let e = print_scale(c, d, s, sum(n, twice(s.ends)));
     let f = put(
         e,
-        b"# ends  M thin-metadata  D thin-data  S spare  V metadata-volume  * several  . free\n",
+        b"# end, M thin-metadata, D thin-data, S spare, V metadata-volume, * mixed, . free\n",
     );
     let t = Text::new()
         .add(b"a small letter: free room too; a character is ")

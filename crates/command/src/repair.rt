@@ -137,7 +137,7 @@ pub(crate) fn run(
                 return facts::FAILED;
             }
             if !within(path, look) {
-                return facts::REFUSED;
+                return facts::worse(sure, facts::REFUSED);
             }
             store(path, look, m, p, dry, front, back)
         }

@@ -2,6 +2,7 @@
 use crate::arguments;
 use crate::arguments::Request;
 use crate::arguments::Word;
+use crate::arguments::at;
 use crate::change;
 use crate::check;
 use crate::copies;
@@ -168,13 +169,14 @@ fn name_of(i: usize) -> Name {
 // Whether the values on the command line are what they have to be; said where they are not. Nothing is opened before.
 pub(crate) fn values_good(p: Request) -> bool {
     let w = p.word;
-    let sizes = size_of(p.metadata, 0).good
-        & (size_of(p.reserved, 0).good & size_of(p.block, 0).good);
-    let names = name_good(p.pool) & name_good(p.device);
-    let width = number_of(p.width, 0).good;
+    let sizes = size_of(at(p, arguments::METADATA), 0).good
+        & (size_of(at(p, arguments::RESERVED), 0).good & size_of(at(p, arguments::BLOCK), 0).good);
+    let names = name_good(at(p, arguments::POOL)) & name_good(at(p, arguments::DEVICE));
+    let width = number_of(at(p, arguments::WIDTH), 0).good;
     let own = match w {
-        Word::Allocate => (kind_of(p.second) != 0) & size_of(p.third, 0).good,
-        Word::Release => number_of(p.second, 0).good,
+        Word::Allocate => (kind_of(at(p, arguments::SECOND)) != 0)
+            & size_of(at(p, arguments::THIRD), 0).good,
+        Word::Release => number_of(at(p, arguments::SECOND), 0).good,
         _ => true,
     };
     (sizes & names) & (width & own)
@@ -189,8 +191,8 @@ fn name_good(i: usize) -> bool {
 
 // The word `format`.
 fn format_word(path: &[u8], p: Request, g: Given) -> u8 {
-    let pool = name_of(p.pool);
-    let device = name_of(p.device);
+    let pool = name_of(at(p, arguments::POOL));
+    let device = name_of(at(p, arguments::DEVICE));
     if !(pool.good & device.good) {
         return facts::FAILED;
     }
@@ -198,9 +200,9 @@ fn format_word(path: &[u8], p: Request, g: Given) -> u8 {
     let b = device.digits;
     let now = g.now;
     let w = Wanted {
-        metadata: size_of(p.metadata, 2040).value,
-        reserved: size_of(p.reserved, 0).value,
-        block: size_of(p.block, 128).value,
+        metadata: size_of(at(p, arguments::METADATA), 2040).value,
+        reserved: size_of(at(p, arguments::RESERVED), 0).value,
+        block: size_of(at(p, arguments::BLOCK), 128).value,
         replace: p.replace,
         dry: p.dry,
         now: now,
@@ -222,7 +224,7 @@ fn with_file(
     bm: &[u8],
 ) -> u8 {
     let mut buffer = io::buffer();
-    let n = argument(p.second, &mut buffer);
+    let n = argument(at(p, arguments::SECOND), &mut buffer);
     let file = endian::window(&buffer, 0, n);
     let w = p.word;
     match w {
@@ -235,8 +237,8 @@ fn with_file(
 
 // The columns of the picture: as asked for, or the terminal's, or 80.
 fn columns_of(p: Request, g: Given) -> u64 {
-    if p.width != 0 {
-        return number_of(p.width, 80).value;
+    if at(p, arguments::WIDTH) != 0 {
+        return number_of(at(p, arguments::WIDTH), 80).value;
     }
     if g.columns == 0 {
         return 80;
@@ -267,8 +269,8 @@ fn with_copies(
             look,
             now,
             p.dry,
-            kind_of(p.second),
-            size_of(p.third, 0).value,
+            kind_of(at(p, arguments::SECOND)),
+            size_of(at(p, arguments::THIRD), 0).value,
             front,
             back,
         ),
@@ -277,7 +279,7 @@ fn with_copies(
             look,
             now,
             p.dry,
-            number_of(p.second, 0).value,
+            number_of(at(p, arguments::SECOND), 0).value,
             front,
             back,
         ),
@@ -301,7 +303,7 @@ fn read_copies(path: &[u8], p: Request, g: Given) -> u8 {
 // Does what is asked for; its status.
 pub(crate) fn run(p: Request, g: Given) -> u8 {
     let mut buffer = io::buffer();
-    let n = argument(p.image, &mut buffer);
+    let n = argument(at(p, arguments::IMAGE), &mut buffer);
     let path = endian::window(&buffer, 0, n);
     let w = p.word;
     match w {

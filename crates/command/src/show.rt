@@ -250,24 +250,26 @@ fn people_head(look: Look, s: Shown, q: Reading) -> bool {
     )
 }
 
-// The line of the found record.
+// The lines of the found record.
 fn people_record(ok: bool, look: Look, s: Shown) -> bool {
     let f = s.found;
     let side = f.side;
     let area = f.area;
-    let b = Text::new()
-        .add(b"record    ")
-        .decimal(f.bytes as u64)
-        .add(b" bytes of ");
-    let t = facts::add_date(b, facts::record_time(f)).add(b", ");
-    let p = facts::add_area(facts::add_side(t, side).add(b" "), area);
+    let t = facts::add_count(Text::new().add(b"record    "), f.bytes as u64, b"byte");
+    let p = facts::add_area(facts::add_side(t.add(b", "), side).add(b" "), area);
+    let a = print(ok, p.add(b"\n"));
+    let when = facts::add_date(Text::new().add(b"time      "), facts::record_time(f));
+    let b = print(a, when.add(b"\n"));
     if !look.sure {
-        return print(ok, p.add(b", perhaps not the newest\n"));
+        return print(
+            b,
+            Text::new().add(b"copies    not all read: perhaps not the newest\n"),
+        );
     }
     if s.step {
-        return print(ok, p.add(b", the copies are in step\n"));
+        return print(b, Text::new().add(b"copies    in step\n"));
     }
-    print(ok, p.add(b", the copies are NOT in step\n"))
+    print(b, Text::new().add(b"copies    NOT in step\n"))
 }
 
 // A line with a number of sectors and their size.
