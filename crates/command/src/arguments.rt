@@ -373,10 +373,18 @@ fn is_known(w: Word) -> bool {
     }
 }
 
+// The number after the last argument that is looked at.
+fn end_of(w: Word) -> usize {
+    if is_known(w) {
+        return os::arg_count();
+    }
+    0
+}
+
 // What the command line asks for. Behind a word that is not known nothing is looked at.
 pub(crate) fn asked() -> Request {
     let w = first_word();
-    let n = if is_known(w) { os::arg_count() } else { 0 };
+    let n = end_of(w);
     let mut p = begun(w);
     let mut i = 2;
     while i < n {

@@ -130,7 +130,8 @@ pub(crate) fn later_torn(c: &[u8], t: Time) -> Torn {
     Torn::Nothing
 }
 
-// Says of a side that a newer record than the one found was begun there and is torn.
+// Says of a side that a newer record than the one found was stored there and is torn: what a cut leaves is never so, so the drive has
+// lost it.
 fn note_torn(path: &[u8], first: Text, side: Side, c: &[u8], t: Time) {
     let x = later_torn(c, t);
     let Torn::At(y, h) = x else {
@@ -139,7 +140,9 @@ fn note_torn(path: &[u8], first: Text, side: Side, c: &[u8], t: Time) {
     let a = add_area(add_side(first, side).add(b" "), y);
     note(
         path,
-        add_holding(a.add(b" is torn: a newer record of "), h).add(b" was begun there and is lost"),
+        add_holding(a.add(b" is torn: a newer record of "), h).add(
+            b" was stored there and is lost",
+        ),
     );
 }
 

@@ -78,6 +78,14 @@ fn wanted(p: Request) -> Asked
     }
 }
 
+// How the image is opened for a word: 2 for writing, else 1. A dry run only reads.
+fn access_of(w: Word, dry: bool) -> u32
+    ensures { λ r. ⌜ r ≤ 2 ⌝ }
+{
+    let r = arguments::rules_of(w);
+    if r.writes & !dry { 2 } else { 1 }
+}
+
 // The image of a request, whose values have to be what they are for.
 fn open(p: Request) -> Asked
     ensures { λ r. ⌜ (r .status ≤ 3) × (r .access ≤ 2) ⌝ }
@@ -88,11 +96,7 @@ fn open(p: Request) -> Asked
     }
     Asked {
         status: 0,
-        access: if arguments::rules_of(w).writes & !p.dry {
-            2
-        } else {
-            1
-        },
+        access: access_of(w, p.dry),
         image: arguments::at(p, arguments::IMAGE) as u64,
     }
 }

@@ -141,9 +141,13 @@ fn write_store(fd: i32, path: &[u8], w: Work, i: u64, list: &[u8]) -> bool {
     flush(fd, path, group(w, i) != group(w, i + 1))
 }
 
-// Writes all stores of the list, up to the first that fails; whether all went well.
+// Writes all stores of the list, up to the first that fails; whether all went well. A flush comes first, so that what the copies were
+// read from has landed too.
 pub(crate) fn write_all(fd: i32, path: &[u8], w: Work, list: &[u8]) -> bool {
     let n = count(w);
+    if !flush(fd, path, true) {
+        return false;
+    }
     let mut i = 0;
     while i < n {
         if !write_store(fd, path, w, i, list) {
