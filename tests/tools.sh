@@ -14,8 +14,9 @@ need cc "the shim cannot be built without it"
 need cargo "the program drive cannot be built without it"
 need timeout "it ends what hangs"
 
-amseokbin=$(realpath "${AMSEOKBIN:-target/amseokbin}")
+amseokbin=${AMSEOKBIN:-target/amseokbin}
 [ -x "$amseokbin" ] || { echo "$tools_for: $amseokbin is not there; build the command, or name it in AMSEOKBIN" >&2; exit 2; }
+amseokbin=$(realpath "$amseokbin")
 mkdir -p target
 shim=$PWD/target/shim.so
 if [ ! "$shim" -nt tests/shim.c ]; then

@@ -1,3 +1,4 @@
+# shellcheck shell=bash disable=SC2034,SC2154
 # For the files `make` of the damaged images; for bash. They run in a folder of their own and leave the file `image` there.
 # `drive` makes and changes images with right checksums; `drive` alone prints its words.
 
