@@ -12,7 +12,6 @@ use std::fs;
 use crate::command::{Bench, Call, Failures, Run, IMAGE};
 use crate::cuts::identity_lines;
 use crate::image::{found_line, place, Copies, Image, DEVICE, POOL};
-use crate::model::discovery::Pair;
 use crate::model::layout::{AREA_OFFSET, BACK, BLOCK_OFFSET, FRONT, SECTOR};
 use crate::states::{half_updated, in_step, spoil_block, stamped, tear, SMALL};
 
@@ -530,9 +529,9 @@ pub fn matters(copies: &Copies, sector: u64) -> bool {
     })
 }
 
-/// What find prints where these sectors could not be read.
-pub fn perhaps(copies: &Copies, unread: &[u64]) -> String {
-    let mut seen = copies.clone();
+/// The copies as they are known where these sectors could not be read, and which blocks are not.
+pub fn known(copies: &Copies, unread: &[u64]) -> (Copies, [bool; 2]) {
+    let mut known = copies.clone();
     let mut blocks = [false; 2];
     for &sector in unread {
         let Some((side, at)) = place(&SMALL, sector) else {
@@ -540,14 +539,19 @@ pub fn perhaps(copies: &Copies, unread: &[u64]) -> String {
         };
         if at == BLOCK_OFFSET {
             blocks[side] = true;
-            seen.0[side][at..at + SECTOR].fill(0);
+            known.0[side][at..at + SECTOR].fill(0);
         } else if matters(copies, sector) {
             // An area with a part that is not known is not whole.
-            seen.0[side][at] ^= 0xFF;
+            known.0[side][at] ^= 0xFF;
         }
     }
-    let pair = Pair::read(&seen.0[0], &seen.0[1]).expect("two copies of the right size");
-    match pair.discover() {
+    (known, blocks)
+}
+
+/// What find prints where these sectors could not be read.
+pub fn perhaps(copies: &Copies, unread: &[u64]) -> String {
+    let (known, blocks) = known(copies, unread);
+    match known.found() {
         Err(_) => String::new(),
         Ok(found) => {
             let other = blocks[1 - found.side].then_some("unread");

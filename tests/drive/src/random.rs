@@ -3,8 +3,8 @@
 
 use crate::command::{Bench, Failures, Run, IMAGE};
 use crate::cuts::{identity_lines, mend_lines};
-use crate::faults::{matters, perhaps};
-use crate::image::{time, Copies, Image, Stamped};
+use crate::faults::{known, matters, perhaps};
+use crate::image::{place, time, Copies, Image, Stamped};
 use crate::model::block::{put_entry, seal, Entry, Time};
 use crate::model::discovery::is_whole;
 use crate::model::layout::{AREA_OFFSET, BACK, FRONT, SECTOR};
@@ -22,6 +22,7 @@ struct Counts {
     in_step: u64,
     mended: u64,
     unread: u64,
+    unread_mended: u64,
     no_record: u64,
 }
 
@@ -44,9 +45,10 @@ impl<'a> Random<'a> {
         }
         let c = &self.counts;
         println!("random: {} states, {} runs of the command", c.states, self.bench.runs);
-        println!("  found {}, refused {}, with a sector unread that matters {}", c.found, c.refused, c.unread);
+        println!("  found {}, refused {}", c.found, c.refused);
+        println!("  with a sector unread that matters {}, of which mended {}", c.unread, c.unread_mended);
         println!("  in step {}, mended {}, no segment record {}", c.in_step, c.mended, c.no_record);
-        if [c.found, c.refused, c.unread, c.in_step, c.mended, c.no_record].contains(&0) {
+        if [c.found, c.refused, c.unread, c.unread_mended, c.in_step, c.mended, c.no_record].contains(&0) {
             self.failures.add("one of these was never reached", &[], &[], None);
         }
     }
@@ -70,7 +72,11 @@ impl<'a> Random<'a> {
         let settings = [("SHIM_UNREADABLE", list.as_str())];
         self.find(copies, unread, uncertain, &settings)?;
         self.check(copies, uncertain, &settings)?;
-        self.mend(copies, uncertain, &settings)
+        self.mend(copies, uncertain, &settings)?;
+        if uncertain {
+            self.mend_unreadable(copies, unread, &settings)?;
+        }
+        Ok(())
     }
 
     fn find(
@@ -154,6 +160,30 @@ impl<'a> Random<'a> {
             return Err("after the mend: not in step on the record that was found".to_string());
         }
         Ok(())
+    }
+
+    /// `mend IMAGE unreadable`: only where nothing that matters is unread in the copy that is kept; the other is rewritten.
+    fn mend_unreadable(&mut self, copies: &Copies, unread: &[u64], settings: &[(&str, &str)]) -> Result<(), String> {
+        let mend = self.bench.run(&["mend", IMAGE, "unreadable"], settings);
+        let left = self.image.read();
+        let (known, _) = known(copies, unread);
+        let kept = known.found().ok().map(|found| found.side);
+        let in_kept = |sector: u64| place(&SMALL, sector).map(|(side, _)| side) == kept && matters(copies, sector);
+        let stores = known.mend_stores().unwrap_or_default();
+        if kept.is_none() || stores.is_empty() || unread.iter().any(|&sector| in_kept(sector)) {
+            let right = mend.status == 3 && left == *copies;
+            return if right { Ok(()) } else { Err(format!("mend unreadable goes on:\n{}{}", mend.text(), mend.err)) };
+        }
+        let mut after = copies.clone();
+        after.land(&SMALL, &stores);
+        self.counts.unread_mended += 1;
+        // What of the other copy was not stored to may still be unread.
+        let first = mend_lines(&known, &stores, &after);
+        let first = first.lines().next().unwrap_or("");
+        if left == after && mend.text().starts_with(first) && mend.status != 1 {
+            return Ok(());
+        }
+        Err(format!("mend unreadable: not '{first}' and its stores:\n{}{}", mend.text(), mend.err))
     }
 }
 
