@@ -120,14 +120,17 @@ impl Failures {
     /// Prints what went wrong, with the words that run it again.
     pub fn add(&mut self, what: &str, words: &[&str], settings: &[(&str, &str)], run: Option<&Run>) {
         self.count += 1;
-        let kind = self.kinds.entry(what.to_string()).or_default();
+        let first = what.lines().next().unwrap_or("");
+        let kind = self.kinds.entry(first.to_string()).or_default();
         *kind += 1;
         if *kind > TOLD {
             return;
         }
         println!("FAILED {what}");
         let settings: Vec<String> = settings.iter().map(|(name, value)| format!("{name}={value}")).collect();
-        println!("  {} amseokbin {}", settings.join(" "), words.join(" "));
+        if !words.is_empty() {
+            println!("  {} amseokbin {}", settings.join(" "), words.join(" "));
+        }
         if let Some(run) = run {
             println!("  status {}", run.status);
             for line in run.text().lines().take(12) {

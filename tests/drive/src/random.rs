@@ -1,14 +1,15 @@
-//! Drives in random states, damaged and with sectors that cannot be read: what find, check, mend and record say and leave is
+//! Drives in random states, damaged and with sectors that cannot be read: what find, check, show, mend and record say and leave is
 //! held to an independent reading of the bytes.
 
 use crate::command::{Bench, Failures, Run, IMAGE};
 use crate::cuts::{identity_lines, mend_lines};
 use crate::faults::{known, matters, perhaps};
 use crate::image::{place, time, Copies, Image, Stamped};
-use crate::model::block::{put_entry, seal, Entry, Time};
+use crate::model::block::{put_entry, seal, Entry, Identity, Time};
 use crate::model::discovery::is_whole;
 use crate::model::layout::{AREA_OFFSET, BACK, FRONT, SECTOR};
 use crate::model::record::check_record;
+use crate::model::room::free_runs;
 use crate::rng::Rng;
 use crate::states::{half_updated, identity, record, SMALL};
 
@@ -61,7 +62,7 @@ impl<'a> Random<'a> {
         self.image.put(&copies);
         self.counts.states += 1;
         if let Err(what) = self.judge(&copies, &unread) {
-            self.failures.add(&format!("{what} (drive random 1 {number})"), &[], &[], None);
+            self.failures.add(&format!("{what}\n  run again: drive random 1 {number}"), &[], &[], None);
         }
     }
 
@@ -72,6 +73,9 @@ impl<'a> Random<'a> {
         let settings = [("SHIM_UNREADABLE", list.as_str())];
         self.find(copies, unread, uncertain, &settings)?;
         self.check(copies, uncertain, &settings)?;
+        if !uncertain && copies.found().is_ok() {
+            self.show(copies, &settings)?;
+        }
         self.mend(copies, uncertain, &settings)?;
         if uncertain {
             self.mend_unreadable(copies, unread, &settings)?;
@@ -132,6 +136,12 @@ impl<'a> Random<'a> {
             return Ok(());
         }
         Err(format!("check does not print\n{}\nbut\n{}", wanted.join("\n"), check.text()))
+    }
+
+    fn show(&mut self, copies: &Copies, settings: &[(&str, &str)]) -> Result<(), String> {
+        let show = self.bench.run(&["show", IMAGE, "--plain"], settings);
+        let text = show_lines(copies);
+        is(&show, i32::from(!text.contains("\nrecord=0\n")), &text, "show")
     }
 
     fn mend(&mut self, copies: &Copies, uncertain: bool, settings: &[(&str, &str)]) -> Result<(), String> {
@@ -239,11 +249,69 @@ fn check_lines(copies: &Copies) -> Vec<String> {
     lines
 }
 
-/// A time of the first month of 1970.
+/// What show --plain prints of what is found.
+fn show_lines(copies: &Copies) -> String {
+    let found = copies.found().expect("a record that is found");
+    let Identity { device, pool_uuid, device_uuid } = copies.block(found.side).expect("a block").identity;
+    let mut lines = Vec::new();
+    let mut add = |key: &str, value: String| lines.push(format!("{key}={value}\n"));
+    add("pool", String::from_utf8_lossy(&pool_uuid).into_owned());
+    add("device", String::from_utf8_lossy(&device_uuid).into_owned());
+    add("sectors", device.sectors.to_string());
+    add("metadata", device.metadata.to_string());
+    add("reserved", device.reserved.to_string());
+    add("found", ["front", "back"][found.side].to_string());
+    add("area", ["a", "b"][found.area].to_string());
+    add("bytes", found.bytes.to_string());
+    add("seconds", found.time.seconds.to_string());
+    add("nanoseconds", found.time.nanoseconds.to_string());
+    add("other", found.other.map_or("both".to_string(), |refusal| refusal.number().to_string()));
+    add("in-step", if copies.pair().in_step() { "yes" } else { "no" }.to_string());
+    add("sure", "yes".to_string());
+    let record = check_record(&device, found.record([&copies.0[FRONT], &copies.0[BACK]]));
+    add("record", record.as_ref().err().map_or(0, |refusal| refusal.number()).to_string());
+    if let Ok((record, spans)) = record {
+        add("block-size", record.block_size().to_string());
+        add("segments", record.count().to_string());
+        for (i, segment) in record.segments().enumerate() {
+            add(&format!("segment.{i}.kind"), segment.kind.to_string());
+            add(&format!("segment.{i}.start"), segment.start.to_string());
+            add(&format!("segment.{i}.sectors"), segment.length.to_string());
+        }
+        let runs: Vec<_> = free_runs(&device, spans.as_slice()).collect();
+        add("allocated", record.segments().map(|segment| segment.length).sum::<u64>().to_string());
+        add("free-runs", runs.len().to_string());
+        add("free", runs.iter().map(|run| run.length).sum::<u64>().to_string());
+        for (i, run) in runs.iter().enumerate() {
+            add(&format!("free.{i}.start"), run.start.to_string());
+            add(&format!("free.{i}.sectors"), run.length.to_string());
+        }
+    }
+    lines.concat()
+}
+
+/// A time as a date; after the year 9999 in seconds.
 fn date(time: Time) -> String {
     let Time { seconds, nanoseconds } = time;
-    let (day, hour, minute) = (1 + seconds / 86_400, seconds / 3_600 % 24, seconds / 60 % 60);
-    format!("1970-01-{day:02} {hour:02}:{minute:02}:{:02}.{nanoseconds:09} UTC", seconds % 60)
+    if seconds > 253_402_300_799 {
+        return format!("{seconds}.{nanoseconds:09} s");
+    }
+    let is_leap = |year: u64| year.is_multiple_of(4) && (!year.is_multiple_of(100) || year.is_multiple_of(400));
+    let (mut year, mut day) = (1970, seconds / 86_400);
+    while day >= 365 + u64::from(is_leap(year)) {
+        day -= 365 + u64::from(is_leap(year));
+        year += 1;
+    }
+    let mut month = 0;
+    let february = 28 + u64::from(is_leap(year));
+    let months = [31, february, 31, 30, 31, 30, 31, 31, 30, 31, 30, 31];
+    while day >= months[month] {
+        day -= months[month];
+        month += 1;
+    }
+    let (month, day) = (month + 1, day + 1);
+    let (hour, minute, second) = (seconds / 3_600 % 24, seconds / 60 % 60, seconds % 60);
+    format!("{year:04}-{month:02}-{day:02} {hour:02}:{minute:02}:{second:02}.{nanoseconds:09} UTC")
 }
 
 fn is(run: &Run, status: i32, text: &str, word: &str) -> Result<(), String> {
@@ -261,9 +329,13 @@ fn says(run: &Run, words: &str) -> Result<(), String> {
     }
 }
 
-/// A time out of few, so that equal ones and ones that differ by nanoseconds come up.
+/// Most often a time out of few, so that equal ones and ones that differ by nanoseconds come up.
 fn any_time(rng: &mut Rng) -> Time {
-    time(rng.within(10, 12), rng.one_of(&[0, 1, 2, 999_999_999]))
+    let seconds = match rng.below(8) {
+        0 => rng.below(300_000_000_000),
+        _ => rng.within(10, 12),
+    };
+    time(seconds, rng.one_of(&[0, 1, 2, 999_999_999]))
 }
 
 /// A record of a sector or of several, or bytes that are none.
@@ -302,7 +374,7 @@ fn any_state(rng: &mut Rng) -> Copies {
     let mut copies = Copies::formatted(&identity(SMALL), &first).expect("a first record");
     match rng.below(3) {
         0 => {
-            let new = Stamped { time: time(13, 0), record: record(&SMALL, rng.within(0, 60)) };
+            let new = Stamped { time: time(400_000_000_000, 0), record: record(&SMALL, rng.within(0, 60)) };
             copies = half_updated(SMALL, &copies, &new, rng.within(0, 4) as u8);
         }
         1 => {
