@@ -10,7 +10,8 @@
  * SHIM_IMAGE=PATH       The drive: any descriptor of that file, by its device and inode. Without it nothing is done but
  *                       SHIM_TIME and `out` below.
  * SHIM_LOG=PATH         Adds a line for each call on the drive: kind, number, sector, bytes asked for, result (a number or
- *                       the error). A dash where there is none. `cut` and the event's number for a cut.
+ *                       the error: EIO, ENOSPC, EINTR, or E and a number). A dash where there is none. `cut` and the event's
+ *                       number for a cut.
  * SHIM_TIME=S.N         The clock stands at S seconds and N nanoseconds.
  * SHIM_UNREADABLE=LIST  Reads that touch one of these sectors fail with EIO: 8-11,1030. A sector that the process has written
  *                       can be read again, as on a drive that gives it another place.
@@ -119,14 +120,16 @@ static void log_line(const char *form, ...) {
     errno = before;
 }
 
+static const char *error_name(int error) { return error == EIO ? "EIO" : error == ENOSPC ? "ENOSPC" : "EINTR"; }
+
 static void log_call(enum kind kind, off_t at, size_t n, ssize_t result) {
     char sector[40] = "-", bytes[40] = "-", answer[40];
     if (at >= 0 && at % SECTOR == 0) snprintf(sector, sizeof sector, "%lld", (long long)(at / SECTOR));
     if (at >= 0 && at % SECTOR != 0) snprintf(sector, sizeof sector, "%lld+%d", (long long)(at / SECTOR), (int)(at % SECTOR));
     if (kind != OPEN && kind != FLUSH) snprintf(bytes, sizeof bytes, "%zu", n);
-    const char *error = result < 0 ? strerrorname_np(errno) : NULL;
-    if (error) snprintf(answer, sizeof answer, "%s", error);
-    else snprintf(answer, sizeof answer, "%zd", result);
+    if (result >= 0) snprintf(answer, sizeof answer, "%zd", result);
+    else if (errno == EIO || errno == ENOSPC || errno == EINTR) snprintf(answer, sizeof answer, "%s", error_name(errno));
+    else snprintf(answer, sizeof answer, "E%d", errno);
     log_line("%s %lu %s %s %s\n", kind_names[kind], counts[kind], sector, bytes, answer);
 }
 

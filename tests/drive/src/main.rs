@@ -106,6 +106,7 @@ fn random(states: u64, only: Option<u64>) -> u64 {
             Some(state) => random.state(state),
             None => random.all(states),
         }
+        random.failures.tell();
         random.failures.count
     })
 }

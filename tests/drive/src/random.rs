@@ -1,5 +1,5 @@
-//! Drives in random states, damaged and with sectors that cannot be read: what find, check, show, mend and record say and leave is
-//! held to an independent reading of the bytes.
+//! Drives in random states, damaged and with sectors that cannot be read: what find, check, show, mend and record say and
+//! leave is held to an independent reading of the bytes.
 
 use crate::command::{Bench, Failures, Run, IMAGE};
 use crate::cuts::{identity_lines, mend_lines};
