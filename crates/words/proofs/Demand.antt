@@ -9,20 +9,20 @@ use native.Mathlib.Nat.{mul-le-mul-left, le-of-eq}
 use native.Mathlib.Omega.{arith}
 use borrow.Author.Tests.{lt-ltb, le-ltb, ltb-true, leb-true, le-leb, lt-leb, eqb-true, eq-eqb, ne-eqb}
 use lib.Dec.{ltb, leb, eqb, lit<}
-use lib.ListN.{length, getD, take, drop, length-append, length-map, length-drop, take-append-drop, List·getD-map}
-use lib.Seq.{take-at, take-all, take-suc, getD-at, drop-cons, drop-drop, drop-append-add, getD-append-add, length-take-le}
+use lib.ListN.{length, getD, take, drop, length-append, length-map, take-append-drop, List·getD-map}
+use lib.Seq.{take-at, take-all, take-suc, getD-at, drop-cons, drop-drop, drop-append-add, getD-append-add}
 use Rattle.endian.specs.Bytes.{window, same, all, zeros}
-use Rattle.endian.proofs.Tests.{and-left, and-right, and-both, all-at, same-equal}
+use Rattle.endian.proofs.Tests.{and-left, and-right, all-at, same-equal}
 use Rattle.endian.proofs.Parts.{length-window-fits, window-rest}
-use Rattle.text.specs.Decimal.{decimal, value, isDigit}
+use Rattle.text.specs.Decimal.{decimal, valueAfter, value, isDigit}
 use Rattle.text.proofs.Decimals.{all-digits, decimal-value, decimal-some}
 use Rattle.block.specs.Block.{isHex}
 use Rattle.words.specs.declared.answers.Number.{Number}
 use Rattle.words.specs.declared.answers.Number.the-variants.{Is, Nothing}
 use Rattle.words.specs.declared.answers.Uuid.{Uuid}
 use Rattle.words.specs.Words.{numberAfter, numberOf, unitOf, timesOf, sectorsOf, last, thinMetadata, thinData, spare, metadataVolume, kindOf, dash, dashed, joined, undashed, lower, noUuid, hexUuid, uuidOf}
-use Rattle.words.specs.Demand.{ReadBack, DigitsAlone, Numbers, Sizes, Lettered, Size, SizesOnly, bytes, Names, Kinds, Digits, Dashes, Form, Says, upper, Uuids}
-use Rattle.words.proofs.Words.{and-false, number-start, undashed-joined, undashed-same, dashed-length}
+use Rattle.words.specs.Demand.{ReadBack, DigitsAlone, Numbers, Sizes, Lettered, Size, SizesOnly, Names, Kinds, Digits, Dashes, Form, Says, upper, Uuids}
+use Rattle.words.proofs.Words.{and-false, number-start, undashed-joined, undashed-same}
 
 pub read-back : ReadBack
 unfolding numberAfter
@@ -59,8 +59,12 @@ digits-above : (s : List ℕ) → 0 < length s → all isDigit s ≡ true → 2 
 unfolding numberOf numberAfter
 digits-above s l a h = rw (lt-ltb 0 (length s) l, a, le-ltb (value s) (2 ^ 64) h)
 
+zero-before : (s : List ℕ) → 0 < length s → numberOf (48 ∷ s) ≡ numberOf s
+unfolding numberOf numberAfter valueAfter all
+zero-before s l = rw (lt-ltb 0 (length s) l, lt-ltb 0 (length (48 ∷ s)) (let m : 0 < length (48 ∷ s) = omega arith in m))
+
 pub numbers : Numbers
-numbers = record { below = digits-below; above = digits-above; only = digits-alone }
+numbers = record { below = digits-below; above = digits-above; leading = zero-before; only = digits-alone }
 
 -- digits name no unit
 no-unit : (x : ℕ) → isDigit x ≡ true → unitOf x ≡ 0

@@ -23,12 +23,14 @@ abbrev pub DigitsAlone : Type 0
 DigitsAlone = (s : List ℕ) (n : ℕ) → numberOf s ≡ Is n → (0 < length s) × (all isDigit s ≡ true) × (value s ≡ n) × (n < 2 ^ 64)
 
 -- Every word of digits says the number that they make, leading zeros or none, where it is below 2^64, and else nothing.
--- With `DigitsAlone` no other word says a number.
+-- No other word says a number.
 pub record Numbers : Type 0 where
   -- digits of a number below 2^64 say it
   pub below : (s : List ℕ) → 0 < length s → all isDigit s ≡ true → value s < 2 ^ 64 → numberOf s ≡ Is (value s)
   -- digits of any other say nothing
   pub above : (s : List ℕ) → 0 < length s → all isDigit s ≡ true → 2 ^ 64 ≤ value s → numberOf s ≡ Nothing
+  -- a zero in front changes nothing
+  pub leading : (s : List ℕ) → 0 < length s → numberOf (48 ∷ s) ≡ numberOf s
   -- nothing but digits says a number
   pub only : DigitsAlone
 
