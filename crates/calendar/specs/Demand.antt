@@ -48,11 +48,11 @@ Shows s y mo d h mi se = dateOf s ≡ At (record { year = y; month = mo; day = d
 pub record Anchors : Type 0 where
   -- the first second
   pub first : Shows 0 1970 1 1 0 0 0
-  -- the leap day of a hundredth year that has one, the second before it and the one after it
+  -- the leap day of a hundredth year that has one: the last second before it, its first, and the first after it
   pub before-leap-day : Shows 951782399 2000 2 28 23 59 59
   pub leap-day : Shows 951782400 2000 2 29 0 0 0
   pub after-leap-day : Shows 951868800 2000 3 1 0 0 0
-  -- the last second of a century
+  -- the last second before the year 2100
   pub century : Shows 4102444799 2099 12 31 23 59 59
   -- a hundredth year that has no leap day: the last second of its February, and the next
   pub no-leap-day : Shows 4107542399 2100 2 28 23 59 59
