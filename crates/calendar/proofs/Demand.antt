@@ -9,8 +9,8 @@ use lib.Dec.{ltb}
 use Rattle.calendar.specs.declared.Date.{Date}
 use Rattle.calendar.specs.declared.Dated.the-variants.{At, Beyond}
 use Rattle.calendar.specs.declared.Place.{Place}
-use Rattle.calendar.specs.Calendar.{allDays, allSeconds, yearLength, monthLength, sum, yearOf, monthOf, dated, dateOf}
-use Rattle.calendar.specs.Demand.{Valid, dayNumber, secondsOf, Meaning, Every, Past}
+use Rattle.calendar.specs.Calendar.{allDays, allSeconds, leap, yearLength, monthIn, monthLength, sum, walk, yearOf, monthOf, dated, dateOf}
+use Rattle.calendar.specs.Demand.{Valid, dayNumber, secondsOf, Meaning, Every, Past, Anchors}
 use Rattle.calendar.proofs.Walks.{all-years, all-months, Falls, found, falls-below}
 use Rattle.calendar.proofs.Dates.{year-falls, month-falls, past, date}
 
@@ -132,3 +132,18 @@ only-past = (
   λ s h. sym (past s (let e : sum yearLength 1970 8030 ≡ allDays = all-years in omega arith)),
   λ s e. let l : allSeconds ≤ s = not-past s e in let a : sum yearLength 1970 8030 ≡ allDays = all-years in omega arith,
 )
+
+-- computed
+pub anchors : Anchors
+unfolding dateOf walk yearLength monthIn leap
+anchors = record {
+  first = refl;
+  before-leap-day = refl;
+  leap-day = refl;
+  after-leap-day = refl;
+  century = refl;
+  no-leap-day = refl;
+  march = refl;
+  final = refl;
+  past = refl;
+}

@@ -1,5 +1,4 @@
--- The laws that callers cite, what a date means, and examples.
+-- The laws that callers cite, and what a date means.
 pub mod Walks
 pub mod Dates
 pub mod Demand
-pub mod Examples

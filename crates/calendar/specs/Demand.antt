@@ -1,5 +1,5 @@
--- What a date means: the day number of a civil date, and that a date is found for each second and each date found.
--- `proofs/Demand.antt` proves it. Assumes nothing.
+-- What a date means: the day number of a civil date, that a date is found for each second and each date found, and some
+-- dates by themselves. `proofs/Demand.antt` proves it. Assumes nothing.
 use Prim.Native.Nat.{ℕ, _+_, _-_, _*_, _≤_, _<_}
 use mathlib.Core.Path.{_≡_}
 use Rattle.calendar.specs.declared.Date.{Date}
@@ -39,3 +39,24 @@ abbrev pub Past : Type 0
 Past =
     ((s : ℕ) → sum yearLength 1970 8030 * 86400 ≤ s → dateOf s ≡ Beyond)
     × ((s : ℕ) → dateOf s ≡ Beyond → sum yearLength 1970 8030 * 86400 ≤ s)
+
+-- the date and time of a number of seconds
+abbrev pub Shows : ℕ → ℕ → ℕ → ℕ → ℕ → ℕ → ℕ → Type 0
+Shows s y mo d h mi se = dateOf s ≡ At (record { year = y; month = mo; day = d; hour = h; minute = mi; second = se })
+
+-- Dates that are known without any rule of the calendar.
+pub record Anchors : Type 0 where
+  -- the first second
+  pub first : Shows 0 1970 1 1 0 0 0
+  -- the leap day of a hundredth year that has one: the last second before it, its first, and the first after it
+  pub before-leap-day : Shows 951782399 2000 2 28 23 59 59
+  pub leap-day : Shows 951782400 2000 2 29 0 0 0
+  pub after-leap-day : Shows 951868800 2000 3 1 0 0 0
+  -- the last second before the year 2100
+  pub century : Shows 4102444799 2099 12 31 23 59 59
+  -- a hundredth year that has no leap day: the last second of its February, and the next
+  pub no-leap-day : Shows 4107542399 2100 2 28 23 59 59
+  pub march : Shows 4107542400 2100 3 1 0 0 0
+  -- the last second of all, and the next
+  pub final : Shows 253402300799 9999 12 31 23 59 59
+  pub past : dateOf 253402300800 ≡ Beyond
