@@ -144,6 +144,7 @@ anchors = record {
   century = refl;
   no-leap-day = refl;
   march = refl;
+  months = refl;
   final = refl;
   past = refl;
 }

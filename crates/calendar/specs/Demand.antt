@@ -2,6 +2,7 @@
 -- dates by themselves. `proofs/Demand.antt` proves it. Assumes nothing.
 use Prim.Native.Nat.{ℕ, _+_, _-_, _*_, _≤_, _<_}
 use mathlib.Core.Path.{_≡_}
+use mathlib.Core.List.{[], _∷_, map}
 use Rattle.calendar.specs.declared.Date.{Date}
 use Rattle.calendar.specs.declared.Dated.the-variants.{At, Beyond}
 use Rattle.calendar.specs.Calendar.{yearLength, monthLength, sum, dateOf}
@@ -57,6 +58,10 @@ pub record Anchors : Type 0 where
   -- a hundredth year that has no leap day: the last second of its February, and the next
   pub no-leap-day : Shows 4107542399 2100 2 28 23 59 59
   pub march : Shows 4107542400 2100 3 1 0 0 0
+  -- the months of a year that is no leap year, in their order
+  pub months :
+      map (monthLength 2023) (1 ∷ 2 ∷ 3 ∷ 4 ∷ 5 ∷ 6 ∷ 7 ∷ 8 ∷ 9 ∷ 10 ∷ 11 ∷ 12 ∷ [])
+      ≡ 31 ∷ 28 ∷ 31 ∷ 30 ∷ 31 ∷ 30 ∷ 31 ∷ 31 ∷ 30 ∷ 31 ∷ 30 ∷ 31 ∷ []
   -- the last second of all, and the next
   pub final : Shows 253402300799 9999 12 31 23 59 59
   pub past : dateOf 253402300800 ≡ Beyond
