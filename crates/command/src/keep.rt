@@ -1,5 +1,5 @@
 // The words `record`, `dump`, `backup` and `restore`: bytes out of the drive, and back. A backup is a page of 512 bytes (its name,
-// the image's sectors, the checksum of what follows) and then the set of both copies. Assumes what `libc` and `os` do.
+// the image's sectors, the checksum of all the rest) and then the set of both copies. Assumes what `libc` and `os` do.
 use crate::after;
 use crate::change;
 use crate::copies;
@@ -20,6 +20,9 @@ use text::Text;
 const FILE: usize = 42752;
 
 const PAGE: usize = 512;
+
+// Where its checksum stands.
+const CHECKSUM: usize = 40;
 
 // Whether standard output can take bytes that are no text: not where it is a terminal.
 fn no_terminal() -> bool {
@@ -101,12 +104,19 @@ fn make_file(file: &[u8], bytes: &[u8]) -> bool {
     true
 }
 
+// The checksum of a backup: of all its bytes but the four that have it, from CHECKSUM on.
+fn checksum_of(all: &[u8]) -> u32 {
+    let first = checksum::checksum(endian::window(all, 0, CHECKSUM));
+    checksum::continued(first, endian::window(all, CHECKSUM + 4, FILE))
+}
+
 // A backup's bytes, with the set in its place.
 fn seal(all: &mut [u8], sectors: u64, set: &[u8]) {
     endian::put(all, 0, b"amseokbin backup 1\n");
     endian::write_u64(all, 32, sectors);
-    endian::write_u32(all, 40, checksum::checksum(set));
     endian::put(all, PAGE, set);
+    let sum = checksum_of(all);
+    endian::write_u32(all, CHECKSUM, sum);
 }
 
 // The word `backup`: both copies into a new file.
@@ -171,8 +181,7 @@ fn read_backup(file: &[u8], all: &mut [u8]) -> bool {
 // Whether bytes are a whole backup.
 fn is_backup(file: &[u8], all: &[u8]) -> bool {
     let named = endian::same(endian::window(all, 0, 19), b"amseokbin backup 1\n");
-    let set = endian::window(all, PAGE, sets::BYTES);
-    if named & (endian::read_u32(all, 40) == checksum::checksum(set)) {
+    if named & (endian::read_u32(all, CHECKSUM) == checksum_of(all)) {
         return true;
     }
     note(

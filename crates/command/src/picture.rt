@@ -256,12 +256,19 @@ fn add_mark(t: Text, s: Scale, column: u64) -> Text {
     facts::add_size(pad_to(t, column).add(b"|"), sector_of(s, column))
 }
 
+// A text with a mark at each quarter of a picture that is wide enough for three.
+fn add_marks(t: Text, s: Scale, width: u64) -> Text {
+    if width < 60 {
+        return t;
+    }
+    let u = add_mark(add_mark(t, s, width / 4), s, width / 2);
+    add_mark(u, s, less(width, width / 4))
+}
+
 // The scale below the picture: a mark at each quarter of its characters, with the size of what lies before it, and the drive's.
 fn print_scale(ok: bool, d: Device, s: Scale, width: u64) -> bool {
     let end = facts::add_size(Text::new(), d.sectors);
-    let t = add_mark(Text::new().add(b"0"), s, width / 4);
-    let u = add_mark(t, s, width / 2);
-    let v = add_mark(u, s, less(width, width / 4));
+    let v = add_marks(Text::new().add(b"0"), s, width);
     print(
         ok,
         add_text(pad_to(v, less(width, end.used as u64)), end).add(b"\n"),

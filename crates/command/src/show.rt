@@ -15,7 +15,6 @@ use layout::Side;
 use record::Segment;
 use room::FreeTotal;
 use room::Run;
-use room::RunFound;
 use room::RunNumber;
 use text::Text;
 
@@ -51,15 +50,25 @@ fn free_sectors(look: Look, r: &[u8]) -> u64 {
     }
 }
 
-// A free run by its number.
-fn run_of(look: Look, r: &[u8], k: u64) -> Run {
-    let f = room::run_at(look.device, r, k);
-    match f {
-        RunFound::At(g) => g,
-        RunFound::Refused(_) => Run {
+// A number of a table; 0 past its end.
+fn number_at(table: &[u64], i: u64) -> u64 {
+    if i < table.len() as u64 {
+        return table[i as usize];
+    }
+    0
+}
+
+// A free run by its number, from a table of starts and lengths.
+fn run_of(table: &[u64], i: u64) -> Run {
+    if 4096 < i {
+        return Run {
             start: 0,
             sectors: 0,
-        },
+        };
+    }
+    Run {
+        start: number_at(table, 2 * i),
+        sectors: number_at(table, 2 * i + 1),
     }
 }
 
@@ -91,8 +100,7 @@ fn plain_segment(ok: bool, r: &[u8], i: usize) -> bool {
     item(s, b"segment", i as u64, b"sectors", g.sectors)
 }
 
-fn plain_run(ok: bool, look: Look, r: &[u8], i: u64) -> bool {
-    let g = run_of(look, r, i);
+fn plain_run(ok: bool, i: u64, g: Run) -> bool {
     let s = item(ok, b"free", i, b"start", g.start);
     item(s, b"free", i, b"sectors", g.sectors)
 }
@@ -134,29 +142,30 @@ fn row(t: Text, start: u64, sectors: u64) -> Text {
     )
 }
 
-// The lines of all free runs. Each run is looked for by its number, so the time grows with the square of the segments: some
-// milliseconds for a full record.
+// The lines of all free runs: one more than segments at the most.
 fn runs(before: bool, plain: bool, look: Look, r: &[u8]) -> bool {
-    let n = run_count(look, r);
+    let mut table = [0u64; 820];
+    room::free_run_numbers(look.device, r, &mut table);
+    run_lines(before, plain, run_count(look, r), &table)
+}
+
+fn run_lines(before: bool, plain: bool, n: u64, table: &[u64]) -> bool {
     let mut ok = before;
     let mut i = 0;
     while i < n {
-        let next = run_line(ok, plain, look, r, i);
+        let next = run_line(ok, plain, i, run_of(table, i));
         ok = next;
         i += 1;
     }
     ok
 }
 
-fn run_line(ok: bool, plain: bool, look: Look, r: &[u8], i: u64) -> bool {
+fn run_line(ok: bool, plain: bool, i: u64, g: Run) -> bool {
     if plain {
-        return plain_run(ok, look, r, i);
+        return plain_run(ok, i, g);
     }
-    let g = run_of(look, r, i);
-    print(
-        ok,
-        row(Text::new().padded(i, 6).add(b"  "), g.start, g.sectors).add(b"  free\n"),
-    )
+    let t = row(Text::new().padded(i, 6).add(b"  "), g.start, g.sectors);
+    print(ok, t.add(b"  free\n"))
 }
 
 // The sectors of the data range that are in a segment.

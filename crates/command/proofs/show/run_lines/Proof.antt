@@ -1,20 +1,20 @@
--- `command::show::runs` meets its contract. Assumes nothing.
+-- `command::show::run_lines` meets its contract. Assumes nothing.
 use Prim.Native.Nat.{_≤_, _-_}
 use borrow.Author.Needs.{needs}
-use Rattle.command.proofs.show.runs.Statement.{statement}
-use Rattle.command.proofs.show.runs.Tie as tie
+use Rattle.command.proofs.show.run_lines.Statement.{statement}
+use Rattle.command.proofs.show.run_lines.Tie as tie
 
 abbrev Inv-loop : tie.InvT-loop
-Inv-loop before plain look r n ok₀ i₀ ok i = i ≤ n
+Inv-loop before plain n table ok₀ i₀ ok i = i ≤ n
 
 abbrev μ-loop : tie.MeasureT-loop
-μ-loop before plain look r n ok₀ i₀ ok i = n - i
-
-run-count-requires : tie.Need-run-count-requires Inv-loop μ-loop
-run-count-requires c κs = search needs
+μ-loop before plain n table ok₀ i₀ ok i = n - i
 
 loop-holds : tie.Need-loop-holds Inv-loop μ-loop
 loop-holds c = search needs
+
+run-of-requires : tie.Need-run-of-requires Inv-loop μ-loop
+run-of-requires c κs = search needs
 
 run-line-requires : tie.Need-run-line-requires Inv-loop μ-loop
 run-line-requires c κs = search needs
@@ -31,14 +31,14 @@ loop-again c = search needs
 returns : tie.Need-returns Inv-loop μ-loop
 returns c = search needs
 
-pub runs-spec : {M : Type 1} → statement M
-runs-spec =
+pub run-lines-spec : {M : Type 1} → statement M
+run-lines-spec =
     tie.close
     (tie.spec
     Inv-loop
     μ-loop
-    run-count-requires
     loop-holds
+    run-of-requires
     run-line-requires
     add-i
     loop-less
