@@ -35,8 +35,9 @@ struct Case {
     promise: Promise,
 }
 
-/// A write of a store, or the flush of a group.
+/// The flush before the first store, a write of a store, or the flush of a group.
 enum Event {
+    First,
     Write(usize),
     Flush(u8),
 }
@@ -158,8 +159,8 @@ impl<'a> Cuts<'a> {
         cases
     }
 
-    /// Not cut: the stores are the rules' stores in their order, each group is flushed, and nothing that was not flushed
-    /// is missed.
+    /// Not cut: a flush comes first, so that what was read has landed; then the stores are the rules' stores in their order,
+    /// each group is flushed, and nothing that was not flushed is missed.
     fn whole(&mut self, case: &Case) {
         let settings = [TIME, ("SHIM_LOG", "log"), ("SHIM_CUT", PAST_THE_END), ("SHIM_KEEP", "none")];
         let run = self.run(case, &settings);
@@ -168,7 +169,7 @@ impl<'a> Cuts<'a> {
             .iter()
             .map(|event| match event {
                 Event::Write(i) => format!("write {}", case.stores[*i].sector),
-                Event::Flush(_) => "flush".to_string(),
+                Event::First | Event::Flush(_) => "flush".to_string(),
             })
             .collect();
         if run.status != 0 {
@@ -186,6 +187,7 @@ impl<'a> Cuts<'a> {
 
     fn cut_at(&mut self, case: &Case, events: &[Event], number: usize) {
         let group = match &events[number - 1] {
+            Event::First => 0,
             Event::Write(i) => case.stores[*i].group,
             Event::Flush(group) => *group,
         };
@@ -199,6 +201,9 @@ impl<'a> Cuts<'a> {
     fn fates(&self, case: &Case, group: u8, held: usize) -> Vec<Fate> {
         let fate = |keep: &str, wild: Option<String>| Fate { keep: keep.to_string(), wild };
         let mut fates = vec![fate("all", None), fate("none", None)];
+        if held == 0 {
+            return fates;
+        }
         fates.push(fate("all", Some("last:torn".to_string())));
         fates.push(fate("none", Some("last:late".to_string())));
         for seed in 0..self.seeds {
@@ -449,9 +454,9 @@ fn torn_both(device: Device, older: &Stamped, newer: &Stamped) -> Copies {
     copies
 }
 
-/// The writes in their order, with a flush after each group.
+/// The writes in their order, with a flush before the first and after each group.
 fn events(stores: &[Store]) -> Vec<Event> {
-    let mut events = Vec::new();
+    let mut events = vec![Event::First];
     for (i, store) in stores.iter().enumerate() {
         events.push(Event::Write(i));
         if stores.get(i + 1).is_none_or(|next| next.group != store.group) {
@@ -465,7 +470,7 @@ fn events(stores: &[Store]) -> Vec<Event> {
 fn held_at(case: &Case, events: &[Event], number: usize, group: u8) -> usize {
     let written = events[..number].iter().filter(|event| match event {
         Event::Write(i) => case.stores[*i].group == group,
-        Event::Flush(_) => false,
+        Event::First | Event::Flush(_) => false,
     });
     written.count()
 }
