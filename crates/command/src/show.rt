@@ -253,7 +253,7 @@ fn people_head(look: Look, s: Shown, q: Reading) -> bool {
     );
     let m = facts::add_count(e.add(b", reserved "), d.reserved as u64, b"sector");
     people_record(
-        print(n, m.add(b", at the front and at the back\n")),
+        print(n, m.add(b", at each end\n")),
         look,
         s,
     )
