@@ -2,5 +2,6 @@
 pub mod Calls
 pub mod Parts
 pub mod Alone
+pub mod Least
 pub mod Placed
 pub mod Demand

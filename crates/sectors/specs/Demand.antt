@@ -1,6 +1,6 @@
--- What sectors that could not be read can change. `proofs/Alone.antt` proves `Alone`, `Steady` and `Meaning`, `proofs/Placed.antt`
--- `Placed`, `proofs/Demand.antt` the rest. Assumes nothing.
-use Prim.Native.Nat.{ℕ, _*_, _<_}
+-- What sectors that could not be read can change. `proofs/Alone.antt` proves `Alone`, `Steady` and `Meaning`, `proofs/Least.antt`
+-- `Bounded`, `proofs/Placed.antt` `Placed`, `proofs/Demand.antt` the rest. Assumes nothing.
+use Prim.Native.Nat.{ℕ, _+_, _*_, _≤_, _<_}
 use mathlib.Core.Path.{_≡_}
 use mathlib.Core.Bool.{true, false}
 use mathlib.Core.List.{List}
@@ -11,6 +11,7 @@ use Rattle.layout.specs.declared.Device.{Device}
 use Rattle.layout.specs.declared.Side.{Side}
 use Rattle.layout.specs.declared.Side.the-variants.{Front, Back}
 use Rattle.layout.specs.declared.Area.{Area}
+use Rattle.layout.specs.declared.Area.the-variants.{A}
 use Rattle.layout.specs.Limits.{deviceTests, sectorBytes}
 use Rattle.layout.specs.Places.{copyBytes}
 use Rattle.block.specs.declared.Holding.{Holding}
@@ -21,10 +22,10 @@ use Rattle.discovery.specs.declared.Present.the-variants.{At}
 use Rattle.discovery.specs.declared.Record.{Record}
 use Rattle.discovery.specs.declared.Other.{Other}
 use Rattle.discovery.specs.declared.Answer.the-variants.{Found}
-use Rattle.discovery.specs.Copy.{areaBytes, entryIn, present, readingIn}
+use Rattle.discovery.specs.Copy.{areaBytes, entryIn, otherArea, whole, newest, present, readingIn}
 use Rattle.discovery.specs.Discovery.{discovery, inStep, recordBytes}
-use Rattle.device.specs.Device.{Sectors, Sound, copyFrom}
-use Rattle.sectors.specs.Sectors.{copySectors, sectorAt, matters, isRead, known, settled}
+use Rattle.device.specs.Device.{Sectors, Sound, areaSectors, copyFrom}
+use Rattle.sectors.specs.Sectors.{copySectors, areaStart, sectorAt, matters, isRead, known, settled}
 
 -- sector i of a copy
 abbrev pub nthSector : List ℕ → ℕ → List ℕ
@@ -36,12 +37,17 @@ pub record Agree (m c e : List ℕ) : Type 0 where
   pub size-too : length e ≡ copyBytes
   pub unmarked : (i : ℕ) → i < copySectors → isRead m i ≡ true → nthSector e i ≡ nthSector c i
 
--- one copy: its block is read the same, and where it is accepted each area has the same bytes as far as its entry names them,
--- and the present record is the same, with the same bytes
+-- an area has the same bytes in both as far as its entry names them
+abbrev pub SameArea : List ℕ → List ℕ → BlockFields → Area → Type 0
+SameArea c e x y = areaBytes e y (holdingOf (entryIn x y) .bytes) ≡ areaBytes c y (holdingOf (entryIn x y) .bytes)
+
+-- one copy: its block is read the same, and where it is accepted the area of the entry with the later time, and where that is not
+-- whole the other area too, has the same bytes as far as its entry names them, and the present record is the same, with the
+-- same bytes
 pub record SameCopy (c e : List ℕ) : Type 0 where
   pub reads : readingIn e ≡ readingIn c
-  pub areas : (x : BlockFields) → readingIn c .verdict ≡ Verdict.Accepted x → (y : Area)
-      → areaBytes e y (holdingOf (entryIn x y) .bytes) ≡ areaBytes c y (holdingOf (entryIn x y) .bytes)
+  pub newest-area : (x : BlockFields) → readingIn c .verdict ≡ Verdict.Accepted x → SameArea c e x (newest x)
+  pub other-area : (x : BlockFields) → readingIn c .verdict ≡ Verdict.Accepted x → whole c x (newest x) ≡ false → SameArea c e x (otherArea (newest x))
   pub its-present : (x : BlockFields) → readingIn c .verdict ≡ Verdict.Accepted x → present e x ≡ present c x
   pub bytes : (x : BlockFields) (y : Area) (h : Holding) → readingIn c .verdict ≡ Verdict.Accepted x → present c x ≡ At y h
       → areaBytes e y (h .bytes) ≡ areaBytes c y (h .bytes)
@@ -75,6 +81,22 @@ pub record Known (c m : List ℕ) : Type 0 where
 abbrev pub Meaning : Type 0
 Meaning = (c m : List ℕ) → Known c m
 
+-- What matters at most: of the header only the block's sector; nothing past the copy; where the block is refused nothing but the
+-- block's sector; of an area nothing past the bytes that its entry names, so nothing where the entry is unused; and where the
+-- area of the entry with the later time is whole, nothing of the other area.
+pub record Least (c : List ℕ) : Type 0 where
+  pub header : (i : ℕ) → i < areaStart A → (i ≡ 1 → ⊥) → matters c i ≡ false
+  pub past : (i : ℕ) → copySectors ≤ i → matters c i ≡ false
+  pub refused : (n : ℕ) → readingIn c .verdict ≡ Verdict.Refused n → (i : ℕ) → (i ≡ 1 → ⊥) → matters c i ≡ false
+  pub unnamed : (x : BlockFields) → readingIn c .verdict ≡ Verdict.Accepted x → (y : Area) (j : ℕ) → j < areaSectors
+      → holdingOf (entryIn x y) .bytes ≤ sectorBytes * j → matters c (areaStart y + j) ≡ false
+  pub older : (x : BlockFields) → readingIn c .verdict ≡ Verdict.Accepted x → whole c x (newest x) ≡ true → (j : ℕ) → j < areaSectors
+      → matters c (areaStart (otherArea (newest x)) + j) ≡ false
+
+-- Of every copy that holds.
+abbrev pub Bounded : Type 0
+Bounded = (c : List ℕ) → Least c
+
 -- no sector is marked
 abbrev pub NoneMarked : List ℕ → Type 0
 NoneMarked m = (i : ℕ) → i < copySectors → isRead m i ≡ true
@@ -90,11 +112,12 @@ pub record ReadFrom (s : Side) (v : Device) (d : Sectors) (m c : List ℕ) : Typ
   pub size : length c ≡ copyBytes
   pub unmarked : (i : ℕ) → i < copySectors → isRead m i ≡ true → nthSector c i ≡ d (sectorAt s v i)
 
--- each sector of a side's copy, as a cut speaks of it, is the device's at `sectorAt`, which the device has; what was read agrees
--- with that copy, and is that copy where no sector is marked
+-- each sector of a side's copy, as a cut speaks of it, is the device's at `sectorAt`, which the device has; past the copy it is S,
+-- which the device does not have; what was read agrees with that copy, and is that copy where no sector is marked
 pub record PlacedOn (s : Side) (v : Device) (d : Sectors) : Type 0 where
   pub sector : (i : ℕ) → i < copySectors → nthSector (copyFrom s v d) i ≡ d (sectorAt s v i)
   pub there : (i : ℕ) → i < copySectors → sectorAt s v i < v .sectors
+  pub past : (i : ℕ) → copySectors ≤ i → sectorAt s v i ≡ v .sectors
   pub agrees : (m c : List ℕ) → ReadFrom s v d m c → Agree m c (copyFrom s v d)
   pub is : (m c : List ℕ) → ReadFrom s v d m c → NoneMarked m → c ≡ copyFrom s v d
 
