@@ -73,6 +73,13 @@ named-there f x j l =
     ap (named (entryIn f x)) (let z : j ≡ areaStart x + j - areaStart x = omega arith in z)
     ∙ named-inside f x (areaStart x + j) (omega arith) (omega arith)
 
+-- where the block is accepted: what the newest entry names, and where its area is not whole what the other entry names
+newest-counts : (f : BlockFields) (w : Bool) (i : ℕ) → namedIn f (newest f) i ≡ true → mattersFor (Verdict.Accepted f) w i ≡ true
+newest-counts f w i h = rw h (or-true (eqb i 1))
+
+other-counts : (f : BlockFields) (i : ℕ) → namedIn f (otherArea (newest f)) i ≡ true → mattersFor (Verdict.Accepted f) false i ≡ true
+other-counts f i h = rw h (ap (λ (t : Bool). eqb i 1 || t) (or-true (namedIn f (newest f) i)) ∙ or-true (eqb i 1))
+
 module _ (c : List ℕ) (f : BlockFields) (a : readingIn c .verdict ≡ Verdict.Accepted f) (i : ℕ) where
   -- of a copy whose block is accepted
   pub matters-is : matters c i ≡ mattersFor (Verdict.Accepted f) (whole c f (newest f)) i
@@ -80,15 +87,10 @@ module _ (c : List ℕ) (f : BlockFields) (a : readingIn c .verdict ≡ Verdict.
   matters-is = ap (λ (v : Verdict). mattersFor v (newestWhole c v) i) a
 
   newest-matters : namedIn f (newest f) i ≡ true → matters c i ≡ true
-  newest-matters h =
-      matters-is
-      ∙ (ap (λ (t : Bool). eqb i 1 || (t || (not (whole c f (newest f)) && namedIn f (otherArea (newest f)) i))) h ∙ or-true (eqb i 1))
+  newest-matters h = matters-is ∙ newest-counts f (whole c f (newest f)) i h
 
   other-matters : whole c f (newest f) ≡ false → namedIn f (otherArea (newest f)) i ≡ true → matters c i ≡ true
-  other-matters w h =
-      matters-is
-      ∙ (ap₂ (λ (s t : Bool). eqb i 1 || (namedIn f (newest f) i || (not s && t))) w h
-      ∙ (ap (λ (t : Bool). eqb i 1 || t) (or-true (namedIn f (newest f) i)) ∙ or-true (eqb i 1)))
+  other-matters w h = matters-is ∙ (ap (λ (t : Bool). mattersFor (Verdict.Accepted f) t i) w ∙ other-counts f i h)
 
 -- a sector that matters and passes was read
 passed : (v : Verdict) (w : Bool) (m : List ℕ) (i : ℕ) → passes v w m i ≡ true → mattersFor v w i ≡ true → isRead m i ≡ true
