@@ -1,7 +1,7 @@
 -- One copy of which no sector that matters is marked. Assumes nothing.
 use Prim.Native.Nat.{ℕ, _+_, _-_, _*_, _≤_, _<_}
 use mathlib.Core.Path.{_≡_, refl, sym, ap, ap₂, subst, _∙_}
-use mathlib.Core.Bool.{Bool, true, false, not, cond, _&&_, _||_, or-true}
+use mathlib.Core.Bool.{Bool, true, false, not, cond, _||_, or-true}
 use mathlib.Core.List.{List}
 use native.Mathlib.Omega.{arith}
 use borrow.Author.Tests.{lt-ltb}
@@ -40,6 +40,12 @@ within-limit : (e : Entry) → Within e → holdingOf e .bytes ≤ recordLimit
 within-limit Unused w = omega arith
 within-limit (Used h) w = w .1
 
+-- the fields of an accepted block
+pub fields-of : (b : List ℕ) (f : BlockFields) → reading b .verdict ≡ Verdict.Accepted f → fieldsOf b ≡ f
+fields-of b f e =
+    let v : Verdict.Accepted (fieldsOf b) ≡ Verdict.Accepted f = sym (ap (λ (r : Reading). r .verdict) (exactly b .0 (exactly b .1 f e))) ∙ e in
+    cc
+
 entry-limit : (b : List ℕ) (f : BlockFields) → reading b .verdict ≡ Verdict.Accepted f → (x : Area) → holdingOf (entryIn f x) .bytes ≤ recordLimit
 entry-limit b f e x = go x
   where
@@ -47,9 +53,7 @@ entry-limit b f e x = go x
     ok = exactly b .1 f e
 
     fields : fieldsOf b ≡ f
-    fields =
-        let v : Verdict.Accepted (fieldsOf b) ≡ Verdict.Accepted f = sym (ap (λ (r : Reading). r .verdict) (exactly b .0 ok)) ∙ e in
-        cc
+    fields = fields-of b f e
 
     go : (x : Area) → holdingOf (entryIn f x) .bytes ≤ recordLimit
     go A = subst (λ (z : BlockFields). holdingOf (z .a) .bytes ≤ recordLimit) fields (within-limit (fieldsOf b .a) (ok .entry-a))
@@ -141,8 +145,11 @@ same-place : (x y : Area) (h k : Holding) → At x h ≡ At y k → x ≡ y
 same-place x y h k e = cc
 
 module _ (m c e : List ℕ) (g : Agree m c e) (k : known c m ≡ true) where
+  pub block-bytes : blockIn e ≡ blockIn c
+  block-bytes = g .unmarked 1 block-there (known-read c m k 1 block-there (block-matters c))
+
   block-same : readingIn e ≡ readingIn c
-  block-same = ap reading (g .unmarked 1 block-there (known-read c m k 1 block-there (block-matters c)))
+  block-same = ap reading block-bytes
 
   module _ (f : BlockFields) (a : readingIn c .verdict ≡ Verdict.Accepted f) where
     -- an area whose named sectors matter

@@ -99,7 +99,7 @@ module _ {f b g k : List ℕ} (sf : SameCopy f g) (sb : SameCopy b k) where
     both-same : SameBoth f b g k
     both-same = record { answers = answers-same; step = step-same; bytes = found-same }
 
-sizes : (f b : List ℕ) → length f ≡ copyBytes → length b ≡ copyBytes → sized f b ≡ true
+pub sizes : (f b : List ℕ) → length f ≡ copyBytes → length b ≡ copyBytes → sized f b ≡ true
 sizes f b p q =
     and-both (eqb (length f) copyBytes) (eqb (length b) copyBytes) (eq-eqb (length f) copyBytes p) (eq-eqb (length b) copyBytes q)
 

@@ -5,7 +5,6 @@ use mathlib.Core.Bool.{Bool, true, false, not, _&&_, _||_}
 use mathlib.Core.List.{List}
 use native.Mathlib.Omega.{arith}
 use borrow.Author.Tests.{ne-eqb, le-ltb}
-use lib.Dec.{eqb}
 use Rattle.layout.specs.declared.Area.{Area}
 use Rattle.layout.specs.declared.Area.the-variants.{A, B}
 use Rattle.block.specs.declared.Entry.{Entry}
@@ -18,7 +17,7 @@ use Rattle.record.proofs.Search.{and-false-right}
 use Rattle.discovery.specs.Copy.{entryIn, otherArea, whole, newest, readingIn}
 use Rattle.device.specs.Device.{areaSectors}
 use Rattle.sectors.specs.Sectors.{copySectors, areaStart, named, namedIn, mattersFor, newestWhole, matters}
-use Rattle.sectors.specs.Demand.{Least, Bounded}
+use Rattle.sectors.specs.Demand.{Bounded}
 use Rattle.sectors.proofs.Calls.{named-before, named-past}
 use Rattle.sectors.proofs.Parts.{header-sectors, a-before-b, b-last, block-there}
 use Rattle.sectors.proofs.Alone.{named-there, matters-is}

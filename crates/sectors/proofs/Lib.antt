@@ -5,3 +5,4 @@ pub mod Alone
 pub mod Least
 pub mod Placed
 pub mod Demand
+pub mod Stored
