@@ -82,7 +82,9 @@ newest-counts : (f : BlockFields) (w : Bool) (i : ℕ) → namedIn f (newest f) 
 newest-counts f w i h = rw h (or-true (eqb i 1))
 
 other-counts : (f : BlockFields) (i : ℕ) → namedIn f (otherArea (newest f)) i ≡ true → mattersFor (Verdict.Accepted f) false i ≡ true
-other-counts f i h = rw h (ap (λ (t : Bool). eqb i 1 || t) (or-true (namedIn f (newest f) i)) ∙ or-true (eqb i 1))
+other-counts f i h =
+    ap (λ (t : Bool). eqb i 1 || (namedIn f (newest f) i || t)) h
+    ∙ (ap (λ (t : Bool). eqb i 1 || t) (or-true (namedIn f (newest f) i)) ∙ or-true (eqb i 1))
 
 module _ (c : List ℕ) (f : BlockFields) (a : readingIn c .verdict ≡ Verdict.Accepted f) (i : ℕ) where
   -- of a copy whose block is accepted

@@ -56,7 +56,8 @@ SameArea c e x y = areaBytes e y (holdingOf (entryIn x y) .bytes) ≡ areaBytes 
 pub record SameCopy (c e : List ℕ) : Type 0 where
   pub reads : readingIn e ≡ readingIn c
   pub newest-area : (x : BlockFields) → readingIn c .verdict ≡ Verdict.Accepted x → SameArea c e x (newest x)
-  pub other-area : (x : BlockFields) → readingIn c .verdict ≡ Verdict.Accepted x → whole c x (newest x) ≡ false → SameArea c e x (otherArea (newest x))
+  pub other-area : (x : BlockFields) → readingIn c .verdict ≡ Verdict.Accepted x → whole c x (newest x) ≡ false
+      → SameArea c e x (otherArea (newest x))
   pub its-present : (x : BlockFields) → readingIn c .verdict ≡ Verdict.Accepted x → present e x ≡ present c x
   pub bytes : (x : BlockFields) (y : Area) (h : Holding) → readingIn c .verdict ≡ Verdict.Accepted x → present c x ≡ At y h
       → areaBytes e y (h .bytes) ≡ areaBytes c y (h .bytes)
