@@ -30,15 +30,21 @@ use Rattle.discovery.specs.Copy.{blockIn, areaBytes, entryIn, otherArea, wholeE
 use Rattle.discovery.proofs.Latest.{present-latest}
 use Rattle.device.specs.Device.{areaSectors}
 use Rattle.device.proofs.Copies.{limit-sectors}
-use Rattle.sectors.specs.Sectors.{copySectors, areaStart, named, namedIn, mattersFor, matters, isRead, passes, known}
-use Rattle.sectors.specs.Demand.{Agree, SameCopy, Alone, Steady, Meaning, NoneMarked}
-use Rattle.sectors.proofs.Calls.{in-a, in-b}
-use Rattle.sectors.proofs.Parts.{a-before-b, start-bytes, block-there, area-there, part-same}
+use Rattle.sectors.specs.Sectors.{copySectors, areaStart, named, namedIn, mattersFor, newestWhole, matters, isRead, passes, known}
+use Rattle.sectors.specs.Demand.{Agree, SameArea, SameCopy, Alone, Steady, Meaning, NoneMarked}
+use Rattle.sectors.proofs.Calls.{named-inside}
+use Rattle.sectors.proofs.Parts.{start-bytes, block-there, area-there, part-same}
 
 -- the entries of an accepted block name no more than a record can have
 within-limit : (e : Entry) → Within e → holdingOf e .bytes ≤ recordLimit
 within-limit Unused w = omega arith
 within-limit (Used h) w = w .1
+
+-- the fields of an accepted block
+pub fields-of : (b : List ℕ) (f : BlockFields) → reading b .verdict ≡ Verdict.Accepted f → fieldsOf b ≡ f
+fields-of b f e =
+    let v : Verdict.Accepted (fieldsOf b) ≡ Verdict.Accepted f = sym (ap (λ (r : Reading). r .verdict) (exactly b .0 (exactly b .1 f e))) ∙ e in
+    cc
 
 entry-limit : (b : List ℕ) (f : BlockFields) → reading b .verdict ≡ Verdict.Accepted f → (x : Area) → holdingOf (entryIn f x) .bytes ≤ recordLimit
 entry-limit b f e x = go x
@@ -47,49 +53,67 @@ entry-limit b f e x = go x
     ok = exactly b .1 f e
 
     fields : fieldsOf b ≡ f
-    fields =
-        let v : Verdict.Accepted (fieldsOf b) ≡ Verdict.Accepted f = sym (ap (λ (r : Reading). r .verdict) (exactly b .0 ok)) ∙ e in
-        cc
+    fields = fields-of b f e
 
     go : (x : Area) → holdingOf (entryIn f x) .bytes ≤ recordLimit
     go A = subst (λ (z : BlockFields). holdingOf (z .a) .bytes ≤ recordLimit) fields (within-limit (fieldsOf b .a) (ok .entry-a))
     go B = subst (λ (z : BlockFields). holdingOf (z .b) .bytes ≤ recordLimit) fields (within-limit (fieldsOf b .b) (ok .entry-b))
 
 -- which sectors matter
-block-counts : (v : Verdict) → mattersFor v 1 ≡ true
-block-counts (Verdict.Accepted f) = refl
-block-counts (Verdict.Refused n) = refl
+block-counts : (v : Verdict) (w : Bool) → mattersFor v w 1 ≡ true
+block-counts (Verdict.Accepted f) w = refl
+block-counts (Verdict.Refused n) w = refl
 
 block-matters : (c : List ℕ) → matters c 1 ≡ true
 unfolding matters
-block-matters c = block-counts (readingIn c .verdict)
+block-matters c = block-counts (readingIn c .verdict) (newestWhole c (readingIn c .verdict))
 
 named-used : (e : Entry) (j : ℕ) → 512 * j < holdingOf e .bytes → named e j ≡ true
 named-used Unused j l = absurd (omega arith)
 named-used (Used h) j l = lt-ltb (512 * j) (h .bytes) l
 
-named-there : (f : BlockFields) (x : Area) (j : ℕ) → j < areaSectors → named (entryIn f x) j ≡ namedIn f (areaStart x + j)
-named-there f A j l =
-    let a : areaStart B ≡ areaStart A + areaSectors = a-before-b in
-    ap (named (f .a)) (let z : j ≡ areaStart A + j - areaStart A = omega arith in z)
-    ∙ in-a (areaStart A + j) false (named (f .a) (areaStart A + j - areaStart A)) (named (f .b) (areaStart A + j - areaStart B)) (omega arith) (omega arith)
-named-there f B j l =
-    let a : areaStart B ≡ areaStart A + areaSectors = a-before-b in
-    ap (named (f .b)) (let z : j ≡ areaStart B + j - areaStart B = omega arith in z)
-    ∙ in-b (areaStart B + j) false (named (f .a) (areaStart B + j - areaStart A)) (named (f .b) (areaStart B + j - areaStart B)) (omega arith) (omega arith)
+pub named-there : (f : BlockFields) (x : Area) (j : ℕ) → j < areaSectors → named (entryIn f x) j ≡ namedIn f x (areaStart x + j)
+named-there f x j l =
+    ap (named (entryIn f x)) (let z : j ≡ areaStart x + j - areaStart x = omega arith in z)
+    ∙ named-inside f x (areaStart x + j) (omega arith) (omega arith)
+
+-- where the block is accepted: what the newest entry names, and where its area is not whole what the other entry names
+newest-counts : (f : BlockFields) (w : Bool) (i : ℕ) → namedIn f (newest f) i ≡ true → mattersFor (Verdict.Accepted f) w i ≡ true
+newest-counts f w i h = rw h (or-true (eqb i 1))
+
+other-counts : (f : BlockFields) (i : ℕ) → namedIn f (otherArea (newest f)) i ≡ true → mattersFor (Verdict.Accepted f) false i ≡ true
+other-counts f i h =
+    ap (λ (t : Bool). eqb i 1 || (namedIn f (newest f) i || t)) h
+    ∙ (ap (λ (t : Bool). eqb i 1 || t) (or-true (namedIn f (newest f) i)) ∙ or-true (eqb i 1))
+
+module _ (c : List ℕ) (f : BlockFields) (a : readingIn c .verdict ≡ Verdict.Accepted f) (i : ℕ) where
+  -- of a copy whose block is accepted
+  pub matters-is : matters c i ≡ mattersFor (Verdict.Accepted f) (whole c f (newest f)) i
+  unfolding matters
+  matters-is = ap (λ (v : Verdict). mattersFor v (newestWhole c v) i) a
+
+  newest-matters : namedIn f (newest f) i ≡ true → matters c i ≡ true
+  newest-matters h = matters-is ∙ newest-counts f (whole c f (newest f)) i h
+
+  other-matters : whole c f (newest f) ≡ false → namedIn f (otherArea (newest f)) i ≡ true → matters c i ≡ true
+  other-matters w h = matters-is ∙ (ap (λ (t : Bool). mattersFor (Verdict.Accepted f) t i) w ∙ other-counts f i h)
 
 -- a sector that matters and passes was read
-passed : (v : Verdict) (m : List ℕ) (i : ℕ) → passes v m i ≡ true → mattersFor v i ≡ true → isRead m i ≡ true
-passed v m i p h = sym (ap (λ (t : Bool). not t || isRead m i) h) ∙ p
+passed : (v : Verdict) (w : Bool) (m : List ℕ) (i : ℕ) → passes v w m i ≡ true → mattersFor v w i ≡ true → isRead m i ≡ true
+passed v w m i p h = sym (ap (λ (t : Bool). not t || isRead m i) h) ∙ p
 
 -- a copy is known exactly where each sector that matters was read
 known-read : (c m : List ℕ) → known c m ≡ true → (i : ℕ) → i < copySectors → matters c i ≡ true → isRead m i ≡ true
 unfolding known matters
-known-read c m k i l = passed (readingIn c .verdict) m i (every-at (passes (readingIn c .verdict) m) copySectors k i l)
+known-read c m k i l =
+    passed (readingIn c .verdict) (newestWhole c (readingIn c .verdict)) m i
+    (every-at (passes (readingIn c .verdict) (newestWhole c (readingIn c .verdict)) m) copySectors k i l)
 
 read-known : (c m : List ℕ) → ((i : ℕ) → i < copySectors → matters c i ≡ true → isRead m i ≡ true) → known c m ≡ true
 unfolding known matters
-read-known c m h = every-all (passes (readingIn c .verdict) m) copySectors (λ i l. go (mattersFor (readingIn c .verdict) i) (isRead m i) (h i l))
+read-known c m h =
+    every-all (passes (readingIn c .verdict) (newestWhole c (readingIn c .verdict)) m) copySectors
+    (λ i l. go (mattersFor (readingIn c .verdict) (newestWhole c (readingIn c .verdict)) i) (isRead m i) (h i l))
   where
     go : (t r : Bool) → (t ≡ true → r ≡ true) → not t || r ≡ true
     go true r q = q refl
@@ -102,8 +126,8 @@ meaning c m = record { known-read = known-read c m; read-known = read-known c m 
 pub no-block : (c m : List ℕ) → isRead m 1 ≡ false → known c m ≡ false
 unfolding known
 no-block c m h =
-    every-false (passes (readingIn c .verdict) m) copySectors 1 block-there
-    (ap₂ (λ (t r : Bool). not t || r) (block-counts (readingIn c .verdict)) h)
+    every-false (passes (readingIn c .verdict) (newestWhole c (readingIn c .verdict)) m) copySectors 1 block-there
+    (ap₂ (λ (t r : Bool). not t || r) (block-counts (readingIn c .verdict) (newestWhole c (readingIn c .verdict))) h)
 
 pub none-marked : (c m : List ℕ) → NoneMarked m → known c m ≡ true
 none-marked c m h = read-known c m (λ i l w. h i l)
@@ -112,21 +136,28 @@ pub whole-same : (c e : List ℕ) (x : Area) (n : Entry) → areaBytes e x (hold
 whole-same c e x Unused h = refl
 whole-same c e x (Used k) h = ap (λ (s : List ℕ). eqb (checksum s) (k .checksum)) h
 
-module _ (m c e : List ℕ) (g : Agree m c e) where
-  block-same : isRead m 1 ≡ true → readingIn e ≡ readingIn c
-  block-same r = ap reading (g .unmarked 1 block-there r)
+-- what holds of an area and of the other holds of every area
+both-areas : (P : Area → Type 0) (x : Area) → P x → P (otherArea x) → (y : Area) → P y
+both-areas P A p q A = p
+both-areas P A p q B = q
+both-areas P B p q A = q
+both-areas P B p q B = p
 
-  module _ (k : known c m ≡ true) where
-    areas-same : (f : BlockFields) → readingIn c .verdict ≡ Verdict.Accepted f → (x : Area)
-        → areaBytes e x (holdingOf (entryIn f x) .bytes) ≡ areaBytes c x (holdingOf (entryIn f x) .bytes)
-    unfolding matters
-    areas-same f a x = part-same c e (areaOffset x) (holdingOf (entryIn f x) .bytes) sector
+same-place : (x y : Area) (h k : Holding) → At x h ≡ At y k → x ≡ y
+same-place x y h k e = cc
+
+module _ (m c e : List ℕ) (g : Agree m c e) (k : known c m ≡ true) where
+  pub block-bytes : blockIn e ≡ blockIn c
+  block-bytes = g .unmarked 1 block-there (known-read c m k 1 block-there (block-matters c))
+
+  block-same : readingIn e ≡ readingIn c
+  block-same = ap reading block-bytes
+
+  module _ (f : BlockFields) (a : readingIn c .verdict ≡ Verdict.Accepted f) where
+    -- an area whose named sectors matter
+    area-same : (x : Area) → ((i : ℕ) → namedIn f x i ≡ true → matters c i ≡ true) → SameArea c e f x
+    area-same x h = part-same c e (areaOffset x) (holdingOf (entryIn f x) .bytes) sector
       where
-        matter : (j : ℕ) → 512 * j < holdingOf (entryIn f x) .bytes → j < areaSectors → matters c (areaStart x + j) ≡ true
-        matter j l w =
-            ap (λ (v : Verdict). mattersFor v (areaStart x + j)) a
-            ∙ (ap (λ (t : Bool). eqb (areaStart x + j) 1 || t) (sym (named-there f x j w) ∙ named-used (entryIn f x) j l) ∙ or-true (eqb (areaStart x + j) 1))
-
         sector : (j : ℕ) → 512 * j < holdingOf (entryIn f x) .bytes → window e (areaOffset x + 512 * j) 512 ≡ window c (areaOffset x + 512 * j) 512
         sector j l =
             let t : holdingOf (entryIn f x) .bytes ≤ recordLimit = entry-limit (blockIn c) f a x in
@@ -135,42 +166,81 @@ module _ (m c e : List ℕ) (g : Agree m c e) where
             let o : 512 * areaStart x ≡ areaOffset x = start-bytes x in
             let z : areaOffset x + 512 * j ≡ 512 * (areaStart x + j) = omega arith in
             ap (λ (n : ℕ). window e n 512) z
-            ∙ (g .unmarked (areaStart x + j) (area-there x j w) (known-read c m k (areaStart x + j) (area-there x j w) (matter j l w))
+            ∙ (g .unmarked (areaStart x + j) (area-there x j w)
+            (known-read c m k (areaStart x + j) (area-there x j w) (h (areaStart x + j) (sym (named-there f x j w) ∙ named-used (entryIn f x) j l)))
             ∙ ap (λ (n : ℕ). window c n 512) (sym z))
 
-    wholes-same : (f : BlockFields) → readingIn c .verdict ≡ Verdict.Accepted f → (x : Area) → whole e f x ≡ whole c f x
-    wholes-same f a x = whole-same c e x (entryIn f x) (areas-same f a x)
+    newest-same : SameArea c e f (newest f)
+    newest-same = area-same (newest f) (newest-matters c f a)
 
-    present-same : (f : BlockFields) → readingIn c .verdict ≡ Verdict.Accepted f → present e f ≡ present c f
+    other-same : whole c f (newest f) ≡ false → SameArea c e f (otherArea (newest f))
+    other-same w = area-same (otherArea (newest f)) (λ i. other-matters c f a i w)
+
+    newest-whole-same : whole e f (newest f) ≡ whole c f (newest f)
+    newest-whole-same = whole-same c e (newest f) (entryIn f (newest f)) newest-same
+
+    present-same : present e f ≡ present c f
     unfolding present
-    present-same f a = go (newest f)
+    present-same = go (newest f) newest-whole-same other-same (whole c f (newest f)) refl
       where
-        go : (x : Area) → presentFrom e f x ≡ presentFrom c f x
-        go x =
-            ap₂ (λ (s t : Bool). cond s (At x (holdingOf (entryIn f x))) (cond t (At (otherArea x) (holdingOf (entryIn f (otherArea x)))) Nothing))
-            (wholes-same f a x) (wholes-same f a (otherArea x))
+        go : (x : Area) → whole e f x ≡ whole c f x → (whole c f x ≡ false → SameArea c e f (otherArea x)) → (w : Bool) → whole c f x ≡ w
+            → presentFrom e f x ≡ presentFrom c f x
+        go x s o true h =
+            ap (λ (t : Bool). cond t (At x (holdingOf (entryIn f x))) (cond (whole e f (otherArea x)) (At (otherArea x) (holdingOf (entryIn f (otherArea x)))) Nothing)) (s ∙ h)
+            ∙ sym (ap (λ (t : Bool). cond t (At x (holdingOf (entryIn f x))) (cond (whole c f (otherArea x)) (At (otherArea x) (holdingOf (entryIn f (otherArea x)))) Nothing)) h)
+        go x s o false h =
+            ap₂ (λ (p q : Bool). cond p (At x (holdingOf (entryIn f x))) (cond q (At (otherArea x) (holdingOf (entryIn f (otherArea x)))) Nothing))
+            s (whole-same c e (otherArea x) (entryIn f (otherArea x)) (o h))
 
-    copy-same : SameCopy c e
-    copy-same =
-        record {
-          reads = block-same (known-read c m k 1 block-there (block-matters c));
-          areas = areas-same;
-          its-present = present-same;
-          bytes = λ x y h a p. held x y h a (present-latest c x y h p .holds);
-        }
+    -- the area of the present record: the newest where that is whole
+    at-newest : (y : Area) (h : Holding) → present c f ≡ At y h → whole c f (newest f) ≡ true → newest f ≡ y
+    unfolding present
+    at-newest y h p w =
+        same-place (newest f) y (holdingOf (entryIn f (newest f))) h
+        (sym (ap (λ (t : Bool). cond t (At (newest f) (holdingOf (entryIn f (newest f)))) (cond (whole c f (otherArea (newest f))) (At (otherArea (newest f)) (holdingOf (entryIn f (otherArea (newest f))))) Nothing)) w) ∙ p)
+
+    held-same : (y : Area) (h : Holding) → present c f ≡ At y h → SameArea c e f y
+    held-same y h p = go (whole c f (newest f)) refl
       where
-        held : (x : BlockFields) (y : Area) (h : Holding) → readingIn c .verdict ≡ Verdict.Accepted x → h ≡ holdingOf (entryIn x y)
-            → areaBytes e y (h .bytes) ≡ areaBytes c y (h .bytes)
-        held x y h a q =
-            ap (λ (z : Holding). areaBytes e y (z .bytes)) q ∙ (areas-same x a y ∙ ap (λ (z : Holding). areaBytes c y (z .bytes)) (sym q))
+        go : (w : Bool) → whole c f (newest f) ≡ w → SameArea c e f y
+        go true w = subst (SameArea c e f) (at-newest y h p w) newest-same
+        go false w = both-areas (SameArea c e f) (newest f) newest-same (other-same w) y
+
+    bytes-same : (y : Area) (h : Holding) → present c f ≡ At y h → areaBytes e y (h .bytes) ≡ areaBytes c y (h .bytes)
+    bytes-same y h p =
+        subst (λ (z : Holding). areaBytes e y (z .bytes) ≡ areaBytes c y (z .bytes)) (sym (present-latest c f y h p .holds)) (held-same y h p)
+
+  copy-same : SameCopy c e
+  copy-same =
+      record {
+        reads = block-same;
+        newest-area = newest-same;
+        other-area = other-same;
+        its-present = present-same;
+        bytes = λ x y h a p. bytes-same x a y h p;
+      }
+
+  -- what agrees with a known copy is known
+  known-too : known e m ≡ true
+  unfolding known
+  known-too =
+      ap (λ (r : Reading). every (passes (r .verdict) (newestWhole e (r .verdict)) m) copySectors) block-same
+      ∙ (ap (λ (w : Bool). every (passes (readingIn c .verdict) w m) copySectors) (go (readingIn c .verdict) refl) ∙ k)
+    where
+      go : (v : Verdict) → readingIn c .verdict ≡ v → newestWhole e v ≡ newestWhole c v
+      go (Verdict.Accepted f) a = newest-whole-same f a
+      go (Verdict.Refused n) a = refl
 
 pub alone : Alone
 alone m c e g k = copy-same m c e g k
 
 pub steady : Steady
-unfolding known
-steady m c e g = go (isRead m 1) refl
+steady m c e g = go (known e m) (known c m) (known-too m e c back) (known-too m c e g)
   where
-    go : (t : Bool) → isRead m 1 ≡ t → known e m ≡ known c m
-    go true h = ap (λ (r : Reading). every (passes (r .verdict) m) copySectors) (block-same m c e g h)
-    go false h = no-block e m h ∙ sym (no-block c m h)
+    back : Agree m e c
+    back = record { size = g .size-too; size-too = g .size; unmarked = λ i l r. sym (g .unmarked i l r) }
+
+    go : (p q : Bool) → (p ≡ true → q ≡ true) → (q ≡ true → p ≡ true) → p ≡ q
+    go true q h i = sym (h refl)
+    go false true h i = i refl
+    go false false h i = refl

@@ -1,19 +1,26 @@
 -- What the calls answer, case by case. Assumes nothing.
 use Prim.Native.Nat.{ℕ, zero, suc, _+_, _-_, _*_, _≤_, _<_}
-use mathlib.Core.Path.{_≡_, refl, sym, ap, _∙_}
-use mathlib.Core.Bool.{false}
+use mathlib.Core.Path.{_≡_, refl, sym, ap, ap₂, _∙_}
+use mathlib.Core.Bool.{Bool, false}
 use mathlib.Core.List.{List, [], _∷_}
 use native.Mathlib.Decide.{decLe}
 use native.Mathlib.Nat.{not-suc-le-zero}
 use native.Mathlib.Omega.{arith}
-use borrow.Author.Tests.{lt-ltb, le-ltb}
+use borrow.Author.Tests.{lt-ltb, le-ltb, le-leb, lt-leb}
 use lib.Dec.{ltb, eqb}
 use lib.ListN.{length, getD}
 use Rattle.layout.specs.declared.Device.{Device}
 use Rattle.layout.specs.declared.Side.{Side}
+use Rattle.layout.specs.declared.Area.{Area}
 use Rattle.layout.specs.declared.Area.the-variants.{A, B}
 use Rattle.layout.specs.Places.{headerSector, areaSector}
-use Rattle.sectors.specs.Sectors.{areaStart, byPart, below, sectorAt, isRead}
+use Rattle.block.specs.declared.Entry.{Entry}
+use Rattle.block.specs.declared.BlockFields.{BlockFields}
+use Rattle.block.specs.declared.Reading.{Reading}
+use Rattle.record.specs.Search.{every}
+use Rattle.discovery.specs.Copy.{entryIn, readingIn}
+use Rattle.device.specs.Device.{areaSectors}
+use Rattle.sectors.specs.Sectors.{copySectors, areaStart, byPart, below, placeOf, sectorAt, named, namedIn, mattersFor, newestWhole, matters, isRead, passes, known}
 
 pub below-past : (s n : ℕ) → s ≤ n → s ≡ below s n
 unfolding below
@@ -48,34 +55,69 @@ module _ {T : Type 0} (i p q : ℕ) (h : T) (a b : ℕ → T) (ep : p ≡ areaSt
   pub by-b : p ≤ i → q ≤ i → b (i - q) ≡ byPart i h (a (i - areaStart A)) (b (i - areaStart B))
   by-b l m = ap (λ (n : ℕ). b (i - n)) eq ∙ in-b i h (a (i - areaStart A)) (b (i - areaStart B)) (omega arith) (omega arith)
 
+-- a sector that a copy has, and one that it has not
+pub at-inside : (s : Side) (d : Device) (i : ℕ) → i < copySectors → below (d .sectors) (placeOf s d i) ≡ sectorAt s d i
+unfolding sectorAt
+at-inside s d i l = rw (lt-ltb i copySectors l)
+
+pub at-past : (s : Side) (d : Device) (i : ℕ) → copySectors ≤ i → d .sectors ≡ sectorAt s d i
+unfolding sectorAt
+at-past s d i l = rw (le-ltb i copySectors l)
+
 -- where a sector lies
-module _ (s : Side) (d : Device) (i p q r : ℕ) (ep : p ≡ areaStart A) (eq : q ≡ areaStart B) where
+module _ (s : Side) (d : Device) (i n p q r : ℕ) (en : n ≡ copySectors) (ep : p ≡ areaStart A) (eq : q ≡ areaStart B) where
   abbrev at-a : ℕ → ℕ
   at-a j = areaSector s A d + j
 
   abbrev at-b : ℕ → ℕ
   at-b j = areaSector s B d + j
 
-  pub at-header : (h : ℕ) → i < p → h ≡ headerSector s d → r ≡ below (d .sectors) (h + i) → r ≡ sectorAt s d i
-  unfolding sectorAt
-  at-header h l e k =
-      k
-      ∙ ap (below (d .sectors))
-      (ap (λ (n : ℕ). n + i) e ∙ by-header i p q (headerSector s d + i) at-a at-b ep eq l)
+  pub at-none : n ≤ i → d .sectors ≡ sectorAt s d i
+  at-none l = at-past s d i (omega arith)
 
-  pub at-area-a : (h : ℕ) → p ≤ i → i < q → h ≡ areaSector s A d → r ≡ below (d .sectors) (h + (i - p)) → r ≡ sectorAt s d i
-  unfolding sectorAt
-  at-area-a h l m e k =
+  pub at-header : (h : ℕ) → i < n → i < p → h ≡ headerSector s d → r ≡ below (d .sectors) (h + i) → r ≡ sectorAt s d i
+  at-header h t l e k =
       k
-      ∙ ap (below (d .sectors))
-      (ap (λ (n : ℕ). n + (i - p)) e ∙ by-a i p q (headerSector s d + i) at-a at-b ep eq l m)
+      ∙ (ap (below (d .sectors)) (ap (λ (n : ℕ). n + i) e ∙ by-header i p q (headerSector s d + i) at-a at-b ep eq l)
+      ∙ at-inside s d i (omega arith))
 
-  pub at-area-b : (h : ℕ) → p ≤ i → q ≤ i → h ≡ areaSector s B d → r ≡ below (d .sectors) (h + (i - q)) → r ≡ sectorAt s d i
-  unfolding sectorAt
-  at-area-b h l m e k =
+  pub at-area-a : (h : ℕ) → i < n → p ≤ i → i < q → h ≡ areaSector s A d → r ≡ below (d .sectors) (h + (i - p)) → r ≡ sectorAt s d i
+  at-area-a h t l m e k =
       k
-      ∙ ap (below (d .sectors))
-      (ap (λ (n : ℕ). n + (i - q)) e ∙ by-b i p q (headerSector s d + i) at-a at-b ep eq l m)
+      ∙ (ap (below (d .sectors)) (ap (λ (n : ℕ). n + (i - p)) e ∙ by-a i p q (headerSector s d + i) at-a at-b ep eq l m)
+      ∙ at-inside s d i (omega arith))
+
+  pub at-area-b : (h : ℕ) → i < n → p ≤ i → q ≤ i → h ≡ areaSector s B d → r ≡ below (d .sectors) (h + (i - q)) → r ≡ sectorAt s d i
+  at-area-b h t l m e k =
+      k
+      ∙ (ap (below (d .sectors)) (ap (λ (n : ℕ). n + (i - q)) e ∙ by-b i p q (headerSector s d + i) at-a at-b ep eq l m)
+      ∙ at-inside s d i (omega arith))
+
+-- whether an area's entry names a sector: one before the area, one past what a record can fill of it, one in it
+module _ (f : BlockFields) (x : Area) (i : ℕ) where
+  pub named-before : i < areaStart x → false ≡ namedIn f x i
+  unfolding namedIn
+  named-before l = rw (lt-leb (areaStart x) i l)
+
+  pub named-past : areaStart x ≤ i → areaSectors ≤ i - areaStart x → false ≡ namedIn f x i
+  unfolding namedIn
+  named-past l m = rw (le-leb (areaStart x) i l, le-ltb (i - areaStart x) areaSectors m)
+
+  pub named-inside : areaStart x ≤ i → i - areaStart x < areaSectors → named (entryIn f x) (i - areaStart x) ≡ namedIn f x i
+  unfolding namedIn
+  named-inside l m = rw (le-leb (areaStart x) i l, lt-ltb (i - areaStart x) areaSectors m)
+
+-- the same with where the area begins as s and its sectors as n
+module _ (f : BlockFields) (x : Area) (i s n : ℕ) (es : s ≡ areaStart x) where
+  pub by-before : i < s → false ≡ namedIn f x i
+  by-before l = named-before f x i (omega arith)
+
+  pub by-past : n ≡ areaSectors → s ≤ i → n ≤ i - s → false ≡ namedIn f x i
+  by-past en l m = named-past f x i (omega arith) (omega arith)
+
+  pub by-inside : (r : Bool) (e : Entry) → n ≡ areaSectors → s ≤ i → i - s < n → e ≡ entryIn f x → r ≡ named e (i - s) → r ≡ namedIn f x i
+  by-inside r e en l m h k =
+      k ∙ (ap₂ named h (ap (λ (z : ℕ). i - z) es) ∙ named-inside f x i (omega arith) (omega arith))
 
 -- the first k sectors, the fewest that have room for n bytes, are those that begin before byte n
 pub fewest : (j k n : ℕ) → n ≤ 512 * k → 512 * k < n + 512 → ltb j k ≡ ltb (512 * j) n
@@ -98,3 +140,19 @@ mark-there m i l = ap (λ (b : ℕ). eqb b 0) (getD-any m i 0 1 l)
 pub mark-missing : (m : List ℕ) (i : ℕ) → length m ≤ i → false ≡ isRead m i
 unfolding isRead
 mark-missing m i l = sym (ap (λ (b : ℕ). eqb b 0) (lib.ListN.List·getD-eq-default m 1 l))
+
+-- a copy by what reading its block answered, and whether its newest area is whole
+module _ (c : List ℕ) (r : Reading) (w a : Bool) (ew : w ≡ newestWhole c (r .verdict)) (er : r ≡ readingIn c) where
+  pub matters-by : (i : ℕ) → a ≡ mattersFor (r .verdict) w i → a ≡ matters c i
+  unfolding matters
+  matters-by i h =
+      h
+      ∙ (ap (λ (t : Bool). mattersFor (r .verdict) t i) ew
+      ∙ ap (λ (q : Reading). mattersFor (q .verdict) (newestWhole c (q .verdict)) i) er)
+
+  pub known-by : (m : List ℕ) → a ≡ every (passes (r .verdict) w m) copySectors → a ≡ known c m
+  unfolding known
+  known-by m h =
+      h
+      ∙ (ap (λ (t : Bool). every (passes (r .verdict) t m) copySectors) ew
+      ∙ ap (λ (q : Reading). every (passes (q .verdict) (newestWhole c (q .verdict)) m) copySectors) er)

@@ -59,10 +59,10 @@ module _ {f b g k : List ℕ} (sf : SameCopy f g) (sb : SameCopy b k) where
 
     stepped-same : stepped g x k y ≡ stepped f x b y
     stepped-same =
-        ap₂ _&&_ (whole-same f g (newest x) (entryIn x (newest x)) (sf .areas x ax (newest x)))
-        (ap₂ _&&_ (whole-same b k (newest y) (entryIn y (newest y)) (sb .areas y ay (newest y)))
+        ap₂ _&&_ (whole-same f g (newest x) (entryIn x (newest x)) (sf .newest-area x ax))
+        (ap₂ _&&_ (whole-same b k (newest y) (entryIn y (newest y)) (sb .newest-area y ay))
         (ap₂ (λ (s t : List ℕ). sameTime (timeOf (holdingOf (entryIn x (newest x)))) (timeOf (holdingOf (entryIn y (newest y)))) && same s t)
-        (sf .areas x ax (newest x)) (sb .areas y ay (newest y))))
+        (sf .newest-area x ax) (sb .newest-area y ay)))
 
   decided : (v w : Verdict) → readingIn f .verdict ≡ v → readingIn b .verdict ≡ w → (u : Bool) → decide v w u g k ≡ decide v w u f b
   decided (Verdict.Refused m) (Verdict.Refused n) p q u = refl
@@ -94,12 +94,12 @@ module _ {f b g k : List ℕ} (sf : SameCopy f g) (sb : SameCopy b k) where
         let n : Newest f b r = newest-found f b r o e in
         let l : r .bytes ≡ holdingOf (entryIn (n .fields) (r .area)) .bytes = ap (λ (q : Record). q .bytes) (n .is) in
         ap (areaBytes (copyOn (r .side) g k) (r .area)) l
-        ∙ (on (r .side) .areas (n .fields) (n .accepted) (r .area) ∙ ap (areaBytes (copyOn (r .side) f b) (r .area)) (sym l))
+        ∙ (on (r .side) .bytes (n .fields) (r .area) (holdingOf (entryIn (n .fields) (r .area))) (n .accepted) (n .its-present) ∙ ap (areaBytes (copyOn (r .side) f b) (r .area)) (sym l))
 
     both-same : SameBoth f b g k
     both-same = record { answers = answers-same; step = step-same; bytes = found-same }
 
-sizes : (f b : List ℕ) → length f ≡ copyBytes → length b ≡ copyBytes → sized f b ≡ true
+pub sizes : (f b : List ℕ) → length f ≡ copyBytes → length b ≡ copyBytes → sized f b ≡ true
 sizes f b p q =
     and-both (eqb (length f) copyBytes) (eqb (length b) copyBytes) (eq-eqb (length f) copyBytes p) (eq-eqb (length b) copyBytes q)
 

@@ -2,5 +2,7 @@
 pub mod Calls
 pub mod Parts
 pub mod Alone
+pub mod Least
 pub mod Placed
 pub mod Demand
+pub mod Stored

@@ -25,7 +25,7 @@ use Rattle.device.specs.Device.{Sectors, Sound, gather, areaSectors, copyFrom}
 use Rattle.device.proofs.Copies.{limit-sectors, limit-small, length-gather, length-copy, copy-area}
 use Rattle.sectors.specs.Sectors.{copySectors, areaStart, placeOf, sectorAt}
 use Rattle.sectors.specs.Demand.{nthSector, NoneMarked, ReadFrom, Placed}
-use Rattle.sectors.proofs.Calls.{below-is, in-header, in-a, in-b}
+use Rattle.sectors.proofs.Calls.{below-is, in-header, in-a, in-b, at-inside, at-past}
 use Rattle.sectors.proofs.Parts.{header-sectors, a-before-b, b-last, start-bytes, copy-bytes, run-same}
 
 -- sector i of sectors that were read one after the other
@@ -96,8 +96,7 @@ module _ (s : Side) (v : Device) (d : Sectors) (ok : first (deviceTests v) ≡ 0
   place-below = by-place s v (λ (i n : ℕ). n < v .sectors) (header-below v ok s) (area-below v ok s)
 
   at-place : (i : ℕ) → i < copySectors → placeOf s v i ≡ sectorAt s v i
-  unfolding sectorAt
-  at-place i l = below-is (v .sectors) (placeOf s v i) (place-below i l)
+  at-place i l = below-is (v .sectors) (placeOf s v i) (place-below i l) ∙ at-inside s v i l
 
   there : (i : ℕ) → i < copySectors → sectorAt s v i < v .sectors
   there i l = subst (λ (n : ℕ). n < v .sectors) (at-place i l) (place-below i l)
@@ -141,6 +140,7 @@ placed s v d ok h =
     record {
       sector = sector s v d ok h;
       there = there s v d ok h;
+      past = λ i l. sym (at-past s v i l);
       agrees = λ m c r. record { size = r .size; size-too = length-copy s v d h; unmarked = λ i l u. sector s v d ok h i l ∙ sym (r .unmarked i l u) };
       is = all-read s v d ok h;
     }

@@ -1,6 +1,7 @@
--- What sectors that could not be read can change. `proofs/Alone.antt` proves `Alone`, `Steady` and `Meaning`, `proofs/Placed.antt`
--- `Placed`, `proofs/Demand.antt` the rest. Assumes nothing.
-use Prim.Native.Nat.{ℕ, _*_, _<_}
+-- What sectors that could not be read can change. `proofs/Alone.antt` proves `Alone`, `Steady` and `Meaning`, `proofs/Least.antt`
+-- `Bounded`, `proofs/Placed.antt` `Placed`, `proofs/Stored.antt` `Stored` and `SureStored`, `proofs/Demand.antt` the rest.
+-- Assumes nothing.
+use Prim.Native.Nat.{ℕ, _+_, _*_, _≤_, _<_}
 use mathlib.Core.Path.{_≡_}
 use mathlib.Core.Bool.{true, false}
 use mathlib.Core.List.{List}
@@ -11,8 +12,10 @@ use Rattle.layout.specs.declared.Device.{Device}
 use Rattle.layout.specs.declared.Side.{Side}
 use Rattle.layout.specs.declared.Side.the-variants.{Front, Back}
 use Rattle.layout.specs.declared.Area.{Area}
+use Rattle.layout.specs.declared.Area.the-variants.{A}
 use Rattle.layout.specs.Limits.{deviceTests, sectorBytes}
 use Rattle.layout.specs.Places.{copyBytes}
+use Rattle.block.specs.declared.Time.{Time}
 use Rattle.block.specs.declared.Holding.{Holding}
 use Rattle.block.specs.declared.BlockFields.{BlockFields}
 use Rattle.block.specs.declared.Verdict.the-variants as Verdict
@@ -21,10 +24,17 @@ use Rattle.discovery.specs.declared.Present.the-variants.{At}
 use Rattle.discovery.specs.declared.Record.{Record}
 use Rattle.discovery.specs.declared.Other.{Other}
 use Rattle.discovery.specs.declared.Answer.the-variants.{Found}
-use Rattle.discovery.specs.Copy.{areaBytes, entryIn, present, readingIn}
+use Rattle.discovery.specs.Copy.{areaBytes, entryIn, otherArea, whole, newest, present, readingIn}
 use Rattle.discovery.specs.Discovery.{discovery, inStep, recordBytes}
-use Rattle.device.specs.Device.{Sectors, Sound, copyFrom}
-use Rattle.sectors.specs.Sectors.{copySectors, sectorAt, matters, isRead, known, settled}
+use Rattle.device.specs.Device.{Sectors, Sound, areaSectors, copyFrom}
+use Rattle.update.specs.declared.Plan.{Plan}
+use Rattle.update.specs.Update.{updateGroups}
+use Rattle.update.specs.Plan.{planned}
+use Rattle.update.specs.Plan as Update
+use Rattle.mend.specs.Mend.{mendGroups}
+use Rattle.mend.specs.Plan.{mending}
+use Rattle.mend.specs.Plan as Mend
+use Rattle.sectors.specs.Sectors.{copySectors, areaStart, sectorAt, matters, isRead, known, settled}
 
 -- sector i of a copy
 abbrev pub nthSector : List ℕ → ℕ → List ℕ
@@ -36,12 +46,18 @@ pub record Agree (m c e : List ℕ) : Type 0 where
   pub size-too : length e ≡ copyBytes
   pub unmarked : (i : ℕ) → i < copySectors → isRead m i ≡ true → nthSector e i ≡ nthSector c i
 
--- one copy: its block is read the same, and where it is accepted each area has the same bytes as far as its entry names them,
--- and the present record is the same, with the same bytes
+-- an area has the same bytes in both as far as its entry names them
+abbrev pub SameArea : List ℕ → List ℕ → BlockFields → Area → Type 0
+SameArea c e x y = areaBytes e y (holdingOf (entryIn x y) .bytes) ≡ areaBytes c y (holdingOf (entryIn x y) .bytes)
+
+-- one copy: its block is read the same, and where it is accepted the area of the entry with the later time, and where that is not
+-- whole the other area too, has the same bytes as far as its entry names them, and the present record is the same, with the
+-- same bytes
 pub record SameCopy (c e : List ℕ) : Type 0 where
   pub reads : readingIn e ≡ readingIn c
-  pub areas : (x : BlockFields) → readingIn c .verdict ≡ Verdict.Accepted x → (y : Area)
-      → areaBytes e y (holdingOf (entryIn x y) .bytes) ≡ areaBytes c y (holdingOf (entryIn x y) .bytes)
+  pub newest-area : (x : BlockFields) → readingIn c .verdict ≡ Verdict.Accepted x → SameArea c e x (newest x)
+  pub other-area : (x : BlockFields) → readingIn c .verdict ≡ Verdict.Accepted x → whole c x (newest x) ≡ false
+      → SameArea c e x (otherArea (newest x))
   pub its-present : (x : BlockFields) → readingIn c .verdict ≡ Verdict.Accepted x → present e x ≡ present c x
   pub bytes : (x : BlockFields) (y : Area) (h : Holding) → readingIn c .verdict ≡ Verdict.Accepted x → present c x ≡ At y h
       → areaBytes e y (h .bytes) ≡ areaBytes c y (h .bytes)
@@ -62,6 +78,24 @@ Settled =
     (f b g k fm bm : List ℕ) → Agree fm f g → Agree bm b k → settled f b fm bm ≡ true
     → SameBoth f b g k
 
+-- what a mend and an update store: both are worked out the same, and each store by its number is to the same sector, with the same
+-- bytes; and so are the groups of stores that a cut speaks of
+pub record SameStores (f b g k : List ℕ) : Type 0 where
+  pub mends : mending g k ≡ mending f b
+  pub mend-place : (i : ℕ) (out : List ℕ) → Mend.storeAnswer (mending g k) g k i out ≡ Mend.storeAnswer (mending f b) f b i out
+  pub mend-bytes : (i : ℕ) (out : List ℕ) → Mend.storeBytes (mending g k) g k i out ≡ Mend.storeBytes (mending f b) f b i out
+  pub mend-groups : mendGroups g k ≡ mendGroups f b
+  pub plans : (t : Time) (r : List ℕ) → planned g k t r ≡ planned f b t r
+  pub update-place : (p : Plan) (r : List ℕ) (i : ℕ) (out : List ℕ) → Update.storeAnswer p g k r i out ≡ Update.storeAnswer p f b r i out
+  pub update-bytes : (p : Plan) (r : List ℕ) (i : ℕ) (out : List ℕ) → Update.storeBytes p g k r i out ≡ Update.storeBytes p f b r i out
+  pub update-groups : (t : Time) (r : List ℕ) → updateGroups g k t r ≡ updateGroups f b t r
+
+-- Whatever the marked sectors of two copies hold, what is stored is the same.
+abbrev pub Stored : Type 0
+Stored =
+    (f b g k fm bm : List ℕ) → Agree fm f g → Agree bm b k → settled f b fm bm ≡ true
+    → SameStores f b g k
+
 -- Nor does the test itself depend on what the marked sectors hold.
 abbrev pub Steady : Type 0
 Steady = (m c e : List ℕ) → Agree m c e → known e m ≡ known c m
@@ -74,6 +108,22 @@ pub record Known (c m : List ℕ) : Type 0 where
 -- Of every copy and all marks that holds.
 abbrev pub Meaning : Type 0
 Meaning = (c m : List ℕ) → Known c m
+
+-- What matters at most: of the header only the block's sector; nothing past the copy; where the block is refused nothing but the
+-- block's sector; of an area nothing past the bytes that its entry names, so nothing where the entry is unused; and where the
+-- area of the entry with the later time is whole, nothing of the other area.
+pub record Least (c : List ℕ) : Type 0 where
+  pub header : (i : ℕ) → i < areaStart A → (i ≡ 1 → ⊥) → matters c i ≡ false
+  pub past : (i : ℕ) → copySectors ≤ i → matters c i ≡ false
+  pub refused : (n : ℕ) → readingIn c .verdict ≡ Verdict.Refused n → (i : ℕ) → (i ≡ 1 → ⊥) → matters c i ≡ false
+  pub unnamed : (x : BlockFields) → readingIn c .verdict ≡ Verdict.Accepted x → (y : Area) (j : ℕ) → j < areaSectors
+      → holdingOf (entryIn x y) .bytes ≤ sectorBytes * j → matters c (areaStart y + j) ≡ false
+  pub older : (x : BlockFields) → readingIn c .verdict ≡ Verdict.Accepted x → whole c x (newest x) ≡ true → (j : ℕ) → j < areaSectors
+      → matters c (areaStart (otherArea (newest x)) + j) ≡ false
+
+-- Of every copy that holds.
+abbrev pub Bounded : Type 0
+Bounded = (c : List ℕ) → Least c
 
 -- no sector is marked
 abbrev pub NoneMarked : List ℕ → Type 0
@@ -90,11 +140,12 @@ pub record ReadFrom (s : Side) (v : Device) (d : Sectors) (m c : List ℕ) : Typ
   pub size : length c ≡ copyBytes
   pub unmarked : (i : ℕ) → i < copySectors → isRead m i ≡ true → nthSector c i ≡ d (sectorAt s v i)
 
--- each sector of a side's copy, as a cut speaks of it, is the device's at `sectorAt`, which the device has; what was read agrees
--- with that copy, and is that copy where no sector is marked
+-- each sector of a side's copy, as a cut speaks of it, is the device's at `sectorAt`, which the device has; past the copy it is S,
+-- which the device does not have; what was read agrees with that copy, and is that copy where no sector is marked
 pub record PlacedOn (s : Side) (v : Device) (d : Sectors) : Type 0 where
   pub sector : (i : ℕ) → i < copySectors → nthSector (copyFrom s v d) i ≡ d (sectorAt s v i)
   pub there : (i : ℕ) → i < copySectors → sectorAt s v i < v .sectors
+  pub past : (i : ℕ) → copySectors ≤ i → sectorAt s v i ≡ v .sectors
   pub agrees : (m c : List ℕ) → ReadFrom s v d m c → Agree m c (copyFrom s v d)
   pub is : (m c : List ℕ) → ReadFrom s v d m c → NoneMarked m → c ≡ copyFrom s v d
 
@@ -108,3 +159,10 @@ Sure =
     (v : Device) (d : Sectors) (f b fm bm : List ℕ) → first (deviceTests v) ≡ 0 → Sound d
     → ReadFrom Front v d fm f → ReadFrom Back v d bm b → settled f b fm bm ≡ true
     → SameBoth f b (copyFrom Front v d) (copyFrom Back v d)
+
+-- And what is stored is what the device's own copies would have stored.
+abbrev pub SureStored : Type 0
+SureStored =
+    (v : Device) (d : Sectors) (f b fm bm : List ℕ) → first (deviceTests v) ≡ 0 → Sound d
+    → ReadFrom Front v d fm f → ReadFrom Back v d bm b → settled f b fm bm ≡ true
+    → SameStores f b (copyFrom Front v d) (copyFrom Back v d)

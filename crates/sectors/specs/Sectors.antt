@@ -3,7 +3,7 @@
 use Prim.Native.Nat.{ℕ, _+_, _-_, _*_, _/_}
 use mathlib.Core.Bool.{Bool, false, not, cond, _&&_, _||_}
 use mathlib.Core.List.{List}
-use lib.Dec.{ltb, eqb}
+use lib.Dec.{leb, ltb, eqb}
 use lib.ListN.{getD}
 use Rattle.layout.specs.declared.Device.{Device}
 use Rattle.layout.specs.declared.Side.{Side}
@@ -17,7 +17,8 @@ use Rattle.block.specs.declared.BlockFields.{BlockFields}
 use Rattle.block.specs.declared.Verdict.{Verdict}
 use Rattle.block.specs.declared.Verdict.the-variants as Verdict
 use Rattle.record.specs.Search.{every}
-use Rattle.discovery.specs.Copy.{readingIn}
+use Rattle.discovery.specs.Copy.{entryIn, otherArea, whole, newest, readingIn}
+use Rattle.device.specs.Device.{areaSectors}
 
 -- sectors of a copy as it is lent
 unfoldable pub copySectors : ℕ
@@ -39,39 +40,49 @@ below s n = cond (ltb n s) n s
 abbrev pub placeOf : Side → Device → ℕ → ℕ
 placeOf s d i = byPart i (headerSector s d + i) (areaSector s A d + (i - areaStart A)) (areaSector s B d + (i - areaStart B))
 
--- the device sector that is sector i of a side's copy
+-- the device sector that is sector i of a side's copy; S, which no device has, where the copy has no sector i
 unfoldable pub sectorAt : Side → Device → ℕ → ℕ
-sectorAt s d i = below (d .sectors) (placeOf s d i)
+sectorAt s d i = cond (ltb i copySectors) (below (d .sectors) (placeOf s d i)) (d .sectors)
 
 -- an entry names sector j of its area: a used one those that its bytes lie in, the first ceiling(bytes / 512)
 abbrev pub named : Entry → ℕ → Bool
 named Unused j = false
 named (Used h) j = ltb (sectorBytes * j) (h .bytes)
 
--- an entry of these names sector i of the copy
-abbrev pub namedIn : BlockFields → ℕ → Bool
-namedIn f i = byPart i false (named (f .a) (i - areaStart A)) (named (f .b) (i - areaStart B))
+-- sector i of a copy is one of an area's
+abbrev pub inArea : Area → ℕ → Bool
+inArea x i = leb (areaStart x) i && ltb (i - areaStart x) areaSectors
 
--- by what reading the block answered: sector 1, the block's own, and where it is accepted those that an entry names
-abbrev pub mattersFor : Verdict → ℕ → Bool
-mattersFor (Verdict.Accepted f) i = eqb i 1 || namedIn f i
-mattersFor (Verdict.Refused n) i = eqb i 1
+-- an area's entry names sector i of the copy
+unfoldable pub namedIn : BlockFields → Area → ℕ → Bool
+namedIn f x i = inArea x i && named (entryIn f x) (i - areaStart x)
+
+-- by what reading the block answered, and whether the area of the entry with the later time is whole: sector 1, the block's own;
+-- where the block is accepted those that this entry names; and, only where its area is not whole, those that the other entry names
+abbrev pub mattersFor : Verdict → Bool → ℕ → Bool
+mattersFor (Verdict.Accepted f) w i = eqb i 1 || (namedIn f (newest f) i || (not w && namedIn f (otherArea (newest f)) i))
+mattersFor (Verdict.Refused n) w i = eqb i 1
+
+-- by what reading a copy's block answered: it is accepted, and the area of the entry with the later time is whole
+abbrev pub newestWhole : List ℕ → Verdict → Bool
+newestWhole c (Verdict.Accepted f) = whole c f (newest f)
+newestWhole c (Verdict.Refused n) = false
 
 -- sector i of a copy matters to discovery
 unfoldable pub matters : List ℕ → ℕ → Bool
-matters c i = mattersFor (readingIn c .verdict) i
+matters c i = mattersFor (readingIn c .verdict) (newestWhole c (readingIn c .verdict)) i
 
 -- sector i was read: it has a mark, and the mark is 0
 unfoldable pub isRead : List ℕ → ℕ → Bool
 isRead m i = eqb (getD m i 1) 0
 
 -- sector i does not matter, or was read
-abbrev pub passes : Verdict → List ℕ → ℕ → Bool
-passes v m i = not (mattersFor v i) || isRead m i
+abbrev pub passes : Verdict → Bool → List ℕ → ℕ → Bool
+passes v w m i = not (mattersFor v w i) || isRead m i
 
 -- no sector of a copy that matters is marked
 unfoldable pub known : List ℕ → List ℕ → Bool
-known c m = every (passes (readingIn c .verdict) m) copySectors
+known c m = every (passes (readingIn c .verdict) (newestWhole c (readingIn c .verdict)) m) copySectors
 
 -- what discovery answers for two copies is sure
 unfoldable pub settled : List ℕ → List ℕ → List ℕ → List ℕ → Bool

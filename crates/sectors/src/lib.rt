@@ -3,9 +3,10 @@
 // have a byte a sector, 0 where it was read. Assumes nothing.
 ghost use mathlib.Core.Path.{_≡_};
 ghost use Prim.Native.Nat.{_+_, _*_, _≤_, _<_};
+ghost use Rattle.device.specs.Device.{areaSectors};
 ghost use Rattle.layout.specs.Places.{headerSector};
 ghost use Rattle.record.specs.Search.{every};
-ghost use Rattle.sectors.specs.Sectors.{copySectors, areaStart, below, sectorAt, named, namedIn, mattersFor, matters, isRead, passes, known, settled};
+ghost use Rattle.sectors.specs.Sectors.{copySectors, areaStart, below, sectorAt, named, namedIn, mattersFor, newestWhole, matters, isRead, passes, known, settled};
 use block::BlockFields;
 use block::Entry;
 use block::Verdict;
@@ -25,6 +26,13 @@ fn area_start(x: Area) -> usize
     ensures { λ r. ⌜ r ≡ areaStart x ⌝ }
 {
     layout::area_offset(x) / layout::SECTOR_BYTES
+}
+
+// How many sectors of an area a record can fill.
+fn area_sectors() -> usize
+    ensures { λ r. ⌜ r ≡ areaSectors ⌝ }
+{
+    layout::RECORD_LIMIT as usize / layout::SECTOR_BYTES
 }
 
 // The first sector of a copy's header; of any numbers, with a difference that stops at 0.
@@ -51,12 +59,16 @@ fn sum_below(s: u64, a: u64, j: usize) -> u64
 }
 
 // The device sector that is sector i of a side's copy. Of any numbers: differences stop at 0, and sums at S, which stands for
-// every sector that the device does not have.
+// every sector that the device does not have; and for those that a copy does not have.
 pub fn sector_at(side: Side, d: Device, i: usize) -> u64
     ensures { λ r. ⌜ r ≡ sectorAt side d i ⌝ }
 {
+    let n = copy_sectors();
     let a = area_start(Area::A);
     let b = area_start(Area::B);
+    if n <= i {
+        return d.sectors;
+    }
     if i < a {
         return sum_below(d.sectors, header_sector(side, d), i);
     }
@@ -84,41 +96,52 @@ fn named(e: Entry, j: usize) -> bool
     }
 }
 
-// Whether an entry of a block names sector i of its copy.
-fn named_in(f: BlockFields, i: usize) -> bool
-    ensures { λ r. ⌜ r ≡ namedIn f i ⌝ }
+// Whether an area's entry names sector i of the copy.
+fn named_in(f: BlockFields, x: Area, i: usize) -> bool
+    ensures { λ r. ⌜ r ≡ namedIn f x i ⌝ }
 {
-    let a = area_start(Area::A);
-    let b = area_start(Area::B);
-    let in_a = f.a;
-    let in_b = f.b;
-    if i < a {
+    let s = area_start(x);
+    if i < s {
         return false;
     }
-    if i < b {
-        return named(in_a, i - a);
+    let j = i - s;
+    if area_sectors() <= j {
+        return false;
     }
-    named(in_b, i - b)
+    named(discovery::entry_in(f, x), j)
 }
 
-// Whether sector i of a copy matters, by what reading its block answered.
-fn matters_for(v: Verdict, i: usize) -> bool
-    ensures { λ r. ⌜ r ≡ mattersFor v i ⌝ }
+// Whether sector i of a copy matters, by what reading its block answered and whether the newest area is whole (w).
+fn matters_for(v: Verdict, w: bool, i: usize) -> bool
+    ensures { λ r. ⌜ r ≡ mattersFor v w i ⌝ }
 {
-    match v {
-        Verdict::Accepted(f) => (i == 1) | named_in(f, i),
-        Verdict::Refused(_) => i == 1,
-    }
+    let Verdict::Accepted(f) = v else {
+        return i == 1;
+    };
+    let x = discovery::newest(f);
+    let y = discovery::other_area(x);
+    (i == 1) | (named_in(f, x, i) | (!w & named_in(f, y, i)))
 }
 
-// Whether sector i of a copy matters to discovery: the signature block's, and where the block is accepted those that a used
-// entry names, the first ceiling(bytes / 512) of its area.
+// Whether a copy's block is accepted and the area of the entry with the later time is whole.
+fn newest_whole(c: &[u8], v: Verdict) -> bool
+    ensures { λ r. ⌜ r ≡ newestWhole (now (c .entry)) v ⌝ }
+{
+    let Verdict::Accepted(f) = v else {
+        return false;
+    };
+    discovery::whole(c, f, discovery::newest(f))
+}
+
+// Whether sector i of a copy matters to discovery: the signature block's; where the block is accepted those that the entry with
+// the later time names, the first ceiling(bytes / 512) of its area; and, only where that area is not whole, those that the other
+// entry names.
 pub fn matters(c: &[u8], i: usize) -> bool
     ensures { λ r. ⌜ r ≡ matters (now (c .entry)) i ⌝ }
 {
     let r = block::read(endian::window(c, 512, 512));
     let v = r.verdict;
-    matters_for(v, i)
+    matters_for(v, newest_whole(c, v), i)
 }
 
 // Whether sector i was read. One without a mark was not.
@@ -131,14 +154,15 @@ fn is_read(marks: &[u8], i: usize) -> bool
     false
 }
 
-// Whether each sector does not matter or was read, by what reading the copy's block answered.
-fn all_pass(v: Verdict, marks: &[u8]) -> bool
-    ensures { λ r. ⌜ r ≡ every (passes v (now (marks .entry))) copySectors ⌝ }
+// Whether each sector does not matter or was read, by what reading the copy's block answered and whether the newest area is
+// whole (w).
+fn all_pass(v: Verdict, w: bool, marks: &[u8]) -> bool
+    ensures { λ r. ⌜ r ≡ every (passes v w (now (marks .entry))) copySectors ⌝ }
 {
     let n = copy_sectors();
     let mut i = 0;
     while i < n {
-        let passes = !matters_for(v, i) | is_read(marks, i);
+        let passes = !matters_for(v, w, i) | is_read(marks, i);
         if !passes {
             return false;
         }
@@ -153,7 +177,7 @@ pub fn known(c: &[u8], marks: &[u8]) -> bool
 {
     let r = block::read(endian::window(c, 512, 512));
     let v = r.verdict;
-    all_pass(v, marks)
+    all_pass(v, newest_whole(c, v), marks)
 }
 
 // Whether what discovery answers for two copies is sure: no sector that matters in either is marked.

@@ -12,6 +12,8 @@ use std::fs;
 use crate::command::{Bench, Call, Failures, Run, IMAGE};
 use crate::cuts::identity_lines;
 use crate::image::{found_line, place, Copies, Image, DEVICE, POOL};
+use crate::model::block::Block;
+use crate::model::discovery::is_whole;
 use crate::model::layout::{AREA_OFFSET, BACK, BLOCK_OFFSET, FRONT, SECTOR};
 use crate::states::{half_updated, in_step, spoil_block, stamped, tear, SMALL};
 
@@ -512,7 +514,14 @@ fn said(err: &str, sector: u64) -> bool {
     })
 }
 
-/// A block's sector, or one that a used entry of an accepted block names.
+/// The entry of an area names the sector at an offset of its copy.
+fn names(block: &Block, area: usize, at: usize) -> bool {
+    let entry = &block.entries[area];
+    entry.is_used() && at >= AREA_OFFSET[area] && at < AREA_OFFSET[area] + entry.bytes as usize
+}
+
+/// A block's sector; one that the later entry of an accepted block names; and, where its area is not whole, one that the other
+/// entry names.
 pub fn matters(copies: &Copies, sector: u64) -> bool {
     let Some((side, at)) = place(&SMALL, sector) else {
         return false;
@@ -523,10 +532,11 @@ pub fn matters(copies: &Copies, sector: u64) -> bool {
     let Ok(block) = copies.block(side) else {
         return false;
     };
-    (0..2).any(|area| {
-        let entry = &block.entries[area];
-        entry.is_used() && at >= AREA_OFFSET[area] && at < AREA_OFFSET[area] + entry.bytes as usize
-    })
+    let Some(later) = block.later_entry() else {
+        return false;
+    };
+    let whole = is_whole(&copies.0[side], later, &block.entries[later]);
+    names(&block, later, at) || (!whole && names(&block, 1 - later, at))
 }
 
 /// The copies as they are known where these sectors could not be read, and which blocks are not.
@@ -540,7 +550,7 @@ pub fn known(copies: &Copies, unread: &[u64]) -> (Copies, [bool; 2]) {
         if at == BLOCK_OFFSET {
             blocks[side] = true;
             known.0[side][at..at + SECTOR].fill(0);
-        } else if matters(copies, sector) {
+        } else if copies.block(side).is_ok_and(|block| names(&block, 0, at) || names(&block, 1, at)) {
             // An area with a part that is not known is not whole.
             known.0[side][at] ^= 0xFF;
         }

@@ -1,0 +1,25 @@
+-- `sectors::newest_whole` meets its contract. Assumes nothing.
+use borrow.Author.Needs.{needs}
+use Rattle.sectors.proofs.newest_whole.Statement.{statement}
+use Rattle.sectors.proofs.newest_whole.Tie as tie
+
+enum-known-v : tie.Need-enum-known-v
+enum-known-v c = search needs
+
+enum-told : tie.Need-enum-told
+enum-told c = search needs
+
+returns : tie.Need-returns
+returns c = search needs
+
+newest-requires : tie.Need-newest-requires
+newest-requires c κs = search needs
+
+whole-requires : tie.Need-whole-requires
+whole-requires c κs = search needs
+
+returns-2 : tie.Need-returns-2
+returns-2 c = rw (c .before .before .before .v .given .1, c .whole .ensures, c .before .newest .ensures)
+
+pub newest-whole-spec : {M : Type 1} → statement M
+newest-whole-spec = tie.close (tie.spec enum-known-v enum-told returns newest-requires whole-requires returns-2)
