@@ -240,14 +240,19 @@ fn release_in(
     }
 }
 
-// The word `allocate`, with its kind and size.
-pub(crate) fn allocate_word(
+// What is asked of the segments: a new one of a kind and so many sectors, or the one at a position given back.
+pub(crate) enum Wish {
+    Allocate(u16, u64),
+    Release(u64),
+}
+
+// The words `allocate` and `release`.
+pub(crate) fn segment_word(
     path: &[u8],
     look: Look,
     now: Time,
     dry: bool,
-    kind: u16,
-    sectors: u64,
+    wish: Wish,
     front: &[u8],
     back: &[u8],
 ) -> u8 {
@@ -256,35 +261,22 @@ pub(crate) fn allocate_word(
     }
     let mut r = [0u8; 8192];
     let a = discovery::read_found(front, back, &mut r);
-    match a {
-        Answer::Refused(n) => facts::refuse_found(path, look, n),
-        Answer::Found(q, _) => {
-            let s = endian::window(&r, 0, q.bytes as usize);
+    let Answer::Found(q, _) = a else {
+        return refused_found(path, look, a);
+    };
+    let s = endian::window(&r, 0, q.bytes as usize);
+    match wish {
+        Wish::Allocate(kind, sectors) => {
             allocate_in(path, look, now, dry, kind, sectors, front, back, s)
         }
+        Wish::Release(position) => release_in(path, look, now, dry, position, front, back, s),
     }
 }
 
-// The word `release`, with its position.
-pub(crate) fn release_word(
-    path: &[u8],
-    look: Look,
-    now: Time,
-    dry: bool,
-    position: u64,
-    front: &[u8],
-    back: &[u8],
-) -> u8 {
-    if !sure(path, look) {
-        return facts::FAILED;
-    }
-    let mut r = [0u8; 8192];
-    let a = discovery::read_found(front, back, &mut r);
+// The refusal of an answer of discovery.
+fn refused_found(path: &[u8], look: Look, a: Answer) -> u8 {
     match a {
         Answer::Refused(n) => facts::refuse_found(path, look, n),
-        Answer::Found(q, _) => {
-            let s = endian::window(&r, 0, q.bytes as usize);
-            release_in(path, look, now, dry, position, front, back, s)
-        }
+        Answer::Found(_, _) => facts::WELL,
     }
 }

@@ -4,6 +4,7 @@ use crate::arguments::Request;
 use crate::arguments::Word;
 use crate::arguments::at;
 use crate::change;
+use crate::change::Wish;
 use crate::check;
 use crate::copies;
 use crate::copies::Look;
@@ -41,64 +42,53 @@ fn argument(i: usize, out: &mut [u8]) -> usize {
     n
 }
 
-// Reads an argument as a size in sectors; `other` where it is not given.
+// What an argument says: a size in sectors, or a plain number. It is said where it is none.
+fn value_of(s: &[u8], sized: bool) -> Size {
+    let v = if sized {
+        words::sectors(s)
+    } else {
+        words::number(s)
+    };
+    let Number::Is(x) = v else {
+        let what = if sized {
+            Text::new().add(b" is no size: sectors, or a number with K, M, G or T")
+        } else {
+            Text::new().add(b" is no number")
+        };
+        arguments::bad_value(s, what);
+        return Size {
+            good: false,
+            value: 0,
+        };
+    };
+    Size {
+        good: true,
+        value: x,
+    }
+}
+
+// Reads argument i so; `other` where it is not given.
+fn read_value(i: usize, other: u64, sized: bool) -> Size {
+    if i == 0 {
+        return Size {
+            good: true,
+            value: other,
+        };
+    }
+    let mut buffer = io::buffer();
+    let n = argument(i, &mut buffer);
+    value_of(endian::window(&buffer, 0, n), sized)
+}
+
 fn size_of(i: usize, other: u64) -> Size {
-    if i == 0 {
-        return Size {
-            good: true,
-            value: other,
-        };
-    }
-    let mut buffer = io::buffer();
-    let n = argument(i, &mut buffer);
-    let s = endian::window(&buffer, 0, n);
-    let v = words::sectors(s);
-    match v {
-        Number::Is(x) => Size {
-            good: true,
-            value: x,
-        },
-        Number::Nothing => {
-            arguments::bad_value(
-                s,
-                Text::new().add(b" is no size: sectors, or a number with K, M, G or T"),
-            );
-            Size {
-                good: false,
-                value: 0,
-            }
-        }
-    }
+    read_value(i, other, true)
 }
 
-// The same of a plain number.
 fn number_of(i: usize, other: u64) -> Size {
-    if i == 0 {
-        return Size {
-            good: true,
-            value: other,
-        };
-    }
-    let mut buffer = io::buffer();
-    let n = argument(i, &mut buffer);
-    let s = endian::window(&buffer, 0, n);
-    let v = words::number(s);
-    match v {
-        Number::Is(x) => Size {
-            good: true,
-            value: x,
-        },
-        Number::Nothing => {
-            arguments::bad_value(s, Text::new().add(b" is no number"));
-            Size {
-                good: false,
-                value: 0,
-            }
-        }
-    }
+    read_value(i, other, false)
 }
 
-// The same of a kind; 0 where it is none.
+// Reads an argument as a kind; 0 where it is none.
 fn kind_of(i: usize) -> u16 {
     let mut buffer = io::buffer();
     let n = argument(i, &mut buffer);
@@ -264,25 +254,17 @@ fn with_copies(
         Word::Check => check::run(path, look, front, back, fm, bm),
         Word::Show => show::run(path, look, p.plain, columns_of(p, g), front, back, fm, bm),
         Word::Mend => repair::run(path, look, p.dry, p.unreadable, front, back, fm, bm),
-        Word::Allocate => change::allocate_word(
-            path,
-            look,
-            now,
-            p.dry,
-            kind_of(at(p, arguments::SECOND)),
-            size_of(at(p, arguments::THIRD), 0).value,
-            front,
-            back,
-        ),
-        Word::Release => change::release_word(
-            path,
-            look,
-            now,
-            p.dry,
-            number_of(at(p, arguments::SECOND), 0).value,
-            front,
-            back,
-        ),
+        Word::Allocate => {
+            let wish = Wish::Allocate(
+                kind_of(at(p, arguments::SECOND)),
+                size_of(at(p, arguments::THIRD), 0).value,
+            );
+            change::segment_word(path, look, now, p.dry, wish, front, back)
+        }
+        Word::Release => {
+            let wish = Wish::Release(number_of(at(p, arguments::SECOND), 0).value);
+            change::segment_word(path, look, now, p.dry, wish, front, back)
+        }
         Word::Record => keep::record_word(path, look, front, back),
         Word::Dump => keep::dump_word(path, look, front, back),
         _ => with_file(path, p, now, look, front, back, fm, bm),

@@ -252,11 +252,7 @@ fn people_head(look: Look, s: Shown, q: Reading) -> bool {
         b"sector",
     );
     let m = facts::add_count(e.add(b", reserved "), d.reserved as u64, b"sector");
-    people_record(
-        print(n, m.add(b", at each end\n")),
-        look,
-        s,
-    )
+    people_record(print(n, m.add(b", at each end\n")), look, s)
 }
 
 // The lines of the found record.

@@ -3,7 +3,7 @@
 
 use crate::command::{Bench, Failures, Run, IMAGE};
 use crate::cuts::{identity_lines, mend_lines};
-use crate::faults::{known, matters, perhaps};
+use crate::faults::{known, matters, names, perhaps};
 use crate::image::{place, time, Copies, Image, Stamped};
 use crate::model::block::{put_entry, seal, Entry, Identity, Time};
 use crate::model::discovery::is_whole;
@@ -72,7 +72,7 @@ impl<'a> Random<'a> {
         let list = list.join(",");
         let settings = [("SHIM_UNREADABLE", list.as_str())];
         self.find(copies, unread, uncertain, &settings)?;
-        self.check(copies, uncertain, &settings)?;
+        self.check(copies, unread, uncertain, &settings)?;
         if !uncertain && copies.found().is_ok() {
             self.show(copies, &settings)?;
         }
@@ -110,7 +110,13 @@ impl<'a> Random<'a> {
         }
     }
 
-    fn check(&mut self, copies: &Copies, uncertain: bool, settings: &[(&str, &str)]) -> Result<(), String> {
+    fn check(
+        &mut self,
+        copies: &Copies,
+        unread: &[u64],
+        uncertain: bool,
+        settings: &[(&str, &str)],
+    ) -> Result<(), String> {
         let check = self.bench.run(&["check", IMAGE], settings);
         let stepped = copies.pair().in_step();
         let accepted = copies.found().is_ok_and(|found| {
@@ -126,7 +132,7 @@ impl<'a> Random<'a> {
         if uncertain {
             return Ok(());
         }
-        let (lines, wanted) = (check.text(), check_lines(copies));
+        let (lines, wanted) = (check.text(), check_lines(copies, unread));
         let lines: Vec<&str> = lines.lines().collect();
         let same = |line: &str, wanted: &str| match wanted.strip_suffix('*') {
             Some(start) => line.starts_with(start) && line.len() > start.len(),
@@ -197,8 +203,8 @@ impl<'a> Random<'a> {
     }
 }
 
-/// What check prints; a line that ends with a star may go on.
-fn check_lines(copies: &Copies) -> Vec<String> {
+/// What check prints where these sectors could not be read, none of which matters; a line that ends with a star may go on.
+fn check_lines(copies: &Copies, unread: &[u64]) -> Vec<String> {
     let found = copies.found();
     let mut lines = Vec::new();
     for side in [FRONT, BACK] {
@@ -211,8 +217,13 @@ fn check_lines(copies: &Copies) -> Vec<String> {
             Ok(block) => {
                 lines.push(format!("{name} block accepted"));
                 for (area, entry) in block.entries.iter().enumerate() {
+                    let in_area = |sector: &u64| {
+                        place(&SMALL, *sector).is_some_and(|(of, at)| of == side && names(&block, area, at))
+                    };
                     let what = if !entry.is_used() {
                         "unused".to_string()
+                    } else if unread.iter().any(in_area) {
+                        format!("unread {} bytes {}", entry.bytes, date(entry.time))
                     } else if is_whole(&copies.0[side], area, entry) {
                         format!("whole {} bytes {}", entry.bytes, date(entry.time))
                     } else {
