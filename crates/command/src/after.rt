@@ -40,10 +40,10 @@ fn right(a: Answer, e: Expected) -> bool {
 // found.
 fn read_back(path: &[u8], fd: i32, identity: bool, step: bool, e: Expected) -> u8 {
     image::forget(fd);
-    let mut front = [0u8; 20480];
-    let mut back = [0u8; 20480];
-    let mut fm = [0u8; 40];
-    let mut bm = [0u8; 40];
+    let mut front = [0u8; copies::BYTES];
+    let mut back = [0u8; copies::BYTES];
+    let mut fm = [0u8; copies::SECTORS];
+    let mut bm = [0u8; copies::SECTORS];
     let look = copies::read(fd, &mut front, &mut back, &mut fm, &mut bm);
     copies::note_unread(path, look, &fm, &bm);
     let v = discovery::survey(&front, &back);

@@ -2,6 +2,7 @@
 // Assumes what `libc` and `os` do.
 use crate::after;
 use crate::after::Expected;
+use crate::copies;
 use crate::copies::Look;
 use crate::facts;
 use crate::say;
@@ -83,7 +84,7 @@ fn apply(
         return refused(path, look, planned);
     };
     let w = Work::Change(p);
-    let mut list = [0u8; 17680];
+    let mut list = [0u8; stores::LIST];
     let all = stores::work_out(w, front, back, r, &mut list);
     let ok = print(true, before.decimal(stores::count(w)).add(b" stores\n"));
     if dry {
@@ -138,7 +139,7 @@ pub(crate) fn update_word(
     front: &[u8],
     back: &[u8],
 ) -> u8 {
-    let mut r = [0u8; 8193];
+    let mut r = [0u8; copies::RECORD + 1];
     let g = read_file(file, &mut r);
     if !g.good {
         return facts::FAILED;
@@ -182,7 +183,7 @@ fn allocate_in(
     back: &[u8],
     r: &[u8],
 ) -> u8 {
-    let mut out = [0u8; 8192];
+    let mut out = [0u8; copies::RECORD];
     let a = room::allocate(look.device, r, kind, sectors, &mut out);
     match a {
         Allocation::Refused(n) => facts::refuse(path, n),
@@ -219,7 +220,7 @@ fn release_in(
     back: &[u8],
     r: &[u8],
 ) -> u8 {
-    let mut out = [0u8; 8192];
+    let mut out = [0u8; copies::RECORD];
     let a = room::release(look.device, r, position as usize, &mut out);
     match a {
         Released::Refused(n) => facts::refuse(path, n),
@@ -259,7 +260,7 @@ pub(crate) fn segment_word(
     if !sure(path, look) {
         return facts::FAILED;
     }
-    let mut r = [0u8; 8192];
+    let mut r = [0u8; copies::RECORD];
     let a = discovery::read_found(front, back, &mut r);
     let Answer::Found(q, _) = a else {
         return refused_found(path, look, a);

@@ -1,6 +1,6 @@
 // The two copies of a drive's metadata, read sector by sector, with a mark for each sector that could not be read: `sectors` says
 // which of them matter, and that what discovery answers does not depend on the others. Assumes what `libc` and `os` do.
-ghost use Prim.Native.Nat.{_≤_};
+ghost use Prim.Native.Nat.{_<_, _^_};
 use crate::image;
 use crate::say::note;
 use crate::say::reason;
@@ -10,12 +10,14 @@ use layout::Device;
 use layout::Side;
 use text::Text;
 
-// The bytes and the sectors of a copy as it is lent, and the sectors of its header.
-pub(crate) const BYTES: usize = 20480;
+// The sectors of a header, the most bytes of a record, and the bytes and the sectors of a copy as it is lent.
+pub(crate) const HEADER: usize = 8;
 
-pub(crate) const SECTORS: usize = 40;
+pub(crate) const RECORD: usize = layout::RECORD_LIMIT as usize;
 
-const HEADER: usize = 8;
+pub(crate) const BYTES: usize = HEADER * 512 + 2 * RECORD;
+
+pub(crate) const SECTORS: usize = BYTES / 512;
 
 // The smallest device, in sectors.
 pub(crate) const SMALLEST: u64 = 2097152;
@@ -291,7 +293,7 @@ pub(crate) fn block_read(marks: &[u8]) -> bool {
 
 // The first sector of an area within its copy.
 fn area_first(x: Area) -> usize
-    ensures { λ r. ⌜ r ≤ 24 ⌝ }
+    ensures { λ r. ⌜ r < 2 ^ 32 ⌝ }
 {
     match x {
         Area::A => HEADER,

@@ -150,8 +150,8 @@ fn ends_empty(fd: i32, path: &[u8], d: Device) -> u8 {
 
 // Writes two new copies and prints what is then found.
 fn write(fd: i32, path: &[u8], d: Device, w: Wanted, front: &[u8], back: &[u8]) -> u8 {
-    let marks = [0u8; 40];
-    let mut set = [0u8; 42240];
+    let marks = [0u8; copies::SECTORS];
+    let mut set = [0u8; sets::BYTES];
     sets::fill(&mut set, d, front, back, &marks, &marks);
     let n = sets::count(&set);
     let ok = sets::print_count(n);
@@ -189,8 +189,8 @@ fn make(fd: i32, path: &[u8], d: Device, w: Wanted) -> u8 {
     }
     let pool = w.pool;
     let uuid = w.device;
-    let mut front = [0u8; 20480];
-    let mut back = [0u8; 20480];
+    let mut front = [0u8; copies::BYTES];
+    let mut back = [0u8; copies::BYTES];
     let now = w.now;
     let n = format::format_copies(&mut front, &mut back, d, &pool, &uuid, now, &r);
     if n != 0 {

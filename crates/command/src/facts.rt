@@ -185,7 +185,7 @@ pub(crate) fn refuse_found(path: &[u8], look: Look, n: u8) -> u8 {
 
 // The refusal number of the found record; 0 where it is accepted.
 pub(crate) fn record_number(look: Look, front: &[u8], back: &[u8]) -> u8 {
-    let mut bytes = [0u8; 8192];
+    let mut bytes = [0u8; copies::RECORD];
     let a = discovery::read_found(front, back, &mut bytes);
     match a {
         Answer::Refused(n) => n,
@@ -198,7 +198,7 @@ pub(crate) fn record_number(look: Look, front: &[u8], back: &[u8]) -> u8 {
 
 // How many segments the found record has; 0 where it is not accepted.
 pub(crate) fn segments(look: Look, front: &[u8], back: &[u8]) -> u64 {
-    let mut bytes = [0u8; 8192];
+    let mut bytes = [0u8; copies::RECORD];
     let a = discovery::read_found(front, back, &mut bytes);
     let Answer::Found(r, _) = a else {
         return 0;

@@ -16,10 +16,10 @@ use block::Verdict;
 use discovery::Answer;
 use text::Text;
 
-// The bytes of a backup, and of its first page.
-const FILE: usize = 42752;
-
+// The bytes of a backup's first page, and of all of it.
 const PAGE: usize = 512;
+
+const FILE: usize = PAGE + sets::BYTES;
 
 // Where its checksum stands.
 const CHECKSUM: usize = 40;
@@ -39,7 +39,7 @@ pub(crate) fn record_word(path: &[u8], look: Look, front: &[u8], back: &[u8]) ->
         return facts::USAGE;
     }
     let sure = facts::unless(look.sure, facts::FAILED);
-    let mut r = [0u8; 8192];
+    let mut r = [0u8; copies::RECORD];
     let a = discovery::read_found(front, back, &mut r);
     match a {
         Answer::Refused(n) => facts::worse(sure, facts::refuse_found(path, look, n)),
@@ -132,9 +132,9 @@ pub(crate) fn backup_word(
     if !placed(path, look) {
         return facts::worse(facts::REFUSED, facts::unless(look.sure, facts::FAILED));
     }
-    let mut set = [0u8; 42240];
+    let mut set = [0u8; sets::BYTES];
     sets::fill(&mut set, look.device, front, back, front_marks, back_marks);
-    let mut all = [0u8; 42752];
+    let mut all = [0u8; FILE];
     seal(&mut all, look.sectors, &set);
     if !make_file(file, &all) {
         return facts::FAILED;
@@ -291,7 +291,7 @@ pub(crate) fn restore_word(
     front: &[u8],
     back: &[u8],
 ) -> u8 {
-    let mut all = [0u8; 42752];
+    let mut all = [0u8; FILE];
     if !read_backup(file, &mut all) {
         return facts::FAILED;
     }

@@ -90,7 +90,7 @@ fn store(
     back: &[u8],
 ) -> u8 {
     let w = Work::Repair(m);
-    let mut list = [0u8; 17680];
+    let mut list = [0u8; stores::LIST];
     let all = stores::work_out(w, front, back, &[0u8; 0], &mut list);
     let ok = print(true, summary(Text::new(), m).add(b"\n"));
     if dry {

@@ -273,10 +273,10 @@ fn with_copies(
 
 // Reads the copies of the image and does what a word asks for.
 fn read_copies(path: &[u8], p: Request, g: Given) -> u8 {
-    let mut front = [0u8; 20480];
-    let mut back = [0u8; 20480];
-    let mut fm = [0u8; 40];
-    let mut bm = [0u8; 40];
+    let mut front = [0u8; copies::BYTES];
+    let mut back = [0u8; copies::BYTES];
+    let mut fm = [0u8; copies::SECTORS];
+    let mut bm = [0u8; copies::SECTORS];
     let look = copies::read(g.fd, &mut front, &mut back, &mut fm, &mut bm);
     copies::note_unread(path, look, &fm, &bm);
     with_copies(path, p, g, look, &front, &back, &fm, &bm)

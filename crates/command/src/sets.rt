@@ -1,6 +1,6 @@
 // A set of sectors in memory: both copies, 80 entries, each the sector's number, its mark and its 512 bytes. Formatting and
 // restoring write one to the drive, a backup keeps one in a file. Assumes what `libc` and `os` do.
-ghost use Prim.Native.Nat.{_≤_};
+ghost use Prim.Native.Nat.{_≤_, _<_, _^_};
 use crate::copies;
 use crate::say::print;
 use crate::stores;
@@ -9,20 +9,23 @@ use layout::Side;
 use text::Text;
 
 // Entries, the bytes of one, and the bytes of a set.
-pub(crate) const ENTRIES: usize = 80;
+pub(crate) const ENTRIES: usize = 2 * copies::SECTORS;
 
 pub(crate) const STRIDE: usize = 528;
 
-pub(crate) const BYTES: usize = 42240;
+pub(crate) const BYTES: usize = ENTRIES * STRIDE;
+
+// The sectors of a copy's two areas.
+const AREAS: usize = copies::SECTORS - copies::HEADER;
 
 // The entries of the two blocks.
 pub(crate) const FRONT_BLOCK: usize = 1;
 
-pub(crate) const BACK_BLOCK: usize = 41;
+pub(crate) const BACK_BLOCK: usize = copies::SECTORS + 1;
 
 // Where an entry stands in the set; past its end where there is none.
 fn place(k: usize) -> usize
-    ensures { λ r. ⌜ r ≤ 42240 ⌝ }
+    ensures { λ r. ⌜ r < 2 ^ 32 ⌝ }
 {
     if ENTRIES <= k {
         return BYTES;
@@ -48,7 +51,7 @@ fn put_entry(set: &mut [u8], k: usize, side: Side, d: Device, i: usize, copy: &[
 
 // Puts the sectors of a side's copy into the entries from `first` on.
 fn put_copy(set: &mut [u8], first: usize, side: Side, d: Device, copy: &[u8], marks: &[u8])
-    requires { ⌜ first ≤ 40 ⌝ }
+    requires { ⌜ first ≤ 2 ^ 32 ⌝ }
 {
     let mut i = 0;
     while i < copies::SECTORS {
@@ -67,7 +70,7 @@ pub(crate) fn fill(
     back_marks: &[u8],
 ) {
     put_copy(set, 0, Side::Front, d, front, front_marks);
-    put_copy(set, 40, Side::Back, d, back, back_marks);
+    put_copy(set, copies::SECTORS, Side::Back, d, back, back_marks);
 }
 
 // The bytes of an entry.
@@ -86,10 +89,10 @@ pub(crate) fn was_read(set: &[u8], k: usize) -> bool {
 
 // Whether an entry's sector is the one that a device with these numbers has there.
 fn placed_at(set: &[u8], d: Device, k: usize) -> bool {
-    if k < 40 {
+    if k < copies::SECTORS {
         return sector_of(set, k) == sectors::sector_at(Side::Front, d, k);
     }
-    sector_of(set, k) == sectors::sector_at(Side::Back, d, k - 40)
+    sector_of(set, k) == sectors::sector_at(Side::Back, d, k - copies::SECTORS)
 }
 
 // Whether all are.
@@ -107,21 +110,22 @@ pub(crate) fn placed(set: &[u8], d: Device) -> bool {
 // The entry that is written at a step: the back's areas, its header, the front's areas, its header. A block is written after the
 // areas that it names.
 fn entry_of(step: usize) -> usize {
-    if step < 32 {
-        return step + 48;
+    if step < AREAS {
+        return step + copies::SECTORS + copies::HEADER;
     }
-    if step < 40 {
-        return step + 8;
+    if step < copies::SECTORS {
+        return step - AREAS + copies::SECTORS;
     }
-    if step < 72 {
-        return step - 32;
+    if step < copies::SECTORS + AREAS {
+        return step - copies::SECTORS + copies::HEADER;
     }
-    step - 72
+    step - copies::SECTORS - AREAS
 }
 
-// Whether a flush is due after a step.
+// Whether a flush is due after a step: after the areas and after the header of each copy.
 fn flush_due(step: usize) -> bool {
-    ((step == 31) | (step == 39)) | ((step == 71) | (step == 79))
+    let back = (step == AREAS - 1) | (step == copies::SECTORS - 1);
+    back | ((step == copies::SECTORS + AREAS - 1) | (step == ENTRIES - 1))
 }
 
 // Writes the entry of a step, where it was read, with a flush where one is due; whether that went well.

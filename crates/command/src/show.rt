@@ -1,5 +1,6 @@
 // The word `show`: the pool for people, with every segment, the free room and a picture; or, with `--plain`, one key and value a
 // line. Assumes what `libc` and `os` do.
+use crate::copies;
 use crate::copies::Look;
 use crate::facts;
 use crate::picture;
@@ -17,6 +18,9 @@ use room::FreeTotal;
 use room::Run;
 use room::RunNumber;
 use text::Text;
+
+// The numbers of a table of free runs, of which there is one more than segments at the most: a start and a length for each.
+const RUNS: usize = 2 * (copies::RECORD / record::ITEM_BYTES + 1);
 
 // What is known of the record that is shown.
 pub(crate) struct Shown {
@@ -144,7 +148,7 @@ fn row(t: Text, start: u64, sectors: u64) -> Text {
 
 // The lines of all free runs: one more than segments at the most.
 fn runs(before: bool, plain: bool, look: Look, r: &[u8]) -> bool {
-    let mut table = [0u64; 820];
+    let mut table = [0u64; RUNS];
     room::free_run_numbers(look.device, r, &mut table);
     run_lines(before, plain, run_count(look, r), &table)
 }
@@ -350,7 +354,7 @@ pub(crate) fn run(
     back_marks: &[u8],
 ) -> u8 {
     let sure = facts::unless(look.sure, facts::FAILED);
-    let mut bytes = [0u8; 8192];
+    let mut bytes = [0u8; copies::RECORD];
     let a = discovery::read_found(front, back, &mut bytes);
     match a {
         Answer::Refused(n) => facts::worse(sure, facts::refuse_found(path, look, n)),

@@ -1,6 +1,6 @@
 // The stores of an update or of a mend: all worked out first, then listed, or written group by group with a flush after each
 // group, and none after one that failed. Assumes what `libc` and `os` do.
-ghost use Prim.Native.Nat.{_≤_};
+ghost use Prim.Native.Nat.{_<_, _^_};
 use crate::image;
 use crate::say::note;
 use crate::say::print;
@@ -15,11 +15,11 @@ use update::Plan;
 
 // The most stores that an update or a mend has, and the bytes of the list of them: for each store its sector's number, then
 // its 512 bytes.
-pub(crate) const MOST: u64 = 34;
+pub(crate) const MOST: u64 = 2 * (layout::RECORD_LIMIT / 512) + 2;
 
 pub(crate) const STRIDE: usize = 520;
 
-pub(crate) const LIST: usize = 17680;
+pub(crate) const LIST: usize = MOST as usize * STRIDE;
 
 // What is stored: an update with its record's length, or a mend.
 pub(crate) enum Work {
@@ -53,7 +53,7 @@ fn given(w: Work, f: &[u8], b: &[u8], r: &[u8], i: u64, out: &mut [u8]) -> Given
 
 // Where a store stands in the list; past its end where there is none.
 fn place(i: u64) -> usize
-    ensures { λ r. ⌜ r ≤ 17680 ⌝ }
+    ensures { λ r. ⌜ r < 2 ^ 32 ⌝ }
 {
     if MOST <= i {
         return LIST;
