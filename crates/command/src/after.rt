@@ -100,12 +100,25 @@ pub(crate) fn report(path: &[u8], fd: i32, identity: bool, e: Expected) -> u8 {
 // Prints what is found after a store that failed.
 pub(crate) fn report_failed(path: &[u8], fd: i32) -> u8 {
     read_back(path, fd, false, false, any());
+    note(
+        path,
+        Text::new().add(b"what is found now is in force; look with check, then mend"),
+    );
     facts::FAILED
 }
 
 // Prints what is found after a backup was restored, which need not have been in step.
 pub(crate) fn restored(path: &[u8], fd: i32) -> u8 {
     read_back(path, fd, false, false, any())
+}
+
+// Prints that all was stored; where that fails, says so on standard error.
+pub(crate) fn said(path: &[u8], t: Text) -> bool {
+    let ok = print(true, t);
+    if !ok {
+        note(path, Text::new().add(b"all was stored"));
+    }
+    ok
 }
 
 // Writes the stores of a list, says so with a first word, and prints what is then found.
@@ -120,8 +133,8 @@ pub(crate) fn carried_out(
     if !stores::write_all(fd, path, w, list) {
         return report_failed(path, fd);
     }
-    let ok = print(
-        true,
+    let ok = said(
+        path,
         Text::new()
             .add(first)
             .decimal(stores::count(w))

@@ -238,13 +238,6 @@ fn is_help(w: Word) -> bool {
 fn with_argument(p: Request, s: &[u8], i: usize) -> Request {
     let w = p.word;
     let r = rules_of(w);
-    let most = if is_help(w) { 1 } else { r.arguments };
-    let n = p.given;
-    if (n < most) & (n < 3) {
-        let mut q = with_at(p, n, i);
-        q.given = if n < 3 { n + 1 } else { n };
-        return q;
-    }
     let mut q = p;
     if r.replace & endian::same(s, b"replace") {
         q.replace = true;
@@ -253,6 +246,15 @@ fn with_argument(p: Request, s: &[u8], i: usize) -> Request {
     if r.unreadable & endian::same(s, b"unreadable") {
         q.unreadable = true;
         return q;
+    }
+    let most = if is_help(w) { 1 } else { r.arguments };
+    let n = p.given;
+    if n < most {
+        if n < 3 {
+            let mut t = with_at(p, n, i);
+            t.given = n + 1;
+            return t;
+        }
     }
     not_known(p, s)
 }
@@ -288,7 +290,7 @@ fn with_option(p: Request, s: &[u8]) -> Request {
     let w = p.word;
     let r = rules_of(w);
     let mut q = p;
-    if endian::same(s, b"--help") {
+    if endian::same(s, b"--help") | endian::same(s, b"-h") {
         q.help = true;
         return q;
     }

@@ -44,18 +44,6 @@ fn new_time(now: Time, present: Time) -> Time {
     next_time(present)
 }
 
-// The time of the present record; 0 where none is found.
-fn present_time(front: &[u8], back: &[u8]) -> Time {
-    let a = discovery::discover(front, back);
-    match a {
-        Answer::Found(r, _) => facts::record_time(r),
-        Answer::Refused(_) => Time {
-            seconds: 0,
-            nanoseconds: 0,
-        },
-    }
-}
-
 // Whether the copies can be changed at all: all that matters was read.
 pub(crate) fn sure(path: &[u8], look: Look) -> bool {
     if !look.sure {
@@ -78,7 +66,7 @@ fn apply(
     back: &[u8],
     r: &[u8],
 ) -> u8 {
-    let t = new_time(now, present_time(front, back));
+    let t = new_time(now, facts::found_time(front, back));
     let planned = update::work_out(front, back, t, r);
     let Planned::Ready(p) = planned else {
         return refused(path, look, planned);
@@ -94,7 +82,7 @@ fn apply(
         );
     }
     if !(ok & all) {
-        return facts::FAILED;
+        return facts::nothing_stored(path);
     }
     let e = Expected {
         given: true,
@@ -147,16 +135,13 @@ pub(crate) fn update_word(
     if !sure(path, look) {
         return facts::FAILED;
     }
-    apply(
-        path,
-        look,
-        now,
-        dry,
-        Text::new(),
-        front,
-        back,
-        endian::window(&r, 0, g.bytes),
-    )
+    let s = endian::window(&r, 0, g.bytes);
+    let status = apply(path, look, now, dry, Text::new(), front, back, s);
+    let n = record::check(look.device, s);
+    if (status == facts::REFUSED) & (n != 0) {
+        note(file, Text::new().add(b"the record in it is not accepted"));
+    }
+    status
 }
 
 // A text with a segment.
@@ -226,7 +211,7 @@ fn release_in(
         Released::Refused(n) => facts::refuse(path, n),
         Released::Length(len) => {
             let g = record::segment_at(r, position as usize);
-            let t = segment_line(b"released ", position, g);
+            let t = segment_line(b"releases ", position, g);
             apply(
                 path,
                 look,

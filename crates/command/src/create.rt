@@ -12,8 +12,12 @@ use crate::say::print;
 use crate::say::reason;
 use crate::sets;
 use block::Time;
+use block::Verdict;
 use layout::Device;
 use text::Text;
+
+// The largest size that a block or a record's head has room for.
+const LARGEST: u64 = 4294967295;
 
 // What is asked for, beside the image.
 pub(crate) struct Wanted {
@@ -113,39 +117,53 @@ fn look_through(fd: i32, first: u64, end: u64) -> Zeros {
     }
 }
 
+// Whether the front's block is a pool's.
+fn holds_pool(fd: i32) -> bool {
+    let mut s = [0u8; 512];
+    let e = image::read(fd, 1, &mut s);
+    let r = block::read(&s);
+    let v = r.verdict;
+    match v {
+        Verdict::Accepted(_) => e == image::DONE,
+        Verdict::Refused(_) => false,
+    }
+}
+
+// A text with what stands in the way of formatting.
+fn add_there(t: Text, pool: bool) -> Text {
+    if pool {
+        return t.add(
+            b" is not empty: a pool is there; show it, keep it with backup, or give the word replace",
+        );
+    }
+    t.add(b" is not empty: something is there; give the word replace to write over it")
+}
+
 // Says why a drive is left alone, or that it is empty.
-fn empty(path: &[u8], z: Zeros) -> u8 {
+fn empty(fd: i32, path: &[u8], z: Zeros) -> u8 {
     if z.good {
         return facts::WELL;
     }
     let t = Text::new().add(b"sector ").decimal(z.sector);
     if z.code == image::DONE {
-        note(
-            path,
-            t.add(b" is not empty: something is there; give the word replace to write over it"),
-        );
+        note(path, add_there(t, holds_pool(fd)));
         return facts::REFUSED;
     }
-    note(
-        path,
-        reason(
-            Text::new()
-                .add(b"not done: the sectors from ")
-                .decimal(z.sector)
-                .add(b" on cannot be read: "),
-            z.code,
-        ),
-    );
+    let from = Text::new()
+        .add(b"not done: the sectors from ")
+        .decimal(z.sector)
+        .add(b" on cannot be read: ");
+    note(path, reason(from, z.code));
     facts::FAILED
 }
 
 // Whether the two ends of a device are readable and zero: 0, or the status where they are not.
 fn ends_empty(fd: i32, path: &[u8], d: Device) -> u8 {
-    let front = empty(path, look_through(fd, 0, layout::data_start(d)));
+    let front = empty(fd, path, look_through(fd, 0, layout::data_start(d)));
     if front != facts::WELL {
         return front;
     }
-    empty(path, look_through(fd, layout::data_end(d), d.sectors))
+    empty(fd, path, look_through(fd, layout::data_end(d), d.sectors))
 }
 
 // Writes two new copies and prints what is then found.
@@ -155,14 +173,22 @@ fn write(fd: i32, path: &[u8], d: Device, w: Wanted, front: &[u8], back: &[u8]) 
     sets::fill(&mut set, d, front, back, &marks, &marks);
     let n = sets::count(&set);
     let ok = sets::print_count(n);
-    if w.dry | !ok {
-        return facts::unless(ok, facts::FAILED);
+    if !ok {
+        return facts::nothing_stored(path);
+    }
+    if w.dry {
+        return facts::WELL;
     }
     if !sets::write_all(fd, path, &set) {
-        return after::report_failed(path, fd);
+        after::report_failed(path, fd);
+        note(
+            path,
+            Text::new().add(b"not formatted; run it again with the word replace"),
+        );
+        return facts::FAILED;
     }
-    let said = print(
-        true,
+    let said = after::said(
+        path,
         sets::add_sectors(Text::new().add(b"formatted: "), n).add(b"\n"),
     );
     let now = w.now;
@@ -177,15 +203,16 @@ fn write(fd: i32, path: &[u8], d: Device, w: Wanted, front: &[u8], back: &[u8]) 
 }
 
 // Formats an open image.
-fn make(fd: i32, path: &[u8], d: Device, w: Wanted) -> u8 {
+fn make(fd: i32, path: &[u8], d: Device, block: u32, w: Wanted) -> u8 {
     let mut r = [0u8; 8];
-    let begun = record::begin(&mut r, (w.block % 4294967296) as u32);
+    let begun = record::begin(&mut r, block);
     if begun != 0 {
+        let t = Text::new().add(b"refused ").decimal(begun as u64);
         note(
             path,
-            Text::new().add(b"the block size is a multiple of 128 sectors, from 128 to 2097152"),
+            t.add(b": the block size has to be a multiple of 128 sectors, from 128 to 2097152"),
         );
-        return facts::refuse(path, begun);
+        return facts::REFUSED;
     }
     let pool = w.pool;
     let uuid = w.device;
@@ -209,14 +236,17 @@ fn make(fd: i32, path: &[u8], d: Device, w: Wanted) -> u8 {
 
 // The word `format`.
 pub(crate) fn run(path: &[u8], fd: i32, w: Wanted) -> u8 {
-    if (4294967295 < w.metadata) | ((4294967295 < w.reserved) | (4294967295 < w.block)) {
-        note(path, Text::new().add(b"a size is too large"));
-        return facts::REFUSED;
+    if LARGEST < w.metadata {
+        return facts::refuse(path, refusal::METADATA_SIZE);
     }
+    if LARGEST < w.reserved {
+        return facts::refuse(path, refusal::RESERVED_SIZE);
+    }
+    let block = if LARGEST < w.block { 0 } else { w.block };
     let d = Device {
         sectors: image::sectors(fd),
         metadata: (w.metadata % 4294967296) as u32,
         reserved: (w.reserved % 4294967296) as u32,
     };
-    make(fd, path, d, w)
+    make(fd, path, d, (block % 4294967296) as u32, w)
 }

@@ -160,6 +160,24 @@ pub(crate) fn note_lost(path: &[u8], look: Look, loud: bool, t: Time, front: &[u
     note_torn(path, word, Side::Back, back, t);
 }
 
+// The time of the found record; 0 where none is found.
+pub(crate) fn found_time(front: &[u8], back: &[u8]) -> Time {
+    let a = discovery::discover(front, back);
+    match a {
+        Answer::Found(r, _) => record_time(r),
+        Answer::Refused(_) => Time {
+            seconds: 0,
+            nanoseconds: 0,
+        },
+    }
+}
+
+// Says that a word stopped before its first store; its status.
+pub(crate) fn nothing_stored(path: &[u8]) -> u8 {
+    note(path, Text::new().add(b"nothing was stored"));
+    FAILED
+}
+
 // A refusal, on standard error; its status.
 pub(crate) fn refuse(path: &[u8], n: u8) -> u8 {
     note(path, sentences::refused(Text::new(), n));
@@ -216,7 +234,7 @@ pub(crate) fn note_state(path: &[u8], look: Look, step: bool, t: Time, front: &[
     if look.sure & !step {
         note(
             path,
-            Text::new().add(b"the copies are not in step; mend brings them in step"),
+            Text::new().add(b"the copies are not in step; keep them with backup, then mend"),
         );
     }
     let n = record_number(look, front, back);

@@ -35,7 +35,7 @@ Finds, checks, updates and repairs the pool metadata of a drive in the Stratis 0
     put(
         b,
         b"Status: 0 done and all is well; 1 refused, or check found something wrong; 2 wrong usage;\n\
-3 something could not be read or written. Words that write take --dry-run.\n",
+3 something could not be read or written. Words that write to the image take --dry-run.\n",
     )
 }
 
@@ -85,8 +85,8 @@ a newer record that is torn, a record that is no segment record.\n",
             true,
             b"usage: amseokbin check IMAGE\n\
 \n\
-Reads both copies and prints for each its block and its two areas: whole, torn, unused or unread, the bytes and the time\n\
-of each; what is found; whether the record is accepted; whether the copies are in step; what mend would do. Status 0\n\
+Reads both copies and prints for each its block and its two areas: whole, torn, unused, unread or unknown, the bytes\n\
+and the time of each; what is found; whether the record is accepted; whether the copies are in step; what mend would do. Status 0\n\
 only where all is well.\n",
         ),
         Word::Show => put(
@@ -94,7 +94,7 @@ only where all is well.\n",
             b"usage: amseokbin show IMAGE [--plain] [--width N]\n\
 \n\
 Shows the pool for people: identity, time, every segment, what is free, and a picture of the drive, as wide as the\n\
-terminal or N characters. --plain prints one key=value a line instead, for scripts.\n",
+terminal or N characters, 20 to 240. --plain prints one key=value a line instead, for scripts.\n",
         ),
         Word::Format => format_page(),
         Word::Mend => put(
@@ -160,8 +160,8 @@ power goes, the old record or the new one is found. --dry-run lists the stores.\
             true,
             b"usage: amseokbin restore IMAGE FILE [--dry-run] [replace]\n\
 \n\
-Puts both copies back as a backup has them. Where the drive has no accepted block of that pool, nothing is written, unless\n\
-the word replace is given.\n",
+Puts both copies back as a backup has them. Where the drive has no accepted block of that pool and device, nothing is\n\
+written, unless the word replace is given.\n",
         ),
         _ => overview(true),
     }

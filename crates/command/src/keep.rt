@@ -154,12 +154,12 @@ pub(crate) fn backup_word(
     facts::unless(ok & whole, facts::FAILED)
 }
 
-// Reads a file that is a backup by its size; whether it is.
-fn read_backup(file: &[u8], all: &mut [u8]) -> bool {
+// Reads a file that is a backup by its size: 0, or the status where it is none.
+fn read_backup(file: &[u8], all: &mut [u8]) -> u8 {
     let fd = os::open_read(file);
     if fd < 0 {
         os::fail(file);
-        return false;
+        return facts::FAILED;
     }
     let g = say::read_all(fd, all);
     if !g.good {
@@ -168,14 +168,14 @@ fn read_backup(file: &[u8], all: &mut [u8]) -> bool {
     let mut more = [0u8; 1];
     let rest = libc::read(fd, &mut more);
     libc::close(fd);
-    if g.good & ((g.bytes == all.len()) & (rest == 0)) {
-        return true;
+    if !g.good {
+        return facts::FAILED;
     }
-    note(
-        file,
-        Text::new().add(b"is no backup: it has another size, or could not be read"),
-    );
-    false
+    if (g.bytes == all.len()) & (rest == 0) {
+        return facts::WELL;
+    }
+    note(file, Text::new().add(b"is no backup: it has another size"));
+    facts::REFUSED
 }
 
 // Whether bytes are a whole backup.
@@ -261,18 +261,43 @@ fn fits(path: &[u8], file: &[u8], look: Look, set: &[u8]) -> bool {
     true
 }
 
+// Says where the drive's record is newer than the backup's, and so is given up.
+fn note_older(path: &[u8], set: &[u8], front: &[u8], back: &[u8]) {
+    let mut old_front = [0u8; copies::BYTES];
+    let mut old_back = [0u8; copies::BYTES];
+    sets::copy_of(set, 0, &mut old_front);
+    sets::copy_of(set, copies::SECTORS, &mut old_back);
+    let t = facts::found_time(front, back);
+    let u = facts::found_time(&old_front, &old_back);
+    if block::later(t, u) {
+        let a = facts::add_date(Text::new().add(b"gives up the drive's record of "), t);
+        note(path, facts::add_date(a.add(b" for the backup's of "), u));
+    }
+}
+
 // Writes the set of a backup and prints what is then found.
 fn restore_set(path: &[u8], look: Look, dry: bool, set: &[u8]) -> u8 {
     let n = sets::count(set);
+    if n != sets::ENTRIES as u64 {
+        note(
+            path,
+            Text::new().add(
+                b"the backup lacks sectors that could not be read then; they stay as they are",
+            ),
+        );
+    }
     let ok = sets::print_count(n);
-    if dry | !ok {
-        return facts::unless(ok, facts::FAILED);
+    if !ok {
+        return facts::nothing_stored(path);
+    }
+    if dry {
+        return facts::WELL;
     }
     if !sets::write_all(look.fd, path, set) {
         return after::report_failed(path, look.fd);
     }
-    let said = print(
-        true,
+    let said = after::said(
+        path,
         sets::add_sectors(Text::new().add(b"restored: "), n).add(b"\n"),
     );
     facts::worse(
@@ -292,8 +317,9 @@ pub(crate) fn restore_word(
     back: &[u8],
 ) -> u8 {
     let mut all = [0u8; FILE];
-    if !read_backup(file, &mut all) {
-        return facts::FAILED;
+    let status = read_backup(file, &mut all);
+    if status != facts::WELL {
+        return status;
     }
     if !is_backup(file, &all) {
         return facts::REFUSED;
@@ -305,5 +331,6 @@ pub(crate) fn restore_word(
     if !fits(path, file, look, set) {
         return facts::REFUSED;
     }
+    note_older(path, set, front, back);
     restore_set(path, look, dry, set)
 }

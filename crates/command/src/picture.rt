@@ -224,7 +224,7 @@ fn ends(ok: bool, s: Scale) -> bool {
 }
 
 // A text with blanks up to a column.
-fn pad_to(t: Text, column: u64) -> Text {
+pub(crate) fn pad_to(t: Text, column: u64) -> Text {
     let space = [32u8; 240];
     let n = less(column, t.used as u64);
     if WIDEST < n {
@@ -258,7 +258,7 @@ fn add_mark(t: Text, s: Scale, column: u64) -> Text {
 
 // A text with a mark at each quarter of a picture that is wide enough for three.
 fn add_marks(t: Text, s: Scale, width: u64) -> Text {
-    if width < 60 {
+    if width < 72 {
         return t;
     }
     let u = add_mark(add_mark(t, s, width / 4), s, width / 2);

@@ -100,7 +100,7 @@ fn store(
         );
     }
     if !(ok & all) {
-        return facts::FAILED;
+        return facts::nothing_stored(path);
     }
     after::carried_out(path, look.fd, w, &list, b"mended: ", after::any())
 }
@@ -139,6 +139,14 @@ pub(crate) fn run(
             if !within(path, look) {
                 return facts::worse(sure, facts::REFUSED);
             }
+            facts::note_lost(
+                path,
+                look,
+                true,
+                facts::found_time(front, back),
+                front,
+                back,
+            );
             store(path, look, m, p, dry, front, back)
         }
     }

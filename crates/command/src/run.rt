@@ -162,7 +162,7 @@ pub(crate) fn values_good(p: Request) -> bool {
     let sizes = size_of(at(p, arguments::METADATA), 0).good
         & (size_of(at(p, arguments::RESERVED), 0).good & size_of(at(p, arguments::BLOCK), 0).good);
     let names = name_good(at(p, arguments::POOL)) & name_good(at(p, arguments::DEVICE));
-    let width = number_of(at(p, arguments::WIDTH), 0).good;
+    let width = width_good(at(p, arguments::WIDTH));
     let own = match w {
         Word::Allocate => (kind_of(at(p, arguments::SECOND)) != 0)
             & size_of(at(p, arguments::THIRD), 0).good,
@@ -170,6 +170,17 @@ pub(crate) fn values_good(p: Request) -> bool {
         _ => true,
     };
     (sizes & names) & (width & own)
+}
+
+fn width_good(i: usize) -> bool {
+    let n = number_of(i, 80);
+    if (20 <= n.value) & (n.value <= 240) {
+        return true;
+    }
+    if n.good {
+        complain(b"amseokbin: a width is 20 to 240\n");
+    }
+    false
 }
 
 fn name_good(i: usize) -> bool {

@@ -19,7 +19,7 @@ pub(crate) fn sentence(t: Text, n: u8) -> Text {
         8 => t.add(b"the reserved size is not allowed: 65536 sectors at the most"),
         9 => t.add(b"an area entry breaks a limit, or both have one time"),
         10 => t.add(
-            b"neither copy's block is accepted; check says why, and a backup can be restored",
+            b"neither copy's block is accepted; check says why, restore puts a backup back, format makes a new pool",
         ),
         11 => t.add(b"both blocks are accepted, but are of different pools or devices"),
         12 => t.add(b"no area holds a whole record; a backup can be restored"),
@@ -37,7 +37,9 @@ fn later_sentence(t: Text, n: u8) -> Text {
         15 => t.add(b"the record has no byte, or more than 8192"),
         16 => t.add(b"the copies are not in step; mend first"),
         17 => t.add(b"it is no segment record, or has a kind that is not known"),
-        18 => t.add(b"a segment is empty or not wholly in the data range"),
+        18 => t.add(
+            b"a segment is empty or not wholly in the data range, or 0 sectors are asked for",
+        ),
         19 => t.add(b"two segments share a sector"),
         20 => t.add(b"no free run is long enough; show lists the free room"),
         21 => t.add(b"the record already holds 409 segments; release one first"),

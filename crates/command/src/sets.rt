@@ -78,6 +78,22 @@ pub(crate) fn bytes_at(set: &[u8], k: usize) -> &[u8] {
     endian::window(set, place(k) + 16, 512)
 }
 
+// Puts the bytes of entry k to sector i of a copy.
+fn put_back(set: &[u8], k: usize, i: usize, copy: &mut [u8]) {
+    endian::put(copy, offset(i), bytes_at(set, k));
+}
+
+// The copy whose sectors are the entries from `first` on.
+pub(crate) fn copy_of(set: &[u8], first: usize, copy: &mut [u8])
+    requires { ⌜ first ≤ 2 ^ 32 ⌝ }
+{
+    let mut i = 0;
+    while i < copies::SECTORS {
+        put_back(set, first + i, i, copy);
+        i += 1;
+    }
+}
+
 // The sector of an entry, and whether it was read.
 pub(crate) fn sector_of(set: &[u8], k: usize) -> u64 {
     endian::read_u64(set, place(k))

@@ -132,7 +132,10 @@ fn segment_line(ok: bool, plain: bool, r: &[u8], i: usize) -> bool {
         g.start,
         g.sectors,
     );
-    print(ok, facts::add_kind(t.add(b"  "), g.kind).add(b"\n"))
+    print(
+        ok,
+        facts::add_kind(picture::pad_to(t, 48), g.kind).add(b"\n"),
+    )
 }
 
 // A text with a start, a length and its size.
@@ -169,7 +172,7 @@ fn run_line(ok: bool, plain: bool, i: u64, g: Run) -> bool {
         return plain_run(ok, i, g);
     }
     let t = row(Text::new().padded(i, 6).add(b"  "), g.start, g.sectors);
-    print(ok, t.add(b"  free\n"))
+    print(ok, picture::pad_to(t, 48).add(b"free\n"))
 }
 
 // The sectors of the data range that are in a segment.
