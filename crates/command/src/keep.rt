@@ -162,13 +162,17 @@ fn read_backup(file: &[u8], all: &mut [u8]) -> u8 {
         return facts::FAILED;
     }
     let g = say::read_all(fd, all);
-    if !g.good {
+    let mut more = [0u8; 1];
+    let rest = if g.good {
+        libc::read(fd, &mut more)
+    } else {
+        -1
+    };
+    if rest < 0 {
         os::fail(file);
     }
-    let mut more = [0u8; 1];
-    let rest = libc::read(fd, &mut more);
     libc::close(fd);
-    if !g.good {
+    if rest < 0 {
         return facts::FAILED;
     }
     if (g.bytes == all.len()) & (rest == 0) {
