@@ -3,12 +3,10 @@
 ghost use Prim.Native.Nat.{_≤_};
 use crate::after;
 use crate::after::Expected;
-use crate::arguments;
 use crate::copies;
 use crate::facts;
 use crate::image;
 use crate::say::note;
-use crate::say::print;
 use crate::say::reason;
 use crate::sets;
 use block::Time;
@@ -67,7 +65,7 @@ fn look_at(fd: i32, sector: u64) -> Zeros {
     seen(e, sector, &s)
 }
 
-// Looks at 128 sectors from a sector on; where they cannot be read, at the first of them that cannot.
+// Looks at 128 sectors from a sector on.
 fn look_on(fd: i32, sector: u64) -> Zeros {
     let mut s = io::large_buffer();
     let e = image::read(fd, sector, &mut s);

@@ -5,7 +5,6 @@ use crate::copies::Look;
 use crate::say::note;
 use crate::say::print;
 use crate::sentences;
-use block::BlockFields;
 use block::Entry;
 use block::Holding;
 use block::Reading;
