@@ -1,15 +1,15 @@
 -- Laws of tests of all numbers below a limit. Loops cite a law a step; meaning is the other half. Assumes nothing.
 use Prim.Native.Nat.{ℕ, zero, suc, _+_, _≤_, _<_}
 use mathlib.Core.Path.{_≡_, refl, sym, ap, _∙_}
-use mathlib.Core.Bool.{Bool, true, false, cond, not, _&&_}
+use mathlib.Core.Bool.{Bool, true, false, cond, not, _&&_, true≢false}
 use mathlib.Core.Logic.{_⊎_, inl, inr, ⊎-elim}
 use native.Mathlib.Nat.{eq-or-lt-of-le, le-of-suc-le-suc, not-suc-le-zero, le-refl}
 use native.Mathlib.Numerals.{add-one}
 use native.Mathlib.Omega.{arith}
-use borrow.Author.Tests.{lt-ltb, le-ltb, not-true, not-false}
-use lib.Dec.{ltb}
+use borrow.Author.Tests.{lt-ltb, le-ltb, le-leb, lt-leb, ltb-true, leb-true, not-true, not-false}
+use lib.Dec.{leb, ltb}
 use Rattle.endian.proofs.Tests.{and-left, and-right, and-both}
-use Rattle.record.specs.Search.{every, least, total}
+use Rattle.search.specs.Search.{every, least, total, within}
 
 pub and-false-left : (a b : Bool) → a ≡ false → a && b ≡ false
 and-false-left a b h = rw h
@@ -17,6 +17,29 @@ and-false-left a b h = rw h
 pub and-false-right : (a b : Bool) → b ≡ false → a && b ≡ false
 and-false-right true b h = h
 and-false-right false b h = refl
+
+pub not-true-false : (b : Bool) → (b ≡ true → ⊥) → b ≡ false
+not-true-false true h = absurd (h refl)
+not-true-false false h = refl
+
+pub both : (b : Bool) → b ≡ true → b ≡ false → ⊥
+both b h k = true≢false (sym h ∙ k)
+
+-- x in an interval, or not
+pub in-within : (a b x : ℕ) → a ≤ x → x < b → within a b x ≡ true
+in-within a b x h k = and-both (leb a x) (ltb x b) (le-leb a x h) (lt-ltb x b k)
+
+pub below-within : (a b x : ℕ) → x < a → within a b x ≡ false
+below-within a b x h = and-false-left (leb a x) (ltb x b) (lt-leb a x h)
+
+pub past-within : (a b x : ℕ) → b ≤ x → within a b x ≡ false
+past-within a b x h = and-false-right (leb a x) (ltb x b) (le-ltb x b h)
+
+pub within-low : (a b x : ℕ) → within a b x ≡ true → a ≤ x
+within-low a b x h = leb-true a x (and-left (leb a x) (ltb x b) h)
+
+pub within-high : (a b x : ℕ) → within a b x ≡ true → x < b
+within-high a b x h = ltb-true x b (and-right (leb a x) (ltb x b) h)
 
 -- every
 pub every-zero : (p : ℕ → Bool) → every p 0 ≡ true

@@ -1,7 +1,7 @@
 -- Tests of all numbers below a limit: whether each passes, which is the lowest that passes, and sums. Assumes nothing.
 use Prim.Native.Nat.{ℕ, zero, suc, _+_}
-use mathlib.Core.Bool.{Bool, true, cond, _&&_}
-use lib.Dec.{ltb}
+use mathlib.Core.Bool.{Bool, true, false, cond, _&&_}
+use lib.Dec.{leb, ltb}
 
 -- p holds of every number below n
 unfoldable pub every : (ℕ → Bool) → ℕ → Bool
@@ -17,3 +17,12 @@ least p (suc n) = cond (ltb (least p n) n) (least p n) (cond (p n) n (suc n))
 unfoldable pub total : (ℕ → ℕ) → ℕ → ℕ
 total f zero = 0
 total f (suc n) = total f n + f n
+
+-- x is from a up to, not including, b
+abbrev pub within : ℕ → ℕ → ℕ → Bool
+within a b x = leb a x && ltb x b
+
+-- 1 for what is so, 0 for what is not
+abbrev pub one : Bool → ℕ
+one true = 1
+one false = 0

@@ -1,0 +1,117 @@
+-- Laws of heads and kinds: what callers know of them without looking inside. Assumes nothing.
+use Prim.Native.Nat.{ℕ, _+_, _-_, _*_, _/_, _^_, _≤_, _<_}
+use mathlib.Core.Path.{_≡_, refl, sym, ap, _∙_}
+use mathlib.Core.Bool.{Bool, true, false, true≢false}
+use mathlib.Core.List.{List, [], _++_, append-assoc}
+use native.Mathlib.Decide.{decLt}
+use native.Mathlib.Omega.{arith}
+use borrow.Author.Tests.{ne-eqb}
+use lib.Dec.{lit<, leb, eqb}
+use lib.ListN.{length, length-append, take, drop}
+use lib.Seq.{take-at, drop-at}
+use Rattle.endian.specs.Bytes.{le, toLe, window}
+use Rattle.endian.proofs.Numbers.{length-toLe, le-toLe, le-bound}
+use Rattle.endian.proofs.Parts.{length-window}
+use Rattle.endian.proofs.Tests.{and-left, and-right}
+use Rattle.layout.specs.declared.Device.{Device}
+use Rattle.layout.specs.Limits.{recordLimit}
+use Rattle.items.specs.declared.Item.{Item}
+use Rattle.items.specs.declared.Item.the-variants as Item
+use Rattle.items.specs.declared.Head.{Head}
+use Rattle.items.specs.declared.Head.the-variants.{Plain, Unknown}
+use Rattle.items.specs.Head.{itemOf, isSegment, headAs, headOf, headBytes, headSize, headAllowed, headRight, allows, itemBytes, mostSegments, mostOfAny}
+
+-- a number that is none of the known kinds
+pub item-unknown : (k : ℕ) → (k ≡ 1 → ⊥) → (k ≡ 2 → ⊥) → (k ≡ 3 → ⊥) → (k ≡ 4 → ⊥) → (k ≡ 16 → ⊥) → itemOf k ≡ Item.Unknown
+unfolding itemOf
+item-unknown k a b c d e = rw (ne-eqb k 1 a, ne-eqb k 2 b, ne-eqb k 3 c, ne-eqb k 4 d, ne-eqb k 16 e)
+
+-- a kind that a head allows has room in its two bytes
+pub kind-small : (h : Head) (k : ℕ) → allows h k ≡ true → k < 256 ^ 2
+unfolding allows
+kind-small (Plain b) k h =
+    elim (decLt k 17) [
+      | yes l ↦ (let m : k < 65536 = omega arith in m)
+      | no l ↦ absurd (true≢false (sym h ∙ ap isSegment (item-unknown k (omega arith) (omega arith) (omega arith) (omega arith) (omega arith))))
+    ]
+kind-small Unknown k h = absurd (true≢false (sym h))
+
+-- the size is that of the bytes
+pub length-head : (h : Head) → length (headBytes h) ≡ headSize h
+unfolding headBytes headSize
+length-head (Plain b) = rw (length-append, length-append, length-toLe, length-toLe, length-toLe)
+length-head Unknown = refl
+
+-- no head has more bytes than a record can have
+pub head-small : (h : Head) → headSize h + itemBytes ≤ recordLimit
+unfolding headSize recordLimit
+head-small (Plain b) = omega arith
+head-small Unknown = omega arith
+
+-- no record with a head that is right has more segments than any
+pub most-most : (d : Device) (h : Head) → headRight d h ≡ true → mostSegments h ≤ mostOfAny
+unfolding headSize mostSegments mostOfAny recordLimit headRight
+most-most d (Plain b) r = omega arith
+most-most d Unknown r = absurd (true≢false (sym r))
+
+-- which is this number
+pub most-any : mostOfAny ≡ 409
+unfolding mostOfAny recordLimit
+most-any = refl
+
+-- a head that is known, with numbers that its fields have room for
+abbrev pub HeadFits : Head → Type 0
+HeadFits (Plain b) = b < 256 ^ 4
+HeadFits Unknown = ⊥
+
+-- a part between two others
+pub field : (s x v y : List ℕ) (k n : ℕ) → s ≡ x ++ (v ++ y) → length x ≡ k → length v ≡ n → window s k n ≡ v
+unfolding window
+field s x v y k n e l m = ap (λ (z : List ℕ). take n (drop k z)) e ∙ (ap (take n) (drop-at x (v ++ y) k l) ∙ take-at v y n m)
+
+-- the kind and the length that a made head says
+kind-made : (b : ℕ) (t : List ℕ) → le (window (headBytes (Plain b) ++ t) 2 2) ≡ 16
+unfolding headBytes
+kind-made b t =
+    ap le (field ((toLe 2 8 ++ (toLe 2 16 ++ toLe 4 b)) ++ t) (toLe 2 8) (toLe 2 16) (toLe 4 b ++ t) 2 2 (simp append-assoc) (length-toLe 2 8) (length-toLe 2 16))
+    ∙ le-toLe 2 16 (lit< tt)
+
+block-made : (b : ℕ) (t : List ℕ) → b < 256 ^ 4 → le (window (headBytes (Plain b) ++ t) 4 4) ≡ b
+unfolding headBytes
+block-made b t h =
+    let a : length (toLe 2 8) ≡ 2 = length-toLe 2 8 in
+    let c : length (toLe 2 16) ≡ 2 = length-toLe 2 16 in
+    ap le (field ((toLe 2 8 ++ (toLe 2 16 ++ toLe 4 b)) ++ t) (toLe 2 8 ++ toLe 2 16) (toLe 4 b) t 4 4 (simp append-assoc) (rw length-append (omega arith)) (length-toLe 4 b))
+    ∙ le-toLe 4 b h
+
+-- READ WHAT WAS MADE: the head
+pub head-made : (h : Head) (t : List ℕ) → HeadFits h → headOf (headBytes h ++ t) ≡ h
+unfolding headOf itemOf
+head-made (Plain b) t f = rw (kind-made b t, block-made b t f)
+head-made Unknown t f = absurd f
+
+pub size-made : (h : Head) (t : List ℕ) → HeadFits h → le (window (headBytes h ++ t) 0 2) ≡ headSize h
+unfolding headBytes headSize
+size-made (Plain b) t f =
+    ap le (field ((toLe 2 8 ++ (toLe 2 16 ++ toLe 4 b)) ++ t) [] (toLe 2 8) (toLe 2 16 ++ (toLe 4 b ++ t)) 0 2 (simp append-assoc) refl (length-toLe 2 8))
+    ∙ le-toLe 2 8 (lit< tt)
+size-made Unknown t f = absurd f
+
+-- a head that was read, and is right, is known
+pub head-fits : (d : Device) (s : List ℕ) → headRight d (headOf s) ≡ true → HeadFits (headOf s)
+unfolding headOf headRight
+head-fits d s = go (itemOf (le (window s 2 2)))
+  where
+    go : (i : Item) → headRight d (headAs i s) ≡ true → HeadFits (headAs i s)
+    go Item.ThinMetadata r = absurd (true≢false (sym r))
+    go Item.ThinData r = absurd (true≢false (sym r))
+    go Item.Spare r = absurd (true≢false (sym r))
+    go Item.MetadataVolume r = absurd (true≢false (sym r))
+    go Item.Head r = le-bound (window s 4 4) 4 (length-window s 4 4)
+    go Item.Unknown r = absurd (true≢false (sym r))
+
+-- a head that is right on a device is within its own limits
+pub right-allowed : (d : Device) (h : Head) → headRight d h ≡ true → headAllowed h ≡ true
+unfolding headRight
+right-allowed d (Plain b) r = r
+right-allowed d Unknown r = absurd (true≢false (sym r))

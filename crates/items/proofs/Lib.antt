@@ -1,0 +1,4 @@
+-- The laws that callers cite.
+pub mod Heads
+pub mod Items
+pub mod Making

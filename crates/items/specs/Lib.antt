@@ -1,0 +1,4 @@
+-- What contracts and other crates' definitions cite.
+pub mod Head
+pub mod Items
+pub mod Making

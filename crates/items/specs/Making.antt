@@ -1,0 +1,48 @@
+-- Making a record: the bytes of a head and of segments one after the other. Assumes nothing.
+use Prim.Native.Nat.{ℕ, _+_, _*_}
+use mathlib.Core.Bool.{cond}
+use mathlib.Core.List.{List, [], _∷_, _++_}
+use lib.Dec.{eqb}
+use lib.ListN.{take, drop}
+use Rattle.refusal.specs.Numbers.{recordForm, sliceSize}
+use Rattle.refusal.specs.Tests.{Test, _or_, first}
+use Rattle.endian.specs.Bytes.{toLe, splice, fits}
+use Rattle.segments.specs.declared.Segment.{Segment}
+use Rattle.items.specs.declared.Head.{Head}
+use Rattle.items.specs.Head.{headOf, headBytes, headSize, headAllowed, itemBytes}
+
+-- length 20, kind, start, length
+unfoldable pub segmentBytes : Segment → List ℕ
+segmentBytes g = toLe 2 itemBytes ++ (toLe 2 (g .kind) ++ (toLe 8 (g .start) ++ toLe 8 (g .sectors)))
+
+-- one after the other
+unfoldable pub allBytes : List Segment → List ℕ
+allBytes [] = []
+allBytes (g ∷ gs) = segmentBytes g ++ allBytes gs
+
+-- the record with this head and these segments
+unfoldable pub recordOf : Head → List Segment → List ℕ
+recordOf h gs = headBytes h ++ allBytes gs
+
+-- where the item at position i begins
+unfoldable pub place : List ℕ → ℕ → ℕ
+place s i = headSize (headOf s) + itemBytes * i
+
+-- the record with a segment appended
+unfoldable pub appended : List ℕ → Segment → List ℕ
+appended s g = s ++ segmentBytes g
+
+-- the record with the segment at position p removed
+unfoldable pub removed : List ℕ → ℕ → List ℕ
+removed s p = take (place s p) s ++ drop (place s p + itemBytes) s
+
+-- what a call that refused with n leaves: the bytes as they were; else those that it made
+abbrev pub unless : ℕ → List ℕ → List ℕ → List ℕ
+unless n made out = cond (eqb n 0) made out
+
+-- a record begun with a head: room for its bytes, then whether it is within its limits
+abbrev pub beginTests : List ℕ → Head → List Test
+beginTests out h = (fits out 0 (headSize h) or sliceSize) ∷ (headAllowed h or recordForm) ∷ []
+
+abbrev pub begun : List ℕ → Head → List ℕ
+begun out h = unless (first (beginTests out h)) (splice out 0 (headBytes h)) out

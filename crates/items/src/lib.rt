@@ -1,0 +1,334 @@
+// The items of a segment record: a head, then segments, each with its length first, then its kind. Read and made; what depends on
+// the head's kind is here and nowhere else. Assumes nothing.
+use layout::Device;
+use segments::Range;
+use segments::Segment;
+ghost use mathlib.Core.Path.{_≡_};
+ghost use Prim.Native.Nat.{_*_, _/_, _<_, _≤_, min};
+ghost use lib.ListN.{length};
+ghost use Rattle.refusal.specs.Tests.{first};
+ghost use Rattle.endian.specs.Bytes.{le, window, room, splice};
+ghost use Rattle.search.specs.Search.{every};
+ghost use Rattle.segments.specs.Segments.{nth};
+ghost use Rattle.items.specs.declared.Head.the-variants.{Plain};
+ghost use Rattle.items.specs.Head.{itemOf, isSegment, headOf, headSize, headBytes, blockSize, blockSizeAllowed, headAllowed, headRight, allows, rangeFor, itemBytes, mostSegments};
+ghost use Rattle.items.specs.Items.{itemsOf, segmentOf, segmentsIn, segments, itemRight, framed, wellFormed};
+ghost use Rattle.items.specs.Making.{segmentBytes, place, beginTests, begun};
+
+// Bytes of a segment's item.
+pub const ITEM_BYTES: usize = 20;
+
+// Bytes of a head of kind 16, the smallest head.
+pub const HEAD_BYTES: usize = 8;
+
+// The most segments that any record has.
+pub const MOST_SEGMENTS: usize = (layout::RECORD_LIMIT as usize - HEAD_BYTES) / ITEM_BYTES;
+
+// What an item's kind says it is.
+pub enum Item {
+    ThinMetadata,
+    ThinData,
+    Spare,
+    MetadataVolume,
+    Head,
+    Unknown,
+}
+
+// The head of a record: of kind 16, with the data block size in sectors; or none that is known.
+pub enum Head {
+    Plain(u32),
+    Unknown,
+}
+
+// What an item of this kind is.
+pub fn item_of(kind: u16) -> Item
+    ensures { λ r. ⌜ r ≡ itemOf kind ⌝ }
+{
+    match kind {
+        0 => Item::Unknown,
+        1 => Item::ThinMetadata,
+        2 => Item::ThinData,
+        3 => Item::Spare,
+        4 => Item::MetadataVolume,
+        5..=15 => Item::Unknown,
+        16 => Item::Head,
+        17..=65535 => Item::Unknown,
+    }
+}
+
+// Whether an item is a segment.
+pub fn is_segment(i: Item) -> bool
+    ensures { λ r. ⌜ r ≡ isSegment i ⌝ }
+{
+    match i {
+        Item::ThinMetadata => true,
+        Item::ThinData => true,
+        Item::Spare => true,
+        Item::MetadataVolume => true,
+        Item::Head => false,
+        Item::Unknown => false,
+    }
+}
+
+// The head of a record, of any bytes.
+pub fn head_of(s: &[u8]) -> Head
+    ensures { λ r. ⌜ r ≡ headOf (now (s .entry)) ⌝ }
+{
+    let size = endian::read_u32(s, 4);
+    let i = item_of(endian::read_u16(s, 2));
+    match i {
+        Item::ThinMetadata => Head::Unknown,
+        Item::ThinData => Head::Unknown,
+        Item::Spare => Head::Unknown,
+        Item::MetadataVolume => Head::Unknown,
+        Item::Head => Head::Plain(size),
+        Item::Unknown => Head::Unknown,
+    }
+}
+
+// The bytes of a head.
+pub fn head_size(h: Head) -> usize
+    ensures { λ r. ⌜ r ≡ headSize h ⌝ }
+{
+    match h {
+        Head::Plain(_) => HEAD_BYTES,
+        Head::Unknown => 0,
+    }
+}
+
+// The data block size in sectors.
+pub fn block_size(h: Head) -> u32
+    ensures { λ r. ⌜ r ≡ blockSize h ⌝ }
+{
+    match h {
+        Head::Plain(size) => size,
+        Head::Unknown => 0,
+    }
+}
+
+// Whether a block size is allowed.
+pub fn block_size_allowed(b: u32) -> bool
+    ensures { λ r. ⌜ r ≡ blockSizeAllowed b ⌝ }
+{
+    (b % 128 == 0) & ((128 <= b) & (b <= 2097152))
+}
+
+// Whether what a head says is within its limits, whatever the device.
+pub fn head_allowed(h: Head) -> bool
+    ensures { λ r. ⌜ r ≡ headAllowed h ⌝ }
+{
+    match h {
+        Head::Plain(size) => block_size_allowed(size),
+        Head::Unknown => false,
+    }
+}
+
+// Whether it is within its limits on a device.
+pub fn head_right(d: Device, h: Head) -> bool
+    ensures { λ r. ⌜ r ≡ headRight d h ⌝ }
+{
+    match h {
+        Head::Plain(_) => head_allowed(h),
+        Head::Unknown => false,
+    }
+}
+
+// Whether a record with this head can have a segment of this kind.
+pub fn allowed(h: Head, kind: u16) -> bool
+    ensures { λ r. ⌜ r ≡ allows h kind ⌝ }
+{
+    match h {
+        Head::Plain(_) => is_segment(item_of(kind)),
+        Head::Unknown => false,
+    }
+}
+
+// The range that a segment of this kind may lie in.
+pub fn range_for(d: Device, h: Head, kind: u16) -> Range
+    ensures { λ r. ⌜ r ≡ rangeFor d h kind ⌝ }
+{
+    match h {
+        Head::Plain(_) => Range {
+            start: layout::data_start(d),
+            end: layout::data_end(d),
+        },
+        Head::Unknown => Range { start: 0, end: 0 },
+    }
+}
+
+// The most segments of a record with this head.
+pub fn most_segments(h: Head) -> usize
+    ensures { λ r. ⌜ r ≡ mostSegments h ⌝ }
+{
+    (layout::RECORD_LIMIT as usize - head_size(h)) / ITEM_BYTES
+}
+
+// The items after the head, of any bytes.
+pub fn items_of(s: &[u8]) -> &[u8]
+    ensures { λ r. ⌜ now r ≡ itemsOf (now (s .entry)) ⌝ }
+{
+    let h = head_size(head_of(s));
+    if s.len() < h {
+        return &s[s.len()..];
+    }
+    &s[h..]
+}
+
+// The number of items that there is room for.
+pub fn count_in(t: &[u8]) -> usize
+    ensures { λ r. ⌜ r ≡ length (segmentsIn (now (t .entry))) ⌝ }
+{
+    t.len() / ITEM_BYTES
+}
+
+// The item at a position that is there: its bytes are found with no test.
+fn item_at(t: &[u8], i: usize) -> &[u8]
+    requires { ⌜ i < length (now t) / itemBytes ⌝ }
+    ensures { λ r. ⌜ now r ≡ window (now (t .entry)) (itemBytes * i) itemBytes ⌝ }
+{
+    let at = ITEM_BYTES * i;
+    &t[at..at + ITEM_BYTES]
+}
+
+// What an item says.
+fn segment_of(u: &[u8]) -> Segment
+    ensures { λ r. ⌜ r ≡ segmentOf (now (u .entry)) ⌝ }
+{
+    Segment {
+        kind: endian::read_u16(u, 2),
+        start: endian::read_u64(u, 4),
+        sectors: endian::read_u64(u, 12),
+    }
+}
+
+// The segment at position i; zero in every field past the last.
+pub fn segment_in(t: &[u8], i: usize) -> Segment
+    ensures { λ r. ⌜ r ≡ nth (segmentsIn (now (t .entry))) i ⌝ }
+{
+    if i < t.len() / ITEM_BYTES {
+        return segment_of(item_at(t, i));
+    }
+    Segment {
+        kind: 0,
+        start: 0,
+        sectors: 0,
+    }
+}
+
+// The number of segments of a record, of any bytes.
+pub fn count_of(s: &[u8]) -> usize
+    ensures { λ r. ⌜ r ≡ length (segments (now (s .entry))) ⌝ }
+{
+    count_in(items_of(s))
+}
+
+// The segment at position i of a record, of any bytes; zero in every field past the last.
+pub fn segment_at(s: &[u8], i: usize) -> Segment
+    ensures { λ r. ⌜ r ≡ nth (segments (now (s .entry))) i ⌝ }
+{
+    segment_in(items_of(s), i)
+}
+
+// Whether the item at a position that is there has the length of a segment and a kind that the head allows.
+fn item_right(h: Head, t: &[u8], i: usize) -> bool
+    requires { ⌜ i < length (now t) / itemBytes ⌝ }
+    ensures { λ r. ⌜ r ≡ itemRight h (now (t .entry)) i ⌝ }
+{
+    let u = item_at(t, i);
+    (endian::read_u16(u, 0) as usize == ITEM_BYTES) & allowed(h, endian::read_u16(u, 2))
+}
+
+// Whether every item has the length of a segment and a kind that the head allows.
+fn items_right(h: Head, t: &[u8]) -> bool
+    ensures { λ r. ⌜ r ≡ every (itemRight h (now (t .entry))) (length (segmentsIn (now (t .entry)))) ⌝ }
+{
+    let n = count_in(t);
+    let mut i = 0;
+    while i < n {
+        if !item_right(h, t, i) {
+            return false;
+        }
+        i += 1;
+    }
+    true
+}
+
+// Whether the first item has the length of its kind, with whole items after it.
+fn framed(s: &[u8]) -> bool
+    ensures { λ r. ⌜ r ≡ framed (now (s .entry)) ⌝ }
+{
+    let h = head_size(head_of(s));
+    if s.len() < h {
+        return false;
+    }
+    (endian::read_u16(s, 0) as usize == h) & ((s.len() - h) % ITEM_BYTES == 0)
+}
+
+// Whether s is a head and segments, as they have to be on a device, with nothing after them.
+pub fn well_formed(d: Device, s: &[u8]) -> bool
+    ensures { λ r. ⌜ r ≡ wellFormed d (now (s .entry)) ⌝ }
+{
+    let h = head_of(s);
+    let right = framed(s) & head_right(d, h);
+    right & items_right(h, items_of(s))
+}
+
+// Where the item at position i begins, or the end of s where that is past it.
+pub fn place_in(s: &[u8], i: usize) -> usize
+    ensures { λ r. ⌜ r ≡ min (place (now (s .entry)) i) (length (now (s .entry))) ⌝ }
+{
+    let h = head_size(head_of(s));
+    if s.len() / ITEM_BYTES < i {
+        return s.len();
+    }
+    if s.len() < h + ITEM_BYTES * i {
+        return s.len();
+    }
+    h + ITEM_BYTES * i
+}
+
+// Writes a head of kind 16 to the start of out, where there is room for it.
+fn put_plain(out: &mut [u8], size: u32)
+    requires { ⌜ 8 ≤ length (now out) ⌝ }
+    ensures { λ _. ⌜ now (out .exit) ≡ splice (now (out .entry)) 0 (headBytes (Plain size)) ⌝ }
+{
+    endian::write_u16(out, 0, 8);
+    endian::write_u16(out, 2, 16);
+    endian::write_u32(out, 4, size);
+}
+
+// Begins a record: writes its head to the start of out. 1 where there is no room, 17 for a head that is not within its limits.
+pub fn begin(out: &mut [u8], h: Head) -> u8
+    ensures { λ r. ⌜ r ≡ first (beginTests (now (out .entry)) h) ⌝ }
+    ensures { λ _. ⌜ now (out .exit) ≡ begun (now (out .entry)) h ⌝ }
+{
+    if out.len() < head_size(h) {
+        return refusal::SLICE_SIZE;
+    }
+    if !head_allowed(h) {
+        return refusal::RECORD_FORM;
+    }
+    let Head::Plain(size) = h else {
+        return refusal::RECORD_FORM;
+    };
+    put_plain(out, size);
+    refusal::NONE
+}
+
+// Writes a segment's item to out from byte `at` on and answers 0; where it does not fit there, writes nothing and answers 1.
+pub fn put_segment(out: &mut [u8], at: usize, g: Segment) -> u8
+    ensures { λ r. ⌜ r ≡ room (now (out .entry)) at itemBytes ⌝ }
+    ensures { λ _. ⌜ now (out .exit) ≡ splice (now (out .entry)) at (segmentBytes g) ⌝ }
+{
+    if out.len() < at {
+        return refusal::SLICE_SIZE;
+    }
+    if out.len() - at < ITEM_BYTES {
+        return refusal::SLICE_SIZE;
+    }
+    endian::write_u16(out, at, ITEM_BYTES as u16);
+    endian::write_u16(out, at + 2, g.kind);
+    endian::write_u64(out, at + 4, g.start);
+    endian::write_u64(out, at + 12, g.sectors);
+    refusal::NONE
+}

@@ -1,0 +1,2 @@
+-- What contracts and other crates' definitions cite.
+pub mod Ordering

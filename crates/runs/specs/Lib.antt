@@ -1,0 +1,4 @@
+-- What contracts and other crates' definitions cite.
+pub mod Runs
+pub mod Gaps
+pub mod Demand

@@ -1,0 +1,2 @@
+-- What other crates' definitions use.
+pub mod Search

@@ -1,0 +1,7 @@
+-- The laws that callers cite.
+pub mod Segments
+pub mod Clash
+pub mod Sectors
+pub mod Left
+pub mod Next
+pub mod Order

@@ -1,0 +1,5 @@
+-- What contracts and other crates' definitions cite.
+pub mod Segments
+pub mod Clash
+pub mod Sectors
+pub mod Order

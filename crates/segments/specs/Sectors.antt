@@ -1,0 +1,27 @@
+-- Which sectors a list of segments holds, and which of a range are free. Assumes nothing.
+use Prim.Native.Nat.{ℕ, _+_}
+use mathlib.Core.Bool.{Bool, _&&_}
+use mathlib.Core.List.{List, [], _∷_}
+use lib.Dec.{eqb}
+use Rattle.search.specs.Search.{total, within, one}
+use Rattle.segments.specs.declared.Segment.{Segment}
+use Rattle.segments.specs.declared.Range.{Range}
+use Rattle.segments.specs.Segments.{holds}
+
+-- in how many of the segments the sector x is
+unfoldable pub heldBy : List Segment → ℕ → ℕ
+heldBy [] x = 0
+heldBy (g ∷ gs) x = one (holds g x) + heldBy gs x
+
+-- x is a sector of the range in no segment
+unfoldable pub isFree : Range → List Segment → ℕ → Bool
+isFree r gs x = within (r .start) (r .end) x && eqb (heldBy gs x) 0
+
+-- allocated sectors
+unfoldable pub allocated : List Segment → ℕ
+allocated [] = 0
+allocated (g ∷ gs) = g .sectors + allocated gs
+
+-- free sectors, counted as sectors of the range in no segment
+unfoldable pub freeSectors : Range → List Segment → ℕ
+freeSectors r gs = total (λ x. one (isFree r gs x)) (r .end)
