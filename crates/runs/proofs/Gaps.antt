@@ -8,12 +8,14 @@ use native.Mathlib.Nat.{le-refl, not-suc-le-zero}
 use native.Mathlib.Omega.{arith}
 use borrow.Author.Tests.{lt-ltb, le-ltb, eq-eqb, ne-eqb}
 use lib.Dec.{eqb}
-use Rattle.search.specs.Search.{within}
+use Rattle.search.specs.Search.{within, one}
 use Rattle.search.proofs.Search.{and-false-left, in-within, below-within}
 use Rattle.segments.specs.declared.Segment.{Segment}
 use Rattle.segments.specs.Segments.{endOf, holds}
 use Rattle.segments.specs.Sectors.{heldBy, isFree}
 use Rattle.segments.proofs.Segments.{holds-in, not-holds-low, not-holds-high}
+use Rattle.segments.specs.Order.{Chain}
+use Rattle.segments.proofs.Sectors.{held-none, held-more}
 use Rattle.runs.specs.declared.Run.{Run}
 use Rattle.runs.specs.Runs.{runTo, runsFrom, runsOf}
 use Rattle.runs.specs.Gaps.{gap, gaps}
@@ -45,21 +47,15 @@ chain-end a e (g ∷ gs) c =
     omega arith
 
 -- how many segments hold x: one more, or no more
-held-nil : (x : ℕ) → heldBy [] x ≡ 0
-unfolding heldBy
-held-nil x = refl
-
 held-yes : (g : Segment) (gs : List Segment) (x : ℕ) → holds g x ≡ true → heldBy (g ∷ gs) x ≡ 1 + heldBy gs x
-unfolding heldBy
-held-yes g gs x h = rw h
+held-yes g gs x h = held-more g gs x ∙ ap (λ (b : Bool). one b + heldBy gs x) h
 
 held-no : (g : Segment) (gs : List Segment) (x : ℕ) → holds g x ≡ false → heldBy (g ∷ gs) x ≡ heldBy gs x
-unfolding heldBy
-held-no g gs x h = rw h (let q : 0 + heldBy gs x ≡ heldBy gs x = omega arith in q)
+held-no g gs x h = held-more g gs x ∙ (ap (λ (b : Bool). one b + heldBy gs x) h ∙ (let q : 0 + heldBy gs x ≡ heldBy gs x = omega arith in q))
 
 -- what is before a chain is in none of its segments
 pub chain-before : (a e : ℕ) (gs : List Segment) → Chain a e gs → (x : ℕ) → x < a → heldBy gs x ≡ 0
-chain-before a e [] c x h = held-nil x
+chain-before a e [] c x h = held-none x
 chain-before a e (g ∷ gs) c x h =
     let l : a ≤ g .start = c .0 in
     held-no g gs x (not-holds-low g x (omega arith)) ∙ chain-before (endOf g) e gs (c .1 .1) x (omega arith)
@@ -81,7 +77,7 @@ module _ (p : ℕ → Bool) (e : ℕ) where
   runs-gaps (suc n) a [] c f l =
       elim (decLt a e) [
         | yes t ↦
-            first n a e t (le-refl e) (λ x h k. f x h k ∙ eq-eqb (heldBy [] x) 0 (held-nil x)) (λ k. absurd (omega arith))
+            first n a e t (le-refl e) (λ x h k. f x h k ∙ eq-eqb (heldBy [] x) 0 (held-none x)) (λ k. absurd (omega arith))
             ∙ (ap (λ (rs : List Run). runTo a e ∷ rs) (runs-none p e n e (next-free-none p e e (λ z h k. absurd (omega arith))))
             ∙ sym (gaps-nil a e ∙ gap-some a e [] t))
         | no t ↦ runs-none p e (suc n) a (next-free-none p e a (λ z h k. absurd (omega arith))) ∙ sym (gaps-nil a e ∙ gap-none a e [] (omega arith))

@@ -10,16 +10,9 @@ use borrow.Author.Tests.{lt-ltb, le-ltb, le-leb, leb-true, not-true, not-false}
 use lib.Dec.{leb}
 use Rattle.endian.proofs.Tests.{and-left, and-right, and-both}
 use Rattle.search.specs.Search.{least}
-use Rattle.search.proofs.Search.{not-true-false, both, least-zero, least-suc, least-le, least-holds, least-below}
+use Rattle.search.proofs.Search.{not-true-false, both, least-le, least-holds, least-below, least-same}
 use Rattle.runs.specs.declared.Run.{Run}
 use Rattle.runs.specs.Runs.{passesFrom, nextFree, nextTaken, runTo, runsFrom, runsOf}
-
--- the same tests give the same lowest number
-pub least-same : (p q : ℕ → Bool) (n : ℕ) → ((i : ℕ) → i < n → p i ≡ q i) → least p n ≡ least q n
-least-same p q zero h = least-zero p ∙ sym (least-zero q)
-least-same p q (suc n) h =
-    let r : least p n ≡ least q n = least-same p q n (λ i l. h i (let k : i < suc n = omega arith in k)) in
-    rw (least-suc p n, least-suc q n, r, h n (le-refl (suc n)))
 
 -- The next free sector.
 module _ (p : ℕ → Bool) (e : ℕ) where

@@ -173,6 +173,13 @@ least-below p (suc n) i l = go (least-below p n i) (p n) refl (eq-or-lt-of-le (l
         ⊎-elim (λ (q : i ≡ n). ap p q ∙ e) (λ (q : i < n). below (omega arith))
         (eq-or-lt-of-le (let q : i ≤ n = omega arith in q))
 
+-- the same tests give the same lowest number
+pub least-same : (p q : ℕ → Bool) (n : ℕ) → ((i : ℕ) → i < n → p i ≡ q i) → least p n ≡ least q n
+least-same p q zero h = least-zero p ∙ sym (least-zero q)
+least-same p q (suc n) h =
+    let r : least p n ≡ least q n = least-same p q n (λ i l. h i (let k : i < suc n = omega arith in k)) in
+    rw (least-suc p n, least-suc q n, r, h n (le-refl (suc n)))
+
 -- total
 pub total-zero : (f : ℕ → ℕ) → total f 0 ≡ 0
 unfolding total
