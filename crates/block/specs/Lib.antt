@@ -4,4 +4,5 @@ pub mod Block
 pub mod Writing
 pub mod Laid
 pub mod Accepted
+pub mod Answers
 pub mod Demand

@@ -26,7 +26,10 @@ use Rattle.discovery.specs.declared.Answer.the-variants as Answer
 use Rattle.discovery.specs.Discovery.{numberOf}
 use Rattle.layout.specs.declared.Device.{Device}
 use Rattle.capi.specs.Lent.{has, numberIf, leftIf, replaced}
-use Rattle.capi.specs.Answers.{fieldsFrom, sideNumber, areaNumber, otherNumber, blockNumbers, answerNumber, answerLeft, verdictLeft, uuidLeft}
+use Rattle.capi.specs.Answers.{fieldsFrom, answerLeft, verdictLeft, uuidLeft}
+use Rattle.layout.specs.Answers.{sideNumber, areaNumber}
+use Rattle.discovery.specs.Answers.{otherNumber, answerNumber}
+use Rattle.block.specs.Answers.{blockNumbers}
 use Rattle.capi.proofs.Told.{sized, sized-left, whole}
 
 six : (a b c d e f x y z : ℕ) → x ≡ a → y ≡ b → z ≡ f → _≡_ {A = List ℕ} (x ∷ y ∷ c ∷ d ∷ e ∷ z ∷ []) (a ∷ b ∷ c ∷ d ∷ e ∷ f ∷ [])

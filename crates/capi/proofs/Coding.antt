@@ -23,7 +23,7 @@ use Rattle.mend.specs.declared.Last.the-variants as Last
 use Rattle.mend.specs.declared.Rewrite.{Rewrite}
 use Rattle.mend.specs.declared.Mending.{Mending}
 use Rattle.mend.specs.declared.Mending.the-variants as Mending
-use Rattle.capi.specs.Answers.{sideNumber, areaNumber}
+use Rattle.layout.specs.Answers.{sideNumber, areaNumber}
 use Rattle.capi.specs.Plans.{encodedEntry, decodedEntry, encodedFields, decodedFields, encodedPart, decodedPart, encodedPlan, decodedPlan, encodedLast, lastNumber, decodedLast, encodedRewrite, sideFrom, areaOf, decodedRewrite, decodedMend}
 use Rattle.capi.proofs.Fields.{laid-whole, next}
 use Rattle.capi.proofs.Codec.{entryParts, entryWidths, entry-widths, fieldParts, fieldWidths, field-widths, partParts, partWidths, part-widths, planParts, planWidths, plan-widths, blankParts, blankWidths, blank-widths, rewriteParts, rewriteWidths, rewrite-widths}

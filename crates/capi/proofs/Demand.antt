@@ -27,7 +27,9 @@ use Rattle.mend.proofs.Kept.{found-sized}
 use Rattle.mend.proofs.Giving as Mends
 use Rattle.capi.specs.Lent.{has, numberIf, leftIf}
 use Rattle.capi.specs.Plans.{encodedPlan, decodedPlan, encodedMend, decodedMend}
-use Rattle.capi.specs.Calls.{givenNumber, givenLeft, plannedNumber, plannedLeft, updateStoreNumber, updateStoreBytes, updateStoreSector, mendPlanLeft, mendingNumber, mendStoreNumber, mendStoreBytes, mendStoreSector}
+use Rattle.capi.specs.Calls.{givenLeft, plannedLeft, updateStoreNumber, updateStoreBytes, updateStoreSector, mendPlanLeft, mendStoreNumber, mendStoreBytes, mendStoreSector}
+use Rattle.update.specs.Answers.{givenNumber, plannedNumber}
+use Rattle.mend.specs.Answers.{mendingNumber}
 use Rattle.capi.specs.Demand as Claims
 use Rattle.capi.specs.Demand.{updatePlan}
 use Rattle.capi.proofs.Codec.{plan-long, plan-decoded, mend-decoded, in-step-decoded}

@@ -40,7 +40,7 @@ use Rattle.mend.specs.Mend.{laterWhole, blanked}
 use Rattle.mend.specs.Plan.{rewriteOf, mendingAfter, mending}
 use Rattle.mend.proofs.Kept.{held, kept, found-bytes}
 use Rattle.capi.specs.Plans.{encodedMend, decodedMend, EntryFit, FieldsFit, PartFit, PlanFit, LastFit, RewriteFit}
-use Rattle.capi.specs.Calls.{mendingNumber}
+use Rattle.mend.specs.Answers.{mendingNumber}
 use Rattle.capi.proofs.Codec.{rewrite-long, mend-decoded, in-step-decoded}
 
 -- places on a device whose numbers fit

@@ -1,32 +1,22 @@
 -- What the calls on plans answer and leave. Assumes nothing.
 use Prim.Native.Nat.{ℕ}
 use mathlib.Core.Bool.{Bool, cond, _&&_}
-use mathlib.Core.List.{List, [], _∷_}
+use mathlib.Core.List.{List}
 use Rattle.block.specs.declared.Time.{Time}
 use Rattle.update.specs.declared.Planned.{Planned}
 use Rattle.update.specs.declared.Planned.the-variants as Planned
 use Rattle.update.specs.declared.Given.{Given}
 use Rattle.update.specs.declared.Given.the-variants as Given
+use Rattle.update.specs.Answers.{givenNumber, givenValues, plannedNumber}
 use Rattle.update.specs.Plan as Update
-use Rattle.mend.specs.declared.Mending.{Mending}
-use Rattle.mend.specs.declared.Mending.the-variants as Mending
+use Rattle.mend.specs.Answers.{mendingNumber}
 use Rattle.mend.specs.Plan as Mend
 use Rattle.capi.specs.Lent.{has, numberIf, leftIf}
 use Rattle.capi.specs.Plans.{encodedPlan, decodedPlan, encodedMend, decodedMend}
 
--- a store: its refusal number, and its sector in an array of one
-abbrev pub givenNumber : Given → ℕ
-givenNumber (Given.At n) = 0
-givenNumber (Given.Refused n) = n
-
 abbrev pub givenLeft : Given → List ℕ → List ℕ
-givenLeft (Given.At n) s = n ∷ []
+givenLeft (Given.At n) s = givenValues (Given.At n)
 givenLeft (Given.Refused n) s = s
-
--- an update worked out: its refusal number, and its plan in 148 bytes
-abbrev pub plannedNumber : Planned → ℕ
-plannedNumber (Planned.Ready p) = 0
-plannedNumber (Planned.Refused n) = n
 
 abbrev pub plannedLeft : Planned → List ℕ → List ℕ
 plannedLeft (Planned.Ready p) s = encodedPlan p
@@ -57,12 +47,6 @@ updateStoreBytes s f b r i out n = leftIf (updateSized s n) (Update.storeBytes (
 
 abbrev pub updateStoreSector : List ℕ → List ℕ → List ℕ → List ℕ → ℕ → List ℕ → List ℕ → List ℕ
 updateStoreSector s f b r i out n = leftIf (updateSized s n) (givenLeft (Update.storeAnswer (decodedPlan s) f b r i out) n) n
-
--- a mend worked out: its refusal number, and its plan in 204 bytes
-abbrev pub mendingNumber : Mending → ℕ
-mendingNumber Mending.InStep = 0
-mendingNumber (Mending.Needed p) = 0
-mendingNumber (Mending.Refused n) = n
 
 abbrev pub mendPlanNumber : List ℕ → List ℕ → List ℕ → ℕ
 mendPlanNumber f b s = numberIf (has s 204) (mendingNumber (Mend.mending f b))

@@ -24,7 +24,7 @@ use Rattle.mend.specs.declared.Last.the-variants as Last
 use Rattle.mend.specs.declared.Rewrite.{Rewrite}
 use Rattle.mend.specs.declared.Mending.{Mending}
 use Rattle.mend.specs.declared.Mending.the-variants as Mending
-use Rattle.capi.specs.Answers.{sideNumber, areaNumber}
+use Rattle.layout.specs.Answers.{sideNumber, areaNumber}
 
 -- an entry, 20 bytes: seconds, nanoseconds, used bytes, CRC
 unfoldable pub encodedEntry : Entry → List ℕ

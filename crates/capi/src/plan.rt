@@ -1,7 +1,7 @@
 // Plans as bytes, for a C caller to keep: written, and read back. Any bytes are read as some plan. Assumes nothing.
 ghost use mathlib.Core.Path.{_≡_};
 ghost use lib.ListN.{getD};
-ghost use Rattle.capi.specs.Answers.{sideNumber, areaNumber};
+ghost use Rattle.layout.specs.Answers.{sideNumber, areaNumber};
 ghost use Rattle.capi.specs.Plans.{encodedEntry, encodedFields, encodedPart, encodedPlan, encodedLast, encodedRewrite, lastNumber, sideFrom, areaOf, decodedEntry, decodedFields, decodedPart, decodedPlan, decodedLast, decodedRewrite, decodedMend};
 use block::BlockFields;
 use block::Entry;

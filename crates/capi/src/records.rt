@@ -5,13 +5,13 @@ ghost use lib.ListN.{length};
 ghost use Rattle.refusal.specs.Tests.{first};
 ghost use Rattle.record.specs.Items.{blockSize, count};
 ghost use Rattle.record.specs.Accept.{recordTests};
-ghost use Rattle.record.specs.Answers.{segmentAnswer};
+ghost use Rattle.record.specs.Answers.{segmentAnswer, foundNumber};
 ghost use Rattle.record.specs.Making.{beginTests, begun, unless};
-ghost use Rattle.room.specs.Answers.{totalAnswer};
+ghost use Rattle.room.specs.Answers.{totalAnswer, totalNumber, runsNumber};
 ghost use Rattle.room.specs.Table.{numbersAnswer, numbersLeft};
-ghost use Rattle.room.specs.Change.{allocateAnswer, allocateLeft, releaseAnswer, releaseLeft};
+ghost use Rattle.room.specs.Change.{allocateAnswer, allocateLeft, releaseAnswer, releaseLeft, allocationNumber, releaseNumber};
 ghost use Rattle.capi.specs.Lent.{has, numberIf, leftIf};
-ghost use Rattle.capi.specs.Answers.{deviceFrom, segmentNumber, segmentLeft, totalNumber, totalLeft, runsNumber, runsLeft, allocationNumber, allocationLeft, releaseNumber, releaseNumbers};
+ghost use Rattle.capi.specs.Answers.{deviceFrom, segmentLeft, totalLeft, runsLeft, allocationLeft, releaseNumbers};
 use crate::lent;
 use layout::Device;
 use record::Found;
@@ -81,7 +81,7 @@ pub extern "C" fn amseokbin_record_segment(
     position: u64,
     segment: &mut [u64],
 ) -> u8
-    ensures { λ n. ⌜ n ≡ numberIf (has (now (segment .entry)) 3) (segmentNumber (segmentAnswer (deviceFrom sectors metadata reserved) (now (content .entry)) position)) ⌝ }
+    ensures { λ n. ⌜ n ≡ numberIf (has (now (segment .entry)) 3) (foundNumber (segmentAnswer (deviceFrom sectors metadata reserved) (now (content .entry)) position)) ⌝ }
     ensures { λ _. ⌜ now (segment .exit) ≡ leftIf (has (now (segment .entry)) 3) (segmentLeft (segmentAnswer (deviceFrom sectors metadata reserved) (now (content .entry)) position) (now (segment .entry))) (now (segment .entry)) ⌝ }
 {
     let sized = segment.len() == 3;

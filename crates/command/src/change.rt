@@ -13,9 +13,9 @@ use crate::stores;
 use crate::stores::Work;
 use block::Time;
 use discovery::Answer;
-use record::Segment;
 use room::Allocation;
 use room::Released;
+use segments::Segment;
 use text::Text;
 use update::Planned;
 
@@ -178,7 +178,7 @@ fn allocate_in(
                 start,
                 sectors,
             };
-            let position = record::count_of(r) as u64;
+            let position = items::count_of(r) as u64;
             let t = segment_line(b"segment ", position, g);
             apply(
                 path,
@@ -210,7 +210,7 @@ fn release_in(
     match a {
         Released::Refused(n) => facts::refuse(path, n),
         Released::Length(len) => {
-            let g = record::segment_at(r, position as usize);
+            let g = items::segment_at(r, position as usize);
             let t = segment_line(b"releases ", position, g);
             apply(
                 path,

@@ -11,6 +11,7 @@ use crate::say::reason;
 use crate::sets;
 use block::Time;
 use block::Verdict;
+use items::Head;
 use layout::Device;
 use text::Text;
 
@@ -203,7 +204,7 @@ fn write(fd: i32, path: &[u8], d: Device, w: Wanted, front: &[u8], back: &[u8]) 
 // Formats an open image.
 fn make(fd: i32, path: &[u8], d: Device, block: u32, w: Wanted) -> u8 {
     let mut r = [0u8; 8];
-    let begun = record::begin(&mut r, block);
+    let begun = items::begin(&mut r, Head::Plain(block));
     if begun != 0 {
         let t = Text::new().add(b"refused ").decimal(begun as u64);
         note(

@@ -5,7 +5,7 @@ use crate::facts;
 use crate::say::print;
 use crate::say::put;
 use layout::Device;
-use record::Segment;
+use segments::Segment;
 use text::Text;
 
 // The widest picture, in characters.
@@ -144,7 +144,7 @@ fn sum(a: u64, b: u64) -> u64 {
 
 // What lies from a up to, not including, b.
 fn stretch_of(r: &[u8], a: u64, b: u64) -> Stretch {
-    let n = record::count_of(r);
+    let n = items::count_of(r);
     let mut c = Stretch {
         covered: 0,
         kinds: 0,
@@ -152,7 +152,7 @@ fn stretch_of(r: &[u8], a: u64, b: u64) -> Stretch {
     };
     let mut i = 0;
     while i < n {
-        let next = with(c, record::segment_at(r, i), a, b);
+        let next = with(c, items::segment_at(r, i), a, b);
         c = next;
         i += 1;
     }

@@ -11,12 +11,12 @@ use discovery::Answer;
 use discovery::Other;
 use discovery::Record;
 use room::FreeTotal;
-use room::Run;
 use room::RunNumber;
+use runs::Run;
 use text::Text;
 
 // The numbers of a table of free runs, of which there is one more than segments at the most: a start and a length for each.
-const RUNS: usize = 2 * (copies::RECORD / record::ITEM_BYTES + 1);
+const RUNS: usize = 2 * (copies::RECORD / items::ITEM_BYTES + 1);
 
 // What is known of the record that is shown.
 pub(crate) struct Shown {
@@ -94,7 +94,7 @@ fn item(ok: bool, first: &[u8], i: u64, last: &[u8], n: u64) -> bool {
 }
 
 fn plain_segment(ok: bool, r: &[u8], i: usize) -> bool {
-    let g = record::segment_at(r, i);
+    let g = items::segment_at(r, i);
     let k = item(ok, b"segment", i as u64, b"kind", g.kind as u64);
     let s = item(k, b"segment", i as u64, b"start", g.start);
     item(s, b"segment", i as u64, b"sectors", g.sectors)
@@ -107,7 +107,7 @@ fn plain_run(ok: bool, i: u64, g: Run) -> bool {
 
 // The lines of all segments, for people or plain.
 fn segments(before: bool, plain: bool, r: &[u8]) -> bool {
-    let n = record::count_of(r);
+    let n = items::count_of(r);
     let mut ok = before;
     let mut i = 0;
     while i < n {
@@ -122,7 +122,7 @@ fn segment_line(ok: bool, plain: bool, r: &[u8], i: usize) -> bool {
     if plain {
         return plain_segment(ok, r, i);
     }
-    let g = record::segment_at(r, i);
+    let g = items::segment_at(r, i);
     let t = row(
         Text::new().padded(i as u64, 6).add(b"  "),
         g.start,
@@ -226,8 +226,12 @@ fn plain_state(ok: bool, look: Look, s: Shown) -> bool {
 
 // The lines of an accepted record.
 fn plain_record(ok: bool, look: Look, r: &[u8]) -> bool {
-    let a = pair(ok, b"block-size", record::block_size_of(r) as u64);
-    let b = pair(a, b"segments", record::count_of(r) as u64);
+    let a = pair(
+        ok,
+        b"block-size",
+        items::block_size(items::head_of(r)) as u64,
+    );
+    let b = pair(a, b"segments", items::count_of(r) as u64);
     let c = segments(b, true, r);
     let d = pair(c, b"allocated", allocated(look, r));
     let e = pair(d, b"free-runs", run_count(look, r));
@@ -291,11 +295,11 @@ fn people_content(ok: bool, look: Look, columns: u64, r: &[u8]) -> bool {
     let a = amount(
         ok,
         Text::new().add(b"block     "),
-        record::block_size_of(r) as u64,
+        items::block_size(items::head_of(r)) as u64,
     );
     let c = facts::add_count(
         Text::new().add(b"used      "),
-        record::count_of(r) as u64,
+        items::count_of(r) as u64,
         b"segment",
     );
     let b = amount(a, c.add(b", "), allocated(look, r));

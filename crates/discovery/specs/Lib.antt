@@ -3,3 +3,4 @@ pub mod Copy
 pub mod Discovery
 pub mod Newest
 pub mod Survey
+pub mod Answers

@@ -8,7 +8,7 @@ use lib.Dec.{leb, eqb, lit<, lit≤}
 use lib.ListN.{length, replicate}
 use Rattle.endian.specs.Bytes.{le, window, all, zeros}
 use Rattle.endian.proofs.Tests.{and-both, length-zeros}
-use Rattle.refusal.specs.Tests.{AllHold}
+use Rattle.refusal.specs.Tests.{first, AllHold}
 use Rattle.refusal.proofs.Order.{first-zero, first-all}
 use Rattle.layout.specs.declared.Device.{Device}
 use Rattle.layout.specs.declared.Side.{Side}
@@ -19,9 +19,11 @@ use Rattle.layout.proofs.Laws.{length-test}
 use Rattle.block.specs.declared.Time.{Time}
 use Rattle.block.specs.Entry.{laterThan}
 use Rattle.block.specs.Block.{isHex}
-use Rattle.record.specs.Search.{every, least}
-use Rattle.record.specs.Items.{itemOf, headBytes, blockSize, headRight, count}
-use Rattle.record.specs.Accept.{wellFormed, allInRange, earlierOf, apart, contentTests}
+use Rattle.items.specs.declared.Head.the-variants.{Plain}
+use Rattle.items.specs.Making.{recordOf}
+use Rattle.items.proofs.Heads.{plain-right}
+use Rattle.record.specs.Accept.{contentTests}
+use Rattle.record.proofs.Right.{right-empty, accepted-made, accepted-content}
 use Rattle.discovery.specs.declared.Answer.{Answer}
 use Rattle.discovery.specs.Discovery.{sized, inStep, copyOn}
 use Rattle.device.specs.Device.{copyFrom}
@@ -66,26 +68,11 @@ starting f b v p u t r ts vs e t' r' fits ns later content =
 
 -- a record with no segments, of data blocks of 128 sectors, is accepted on any device
 abbrev emptyRecord : List ℕ
-emptyRecord = 8 ∷ 0 ∷ 16 ∷ 0 ∷ 128 ∷ 0 ∷ 0 ∷ 0 ∷ []
+emptyRecord = recordOf (Plain 128) []
 
-empty-long : lengthAllowed (length emptyRecord) ≡ true
-unfolding recordLimit
-empty-long = length-test (length emptyRecord) (lit≤ tt) (lit≤ tt)
-
-empty-formed : wellFormed emptyRecord ≡ true
-unfolding wellFormed headBytes headRight blockSize itemOf count every le window
-empty-formed = refl
-
-empty-in-range : (v : Device) → allInRange v emptyRecord ≡ true
-unfolding allInRange every count headBytes
-empty-in-range v = refl
-
-empty-apart : apart emptyRecord ≡ true
-unfolding apart earlierOf least count headBytes
-empty-apart = refl
-
-empty-accepted : (v : Device) → AllHold (contentTests v emptyRecord)
-empty-accepted v = (empty-long, (empty-formed, (empty-in-range v, (empty-apart, tt))))
+empty-accepted : (v : Device) → first (deviceTests v) ≡ 0 → v .sectors < 2 ^ 64 → AllHold (contentTests v emptyRecord)
+empty-accepted v e vs =
+    accepted-content v emptyRecord (accepted-made v (Plain 128) [] vs (right-empty v (Plain 128) e (plain-right v 128 refl)))
 
 -- a UUID of digits 0
 abbrev zeroUuid : List ℕ
@@ -95,7 +82,7 @@ uuid-hex : all isHex zeroUuid && all isHex zeroUuid ≡ true
 unfolding all
 uuid-hex = refl
 
-module _ (v : Device) (a : AllHold (deviceTests v)) where
+module _ (v : Device) (a : AllHold (deviceTests v)) (vs : v .sectors < 2 ^ 64) where
   empty-taken : formatNumber (zeros copyBytes) (zeros copyBytes) v zeroUuid zeroUuid (record { seconds = 0; nanoseconds = 0 }) emptyRecord ≡ 0
   unfolding formatNumber
   empty-taken =
@@ -103,7 +90,7 @@ module _ (v : Device) (a : AllHold (deviceTests v)) where
       first-all (formatTests (zeros copyBytes) (zeros copyBytes) v zeroUuid zeroUuid (record { seconds = 0; nanoseconds = 0 }) emptyRecord) (
         and-both (sized (zeros copyBytes) (zeros copyBytes)) true
             (and-both (eqb (length (zeros copyBytes)) copyBytes) (eqb (length (zeros copyBytes)) copyBytes) n n) refl,
-        (a .0, (uuid-hex, (a .1 .0, (a .1 .1 .0, (refl, empty-accepted v))))),
+        (a .0, (uuid-hex, (a .1 .0, (a .1 .1 .0, (refl, empty-accepted v (first-all (deviceTests v) a) vs))))),
       )
 
 pub possible : Possible
@@ -116,8 +103,8 @@ possible v e vs =
         record { seconds = 1; nanoseconds = 0 },
         (
           emptyRecord,
-          starting (zeros copyBytes) (zeros copyBytes) v zeroUuid zeroUuid (record { seconds = 0; nanoseconds = 0 }) emptyRecord (lit< tt) vs (empty-taken v a)
-              (record { seconds = 1; nanoseconds = 0 }) emptyRecord (lit< tt) refl refl (empty-accepted v),
+          starting (zeros copyBytes) (zeros copyBytes) v zeroUuid zeroUuid (record { seconds = 0; nanoseconds = 0 }) emptyRecord (lit< tt) vs (empty-taken v a vs)
+              (record { seconds = 1; nanoseconds = 0 }) emptyRecord (lit< tt) refl refl (empty-accepted v e vs),
         ),
       ),
     )

@@ -1,11 +1,11 @@
 -- Laws of heads and kinds: what callers know of them without looking inside. Assumes nothing.
-use Prim.Native.Nat.{ℕ, _+_, _-_, _*_, _/_, _^_, _≤_, _<_}
+use Prim.Native.Nat.{ℕ, _+_, _-_, _*_, _/_, _%_, _^_, _≤_, _<_}
 use mathlib.Core.Path.{_≡_, refl, sym, ap, _∙_}
-use mathlib.Core.Bool.{Bool, true, false, true≢false}
+use mathlib.Core.Bool.{Bool, true, false, _&&_, true≢false}
 use mathlib.Core.List.{List, [], _++_, append-assoc}
 use native.Mathlib.Decide.{decLt}
 use native.Mathlib.Omega.{arith}
-use borrow.Author.Tests.{ne-eqb}
+use borrow.Author.Tests.{ne-eqb, leb-true}
 use lib.Dec.{lit<, leb, eqb}
 use lib.ListN.{length, length-append, take, drop}
 use lib.Seq.{take-at, drop-at}
@@ -19,7 +19,7 @@ use Rattle.items.specs.declared.Item.{Item}
 use Rattle.items.specs.declared.Item.the-variants as Item
 use Rattle.items.specs.declared.Head.{Head}
 use Rattle.items.specs.declared.Head.the-variants.{Plain, Unknown}
-use Rattle.items.specs.Head.{itemOf, isSegment, headAs, headOf, headBytes, headSize, headAllowed, headRight, allows, itemBytes, mostSegments, mostOfAny}
+use Rattle.items.specs.Head.{itemOf, isSegment, headAs, headOf, headBytes, headSize, blockSizeAllowed, headAllowed, headRight, allows, itemBytes, dataRange, rangeFor, mostSegments, mostOfAny}
 
 -- a number that is none of the known kinds
 pub item-unknown : (k : ℕ) → (k ≡ 1 → ⊥) → (k ≡ 2 → ⊥) → (k ≡ 3 → ⊥) → (k ≡ 4 → ⊥) → (k ≡ 16 → ⊥) → itemOf k ≡ Item.Unknown
@@ -115,3 +115,28 @@ pub right-allowed : (d : Device) (h : Head) → headRight d h ≡ true → headA
 unfolding headRight
 right-allowed d (Plain b) r = r
 right-allowed d Unknown r = absurd (true≢false (sym r))
+
+-- it is known, and its numbers have room in its fields
+pub right-fits : (d : Device) (h : Head) → headRight d h ≡ true → HeadFits h
+unfolding headRight headAllowed
+right-fits d (Plain b) r =
+    let l : b ≤ 2097152 = leb-true b 2097152 (and-right (leb 128 b) (leb b 2097152) (and-right (eqb (b % 128) 0) (leb 128 b && leb b 2097152) r)) in
+    (let k : b < 4294967296 = omega arith in k)
+right-fits d Unknown r = absurd (true≢false (sym r))
+
+-- today every kind may lie in the whole data range
+pub one-range : (d : Device) (h : Head) (k : ℕ) → headRight d h ≡ true → rangeFor d h k ≡ dataRange d
+unfolding rangeFor headRight
+one-range d (Plain b) k r = refl
+one-range d Unknown k r = absurd (true≢false (sym r))
+
+-- it has bytes
+pub right-some : (d : Device) (h : Head) → headRight d h ≡ true → 1 ≤ headSize h
+unfolding headRight headSize
+right-some d (Plain b) r = omega arith
+right-some d Unknown r = absurd (true≢false (sym r))
+
+-- a head of kind 16 with a block size that is allowed is right on every device
+pub plain-right : (d : Device) (b : ℕ) → blockSizeAllowed b ≡ true → headRight d (Plain b) ≡ true
+unfolding headRight headAllowed
+plain-right d b r = r

@@ -391,3 +391,26 @@ removed-is d s p b w t =
 pub length-appended : (s : List ℕ) (g : Segment) → length (appended s g) ≡ length s + itemBytes
 unfolding appended
 length-appended s g = length-append s (segmentBytes g) ∙ ap (λ (z : ℕ). length s + z) (length-segment g)
+
+-- laid over the start of a buffer in two parts
+pub appended-laid : (out s : List ℕ) (g : Segment) → length s + itemBytes ≤ length out
+    → splice (splice out 0 s) (length s) (segmentBytes g) ≡ splice out 0 (appended s g)
+unfolding appended
+appended-laid out s g l =
+    let u : length (segmentBytes g) ≡ 20 = length-segment g in
+    splice-next out 0 s (segmentBytes g) (length s) (omega arith) (omega arith)
+
+pub removed-laid : (out s : List ℕ) (p : ℕ) → place s p + itemBytes ≤ length s → length s - itemBytes ≤ length out
+    → splice (splice out 0 (take (place s p) s)) (place s p) (drop (place s p + itemBytes) s) ≡ splice out 0 (removed s p)
+unfolding removed
+removed-laid out s p l m =
+    let t : length (take (place s p) s) ≡ place s p = length-take-le (place s p) s (omega arith) in
+    let u : length (drop (place s p + 20) s) ≡ length s - (place s p + 20) = length-drop (place s p + 20) s in
+    splice-next out 0 (take (place s p) s) (drop (place s p + 20) s) (place s p) (omega arith) (omega arith)
+
+-- an item of a well-formed record is there with all its bytes
+pub place-inside : (d : Device) (s : List ℕ) (p : ℕ) → wellFormed d s ≡ true → p < length (segments s) → place s p + itemBytes ≤ length s
+unfolding place
+place-inside d s p w l =
+    let f : length s ≡ headSize (headOf s) + itemBytes * length (segments s) = formed d s w .bytes in
+    omega arith

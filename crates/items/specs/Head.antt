@@ -76,9 +76,13 @@ unfoldable pub allows : Head → ℕ → Bool
 allows (Plain b) k = isSegment (itemOf k)
 allows Unknown k = false
 
--- the range that a segment of kind k may lie in: the data range
+-- the data range
+abbrev pub dataRange : Device → Range
+dataRange d = record { start = dataStart d; end = dataEnd d }
+
+-- the range that a segment of kind k may lie in
 unfoldable pub rangeFor : Device → Head → ℕ → Range
-rangeFor d (Plain b) k = record { start = dataStart d; end = dataEnd d }
+rangeFor d (Plain b) k = dataRange d
 rangeFor d Unknown k = record { start = 0; end = 0 }
 
 -- the bytes of a segment's item

@@ -1,3 +1,4 @@
 -- What the contracts of `layout` cite.
 pub mod Limits
 pub mod Places
+pub mod Answers

@@ -1,1 +1,2 @@
 -- The laws that callers cite.
+pub mod Ordering

@@ -1,11 +1,8 @@
 -- The laws that callers cite.
-pub mod Order
-pub mod Search
-pub mod Items
-pub mod Accept
-pub mod Making
-pub mod Meaning
-pub mod Partition
-pub mod RoundTrip
+pub mod Testing
+pub mod Accepted
+pub mod Checking
+pub mod Handing
+pub mod Right
 pub mod Change
-pub mod Ascending
+pub mod Demand

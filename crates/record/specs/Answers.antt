@@ -1,47 +1,120 @@
--- What the calls answer, by the number of the first test that fails: document 01's number, or the values. Assumes nothing.
-use Prim.Native.Nat.{ℕ}
-use mathlib.Core.Bool.{cond}
+-- What the calls answer: document 01's number, and the values, for each case of an answer. Assumes nothing.
+use Prim.Native.Nat.{ℕ, _-_, _*_, _/_, min}
+use mathlib.Core.Bool.{cond, _||_}
 use mathlib.Core.List.{List, [], _∷_, _++_}
-use lib.Dec.{ltb, eqb}
-use Rattle.refusal.specs.Numbers.{noSegment}
+use lib.Dec.{leb, ltb, eqb}
+use lib.ListN.{length, take, drop}
+use Rattle.refusal.specs.Numbers.{noSegment, recordLength, sliceSize}
 use Rattle.refusal.specs.Tests.{Test, _or_, first}
 use Rattle.layout.specs.declared.Device.{Device}
-use Rattle.record.specs.declared.Segment.{Segment}
-use Rattle.record.specs.declared.Clash.{Clash}
-use Rattle.record.specs.declared.Clash.the-variants.{Pair, Nothing}
+use Rattle.layout.specs.Limits.{lengthAllowed}
+use Rattle.segments.specs.declared.Segment.{Segment}
+use Rattle.segments.specs.Segments.{nth}
+use Rattle.items.specs.declared.Head.{Head}
+use Rattle.items.specs.Head.{headOf, blockSize}
+use Rattle.items.specs.Items.{segments}
+use Rattle.items.specs.Making.{unless}
+use Rattle.order.specs.declared.Clash.{Clash}
+use Rattle.order.specs.declared.Clash.the-variants as Clash
+use Rattle.order.specs.Ordering.{firstClash}
+use Rattle.record.specs.declared.Clashes.{Clashes}
+use Rattle.record.specs.declared.Clashes.the-variants as Clashes
 use Rattle.record.specs.declared.Found.{Found}
-use Rattle.record.specs.declared.Found.the-variants.{At as FoundAt, Refused as FoundRefused}
+use Rattle.record.specs.declared.Found.the-variants as Found
 use Rattle.record.specs.declared.Counted.{Counted}
-use Rattle.record.specs.declared.Counted.the-variants.{Segments as CountedSegments, Refused as CountedRefused}
+use Rattle.record.specs.declared.Counted.the-variants as Counted
 use Rattle.record.specs.declared.Heading.{Heading}
-use Rattle.record.specs.declared.Heading.the-variants.{BlockSize as HeadingBlockSize, Refused as HeadingRefused}
-use Rattle.record.specs.Items.{count, blockSize, segmentAt}
-use Rattle.record.specs.Accept.{recordTests, earlierOf, laterOf}
+use Rattle.record.specs.declared.Heading.the-variants as Heading
+use Rattle.record.specs.Accept.{recordTests}
 
--- the two segments that clash: the lowest position that clashes with a later one, and the lowest such later position
-unfoldable pub firstClash : List ℕ → Clash
-firstClash s = cond (ltb (earlierOf s) (count s)) (Pair (earlierOf s) (laterOf s (earlierOf s))) Nothing
+-- the first two segments that share a sector, of a record of any content; 15 for a length that no record has
+abbrev pub lengthTests : List ℕ → List Test
+lengthTests s = (lengthAllowed (length s) or recordLength) ∷ []
 
--- the segment at position p, counted from 0
-abbrev pub found : ℕ → Segment → Found
-found n g = cond (eqb n 0) (FoundAt g) (FoundRefused n)
+abbrev pub clashAnswer : List ℕ → Clashes
+clashAnswer s = cond (eqb (first (lengthTests s)) 0) (Clashes.First (firstClash (segments s))) (Clashes.Refused (first (lengthTests s)))
 
+abbrev pub pairOf : Clash → List ℕ
+pairOf (Clash.Pair i j) = i ∷ j ∷ []
+pairOf Clash.Nothing = []
+
+abbrev pub clashNumber : Clashes → ℕ
+clashNumber (Clashes.First c) = 0
+clashNumber (Clashes.Refused n) = n
+
+abbrev pub clashValues : Clashes → List ℕ
+clashValues (Clashes.First c) = pairOf c
+clashValues (Clashes.Refused n) = []
+
+-- the segment at position p, counted from 0: its kind, start and length
 abbrev pub positionTests : List ℕ → ℕ → List Test
-positionTests s p = (ltb p (count s) or noSegment) ∷ []
+positionTests s p = (ltb p (length (segments s)) or noSegment) ∷ []
+
+abbrev pub found : ℕ → Segment → Found
+found n g = cond (eqb n 0) (Found.At g) (Found.Refused n)
 
 abbrev pub segmentAnswer : Device → List ℕ → ℕ → Found
-segmentAnswer d s p = found (first (recordTests d s ++ positionTests s p)) (segmentAt s p)
+segmentAnswer d s p = found (first (recordTests d s ++ positionTests s p)) (nth (segments s) p)
+
+abbrev pub foundNumber : Found → ℕ
+foundNumber (Found.At g) = 0
+foundNumber (Found.Refused n) = n
+
+abbrev pub segmentValues : Segment → List ℕ
+segmentValues g = g .kind ∷ g .start ∷ g .sectors ∷ []
+
+abbrev pub foundValues : Found → List ℕ
+foundValues (Found.At g) = segmentValues g
+foundValues (Found.Refused n) = []
 
 -- the number of segments
 abbrev pub counted : ℕ → ℕ → Counted
-counted n k = cond (eqb n 0) (CountedSegments k) (CountedRefused n)
+counted n k = cond (eqb n 0) (Counted.Segments k) (Counted.Refused n)
 
 abbrev pub countAnswer : Device → List ℕ → Counted
-countAnswer d s = counted (first (recordTests d s)) (count s)
+countAnswer d s = counted (first (recordTests d s)) (length (segments s))
 
--- the head's block size
-abbrev pub heading : ℕ → ℕ → Heading
-heading n b = cond (eqb n 0) (HeadingBlockSize b) (HeadingRefused n)
+abbrev pub countedNumber : Counted → ℕ
+countedNumber (Counted.Segments k) = 0
+countedNumber (Counted.Refused n) = n
+
+abbrev pub countedValues : Counted → List ℕ
+countedValues (Counted.Segments k) = k ∷ []
+countedValues (Counted.Refused n) = []
+
+-- the head
+abbrev pub heading : ℕ → Head → Heading
+heading n h = cond (eqb n 0) (Heading.Of h) (Heading.Refused n)
 
 abbrev pub headAnswer : Device → List ℕ → Heading
-headAnswer d s = heading (first (recordTests d s)) (blockSize s)
+headAnswer d s = heading (first (recordTests d s)) (headOf s)
+
+abbrev pub headingNumber : Heading → ℕ
+headingNumber (Heading.Of h) = 0
+headingNumber (Heading.Refused n) = n
+
+abbrev pub headingValues : Heading → List ℕ
+headingValues (Heading.Of h) = blockSize h ∷ []
+headingValues (Heading.Refused n) = []
+
+-- The segments from position p on, as many as a table of w numbers has room for, three for each. None where there is none left; 1,
+-- last, where there are some and there is room for none.
+unfoldable pub handedOn : List ℕ → ℕ → ℕ → ℕ
+handedOn s p w = min (w / 3) (length (segments s) - p)
+
+abbrev pub someRoom : List ℕ → ℕ → ℕ → List Test
+someRoom s p w = ((leb (length (segments s)) p || leb 3 w) or sliceSize) ∷ []
+
+abbrev pub segmentsAnswer : Device → List ℕ → ℕ → ℕ → Counted
+segmentsAnswer d s p w = counted (first (recordTests d s ++ someRoom s p w)) (handedOn s p w)
+
+unfoldable pub allValues : List Segment → List ℕ
+allValues [] = []
+allValues (g ∷ gs) = g .kind ∷ g .start ∷ g .sectors ∷ allValues gs
+
+-- the table afterwards; the numbers past those segments stay
+abbrev pub segmentsLeft : Device → List ℕ → ℕ → List ℕ → List ℕ
+segmentsLeft d s p t =
+    unless (first (recordTests d s ++ someRoom s p (length t)))
+    (allValues (take (handedOn s p (length t)) (drop p (segments s))) ++ drop (3 * handedOn s p (length t)) t)
+    t

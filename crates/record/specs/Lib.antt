@@ -1,8 +1,5 @@
--- What the contracts of `record` cite.
-pub mod Search
-pub mod Items
+-- What the contracts of `record` cite, and what is claimed of it.
 pub mod Accept
-pub mod Answers
-pub mod Making
 pub mod Sectors
-pub mod Ascending
+pub mod Answers
+pub mod Demand

@@ -1,15 +1,16 @@
 // Runs document 01's printed record, its examples 9 to 11, and records and requests that are refused, and prints a line
 // each. The file stdout beside src/ has what must be printed. Assumes what `io` and `libc` do.
+use items::Head;
 use layout::Device;
 use record::Counted;
 use record::Found;
 use record::Heading;
-use record::Segment;
 use room::Allocation;
 use room::FreeTotal;
 use room::Released;
 use room::RunFound;
 use room::RunNumber;
+use segments::Segment;
 ghost use Prim.Native.Nat.{_≤_};
 
 const OUT: i32 = 1;
@@ -53,35 +54,41 @@ fn device() -> Device {
     }
 }
 
+// Lays a segment into a record.
+fn lay(s: &mut [u8], position: usize, g: Segment) {
+    let at = items::place_in(s, position);
+    items::put_segment(s, at, g);
+}
+
 // A record with one segment.
 fn one(kind: u16, start: u64, sectors: u64) -> [u8; 28] {
     let mut s = [0u8; 28];
-    record::begin(&mut s, 128);
+    items::begin(&mut s, Head::Plain(128));
     let g = Segment {
         kind,
         start,
         sectors,
     };
-    record::put_segment(&mut s, 0, g);
+    lay(&mut s, 0, g);
     s
 }
 
 // A record with two data segments.
 fn two(start: u64, sectors: u64, start2: u64, sectors2: u64) -> [u8; 48] {
     let mut s = [0u8; 48];
-    record::begin(&mut s, 128);
+    items::begin(&mut s, Head::Plain(128));
     let a = Segment {
         kind: 2,
         start,
         sectors,
     };
-    record::put_segment(&mut s, 0, a);
+    lay(&mut s, 0, a);
     let b = Segment {
         kind: 2,
         start: start2,
         sectors: sectors2,
     };
-    record::put_segment(&mut s, 1, b);
+    lay(&mut s, 1, b);
     s
 }
 
@@ -101,8 +108,9 @@ fn check(what: &[u8], s: &[u8]) {
 fn head(s: &[u8]) {
     name(b"block size");
     match record::read_head(device(), s) {
-        Heading::BlockSize(b) => {
-            number(b as u64);
+        Heading::Of(h) => {
+            let size = items::block_size(h);
+            number(size as u64);
             end();
         }
         Heading::Refused(n) => refused(n),
@@ -303,15 +311,15 @@ fn refuse_release(s: &[u8]) {
 fn heads() {
     let mut out = [0u8; 8];
     name(b"begin with 64");
-    number(record::begin(&mut out, 64) as u64);
+    number(items::begin(&mut out, Head::Plain(64)) as u64);
     end();
     let mut more = [0u8; 8];
     name(b"begin with 2097280");
-    number(record::begin(&mut more, 2097280) as u64);
+    number(items::begin(&mut more, Head::Plain(2097280)) as u64);
     end();
     let mut small = [0u8; 7];
     name(b"begin in 7 bytes");
-    number(record::begin(&mut small, 128) as u64);
+    number(items::begin(&mut small, Head::Plain(128)) as u64);
     end();
 }
 
@@ -341,7 +349,7 @@ fn fill(out: &mut [u8], n: usize)
             start,
             sectors: 1,
         };
-        record::put_segment(out, i, g);
+        lay(out, i, g);
         start += 1;
         i += 1;
     }
@@ -350,7 +358,7 @@ fn fill(out: &mut [u8], n: usize)
 // A record of 409 segments takes none more; one of 410 is too long.
 fn full() {
     let mut s = io::large_buffer();
-    record::begin(&mut s, 128);
+    items::begin(&mut s, Head::Plain(128));
     fill(&mut s, 410);
     let most = endian::window(&s, 0, 8188);
     check(b"409 segments", most);
@@ -363,14 +371,14 @@ fn full() {
 // 409 segments that fill the data range to its last sector: no free room, and no place for one more.
 fn filled() {
     let mut s = io::large_buffer();
-    record::begin(&mut s, 128);
+    items::begin(&mut s, Head::Plain(128));
     fill(&mut s, 408);
     let last = Segment {
         kind: 3,
         start: 2456,
         sectors: 2092648,
     };
-    record::put_segment(&mut s, 408, last);
+    lay(&mut s, 408, last);
     let r = endian::window(&s, 0, 8188);
     check(b"409 segments to the last sector", r);
     free(r);

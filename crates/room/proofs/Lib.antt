@@ -1,10 +1,9 @@
 -- The laws that callers cite.
-pub mod Runs
-pub mod Ordered
-pub mod Fitting
-pub mod Answers
-pub mod Change
-pub mod Table
-pub mod Walk
-pub mod Meaning
-pub mod Grants
+pub mod Walking
+pub mod Tables
+pub mod Hand
+pub mod Finding
+pub mod Allowed
+pub mod Calls
+pub mod Leaving
+pub mod Demand

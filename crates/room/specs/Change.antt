@@ -8,25 +8,32 @@ use Rattle.refusal.specs.Numbers.{sliceSize, recordForm, segmentPlace, noRoom, 
 use Rattle.refusal.specs.Tests.{Test, _or_, first}
 use Rattle.endian.specs.Bytes.{splice}
 use Rattle.layout.specs.declared.Device.{Device}
-use Rattle.record.specs.declared.Segment.{Segment}
-use Rattle.record.specs.Items.{headBytes, itemBytes, kindKnown, count}
-use Rattle.record.specs.Accept.{recordTests, mostSegments}
+use Rattle.segments.specs.declared.Segment.{Segment}
+use Rattle.runs.specs.declared.Run.{Run}
+use Rattle.runs.specs.Runs.{fitOf, fitting}
+use Rattle.items.specs.Head.{headOf, allows, rangeFor, itemBytes, mostSegments}
+use Rattle.items.specs.Items.{segments}
+use Rattle.items.specs.Making.{unless, appended, removed}
+use Rattle.record.specs.Accept.{recordTests}
 use Rattle.record.specs.Answers.{positionTests}
-use Rattle.record.specs.Making.{unless, appended, removed}
 use Rattle.room.specs.declared.Allocation.{Allocation}
-use Rattle.room.specs.declared.Allocation.the-variants.{Placed, Refused as AllocationRefused}
+use Rattle.room.specs.declared.Allocation.the-variants as Allocation
 use Rattle.room.specs.declared.Released.{Released}
-use Rattle.room.specs.declared.Released.the-variants.{Length, Refused as ReleasedRefused}
-use Rattle.room.specs.Runs.{runAt, fitAt, fitting}
+use Rattle.room.specs.declared.Released.the-variants as Released
+use Rattle.room.specs.Answers.{freeRuns}
+
+-- the free runs of the range that a segment of kind k may lie in
+abbrev pub runsFor : Device → List ℕ → ℕ → List Run
+runsFor d s k = freeRuns (rangeFor d (headOf s) k) (segments s)
 
 -- allocation: its record, then its own kind and count, then whether the record is full, then the room for it;
 -- 1 for too little room, last, where w bytes are lent
 abbrev pub ownTests : Device → List ℕ → ℕ → ℕ → ℕ → List Test
 ownTests d s k m w =
-    (kindKnown k or recordForm)
+    (allows (headOf s) k or recordForm)
     ∷ (leb 1 m or segmentPlace)
-    ∷ (ltb (count s) (mostSegments (headBytes s)) or recordFull)
-    ∷ (fitting d s m or noRoom)
+    ∷ (ltb (length (segments s)) (mostSegments (headOf s)) or recordFull)
+    ∷ (fitting m (runsFor d s k) or noRoom)
     ∷ (leb (length s + itemBytes) w or sliceSize)
     ∷ []
 
@@ -35,16 +42,25 @@ allocateTests d s k m w = recordTests d s ++ ownTests d s k m w
 
 -- the segment that is given: m sectors from the start of the free run of lowest start that is long enough
 abbrev pub given : Device → List ℕ → ℕ → ℕ → Segment
-given d s k m = record { kind = k; start = runAt d s (fitAt d s m) .start; sectors = m }
+given d s k m = record { kind = k; start = fitOf m (runsFor d s k) .start; sectors = m }
 
 abbrev pub allocation : ℕ → ℕ → ℕ → Allocation
-allocation n start len = cond (eqb n 0) (Placed start len) (AllocationRefused n)
+allocation n start len = cond (eqb n 0) (Allocation.Placed start len) (Allocation.Refused n)
 
+-- the new segment's first sector, and the new record's length
 abbrev pub allocateAnswer : Device → List ℕ → ℕ → ℕ → ℕ → Allocation
 allocateAnswer d s k m w = allocation (first (allocateTests d s k m w)) (given d s k m .start) (length s + itemBytes)
 
 abbrev pub allocateLeft : Device → List ℕ → ℕ → ℕ → List ℕ → List ℕ
 allocateLeft d s k m out = unless (first (allocateTests d s k m (length out))) (splice out 0 (appended s (given d s k m))) out
+
+abbrev pub allocationNumber : Allocation → ℕ
+allocationNumber (Allocation.Placed start len) = 0
+allocationNumber (Allocation.Refused n) = n
+
+abbrev pub allocationValues : Allocation → List ℕ
+allocationValues (Allocation.Placed start len) = start ∷ len ∷ []
+allocationValues (Allocation.Refused n) = []
 
 -- release: its record, then the position; 1 last
 abbrev pub roomTests : List ℕ → ℕ → List Test
@@ -54,10 +70,19 @@ abbrev pub releaseTests : Device → List ℕ → ℕ → ℕ → List Test
 releaseTests d s p w = recordTests d s ++ (positionTests s p ++ roomTests s w)
 
 abbrev pub released : ℕ → ℕ → Released
-released n len = cond (eqb n 0) (Length len) (ReleasedRefused n)
+released n len = cond (eqb n 0) (Released.Length len) (Released.Refused n)
 
+-- the new record's length
 abbrev pub releaseAnswer : Device → List ℕ → ℕ → ℕ → Released
 releaseAnswer d s p w = released (first (releaseTests d s p w)) (length s - itemBytes)
 
 abbrev pub releaseLeft : Device → List ℕ → ℕ → List ℕ → List ℕ
 releaseLeft d s p out = unless (first (releaseTests d s p (length out))) (splice out 0 (removed s p)) out
+
+abbrev pub releaseNumber : Released → ℕ
+releaseNumber (Released.Length len) = 0
+releaseNumber (Released.Refused n) = n
+
+abbrev pub releaseValues : Released → List ℕ
+releaseValues (Released.Length len) = len ∷ []
+releaseValues (Released.Refused n) = []

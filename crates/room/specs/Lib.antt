@@ -1,6 +1,6 @@
--- What the contracts of `room` cite.
-pub mod Runs
-pub mod Searching
+-- What the contracts of `room` cite, and what is claimed of it.
+pub mod Walking
+pub mod Tables
 pub mod Answers
 pub mod Change
-pub mod Table
+pub mod Demand

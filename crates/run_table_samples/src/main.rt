@@ -1,9 +1,10 @@
 // Fills tables of three entries with the free runs of records, and prints for each what was answered and the three entries
 // afterwards. Entry k of a table starts as (7, k). The file stdout beside src/ has what must be printed;
 // samples/runs.py makes it and shares nothing with the library. Assumes what `io` and `libc` do.
-use record::Segment;
-use room::Run;
+use items::Head;
 use room::RunNumber;
+use runs::Run;
+use segments::Segment;
 ghost use mathlib.Core.Path.{_≡_};
 ghost use lib.ListN.{length};
 ghost use Rattle.room.specs.Table.{tableAnswer, tableLeft};
@@ -92,13 +93,14 @@ fn lay(s: &mut [u8], position: usize, start: u64, sectors: u64) {
         start,
         sectors,
     };
-    record::put_segment(s, position, g);
+    let at = items::place_in(s, position);
+    items::put_segment(s, at, g);
 }
 
 // A record with one segment.
 fn one(start: u64, sectors: u64) -> [u8; 28] {
     let mut s = [0u8; 28];
-    record::begin(&mut s, 128);
+    items::begin(&mut s, Head::Plain(128));
     lay(&mut s, 0, start, sectors);
     s
 }
@@ -106,7 +108,7 @@ fn one(start: u64, sectors: u64) -> [u8; 28] {
 // A record with two segments.
 fn two(start: u64, sectors: u64, start2: u64, sectors2: u64) -> [u8; 48] {
     let mut s = [0u8; 48];
-    record::begin(&mut s, 128);
+    items::begin(&mut s, Head::Plain(128));
     lay(&mut s, 0, start, sectors);
     lay(&mut s, 1, start2, sectors2);
     s
@@ -115,7 +117,7 @@ fn two(start: u64, sectors: u64, start2: u64, sectors2: u64) -> [u8; 48] {
 // A record with three segments of ten sectors.
 fn three(start: u64, start2: u64, start3: u64) -> [u8; 68] {
     let mut s = [0u8; 68];
-    record::begin(&mut s, 128);
+    items::begin(&mut s, Head::Plain(128));
     lay(&mut s, 0, start, 10);
     lay(&mut s, 1, start2, 10);
     lay(&mut s, 2, start3, 10);
@@ -125,7 +127,7 @@ fn three(start: u64, start2: u64, start3: u64) -> [u8; 68] {
 // A record with three segments that leave four runs, and a fourth one.
 fn four(start: u64, sectors: u64) -> [u8; 88] {
     let mut s = [0u8; 88];
-    record::begin(&mut s, 128);
+    items::begin(&mut s, Head::Plain(128));
     lay(&mut s, 0, 3000, 10);
     lay(&mut s, 1, 4000, 10);
     lay(&mut s, 2, 5000, 10);
@@ -136,7 +138,7 @@ fn four(start: u64, sectors: u64) -> [u8; 88] {
 // Tables with more room than runs, and with exactly enough.
 fn enough() {
     let mut head = [0u8; 8];
-    record::begin(&mut head, 128);
+    items::begin(&mut head, Head::Plain(128));
     show(b"no segments", &head);
     show(b"no free sector", &one(2048, 2093056));
     show(b"the first sector free", &one(2049, 2093055));

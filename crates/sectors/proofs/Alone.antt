@@ -23,8 +23,8 @@ use Rattle.block.specs.Accepted.{Accepted, Within}
 use Rattle.block.specs.Block.{fieldsOf, reading}
 use Rattle.block.specs.Writing.{holdingOf}
 use Rattle.block.proofs.Demand.{exactly}
-use Rattle.record.specs.Search.{every}
-use Rattle.record.proofs.Search.{every-at, every-all, every-false}
+use Rattle.search.specs.Search.{every}
+use Rattle.search.proofs.Search.{every-at, every-all, every-false}
 use Rattle.discovery.specs.declared.Present.the-variants.{Nothing, At}
 use Rattle.discovery.specs.Copy.{blockIn, areaBytes, entryIn, otherArea, wholeEntry, whole, newest, presentFrom, present, readingIn}
 use Rattle.discovery.proofs.Latest.{present-latest}

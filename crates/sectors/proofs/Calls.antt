@@ -17,7 +17,7 @@ use Rattle.layout.specs.Places.{headerSector, areaSector}
 use Rattle.block.specs.declared.Entry.{Entry}
 use Rattle.block.specs.declared.BlockFields.{BlockFields}
 use Rattle.block.specs.declared.Reading.{Reading}
-use Rattle.record.specs.Search.{every}
+use Rattle.search.specs.Search.{every}
 use Rattle.discovery.specs.Copy.{entryIn, readingIn}
 use Rattle.device.specs.Device.{areaSectors}
 use Rattle.sectors.specs.Sectors.{copySectors, areaStart, byPart, below, placeOf, sectorAt, named, namedIn, mattersFor, newestWhole, matters, isRead, passes, known}

@@ -13,7 +13,7 @@ use Rattle.block.specs.declared.BlockFields.{BlockFields}
 use Rattle.block.specs.declared.Verdict.{Verdict}
 use Rattle.block.specs.declared.Verdict.the-variants as Verdict
 use Rattle.block.specs.Writing.{holdingOf}
-use Rattle.record.proofs.Search.{and-false-right}
+use Rattle.search.proofs.Search.{and-false-right}
 use Rattle.discovery.specs.Copy.{entryIn, otherArea, whole, newest, readingIn}
 use Rattle.device.specs.Device.{areaSectors}
 use Rattle.sectors.specs.Sectors.{copySectors, areaStart, named, namedIn, mattersFor, newestWhole, matters}

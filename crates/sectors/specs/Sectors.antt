@@ -16,7 +16,7 @@ use Rattle.block.specs.declared.Entry.the-variants.{Unused, Used}
 use Rattle.block.specs.declared.BlockFields.{BlockFields}
 use Rattle.block.specs.declared.Verdict.{Verdict}
 use Rattle.block.specs.declared.Verdict.the-variants as Verdict
-use Rattle.record.specs.Search.{every}
+use Rattle.search.specs.Search.{every}
 use Rattle.discovery.specs.Copy.{entryIn, otherArea, whole, newest, readingIn}
 use Rattle.device.specs.Device.{areaSectors}
 

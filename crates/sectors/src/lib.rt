@@ -5,7 +5,7 @@ ghost use mathlib.Core.Path.{_≡_};
 ghost use Prim.Native.Nat.{_+_, _*_, _≤_, _<_};
 ghost use Rattle.device.specs.Device.{areaSectors};
 ghost use Rattle.layout.specs.Places.{headerSector};
-ghost use Rattle.record.specs.Search.{every};
+ghost use Rattle.search.specs.Search.{every};
 ghost use Rattle.sectors.specs.Sectors.{copySectors, areaStart, below, sectorAt, named, namedIn, mattersFor, newestWhole, matters, isRead, passes, known, settled};
 use block::BlockFields;
 use block::Entry;

@@ -16,10 +16,10 @@ use Rattle.search.proofs.Search.{and-false-left, and-false-right, not-true-fals
 use Rattle.search.proofs.Sums.{total-none, total-add, total-within}
 use Rattle.segments.specs.declared.Segment.{Segment}
 use Rattle.segments.specs.declared.Range.{Range}
-use Rattle.segments.specs.Segments.{nth, endOf, holds}
-use Rattle.segments.specs.Sectors.{heldBy, isFree, allocated, freeSectors}
+use Rattle.segments.specs.Segments.{nth, endOf, holds, InRange}
+use Rattle.segments.specs.Sectors.{heldBy, isFree, allocated, freeSectors, Holder}
 use Rattle.segments.specs.Clash.{apart}
-use Rattle.segments.proofs.Segments.{InRange, Apart, apart-holds, meets-not, not-meets, not-holds-low, not-holds-high}
+use Rattle.segments.proofs.Segments.{Apart, apart-holds, meets-not, not-meets, not-holds-low, not-holds-high}
 use Rattle.segments.proofs.Clash.{apart-all, all-apart}
 
 -- in how many segments a sector is
@@ -261,12 +261,6 @@ counted r gs w h =
         ]
 
 -- the one segment that holds x
-pub record Holder (gs : List Segment) (x : ℕ) : Type 0 where
-  pub at : ℕ
-  pub there : at < length gs
-  pub has : holds (nth gs at) x ≡ true
-  pub only : (j : ℕ) → j < length gs → holds (nth gs j) x ≡ true → j ≡ at
-
 unfoldable pub holder : (r : Range) (gs : List Segment) → Laid r gs → (x : ℕ) → heldBy gs x ≡ 1 → Holder gs x
 holder r gs w x h =
     let u : (i : ℕ) × ((i < length gs) × (holds (nth gs i) x ≡ true)) = find-held gs x (omega arith) in

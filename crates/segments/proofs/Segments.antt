@@ -12,7 +12,7 @@ use Rattle.search.specs.Search.{within}
 use Rattle.search.proofs.Search.{and-false-left, and-false-right, not-true-false, both, in-within, below-within, past-within, within-low, within-high}
 use Rattle.segments.specs.declared.Segment.{Segment}
 use Rattle.segments.specs.declared.Range.{Range}
-use Rattle.segments.specs.Segments.{endOf, holds, meets, inRange}
+use Rattle.segments.specs.Segments.{endOf, holds, meets, inRange, InRange}
 
 -- a sum that the code does not take
 pub leb-shift : (a b e : ℕ) → a ≤ e → leb b (e - a) ≡ leb (a + b) e
@@ -41,12 +41,7 @@ pub range-by : (r : Range) (g : Segment) → g .start ≤ r .end
 unfolding inRange
 range-by r g h = ap (λ (z : Bool). leb (r .start) (g .start) && (leb 1 (g .sectors) && z)) (leb-shift (g .start) (g .sectors) (r .end) h)
 
--- a segment that is not empty and lies in a range
-pub record InRange (r : Range) (g : Segment) : Type 0 where
-  pub low : r .start ≤ g .start
-  pub some : 1 ≤ g .sectors
-  pub high : endOf g ≤ r .end
-
+-- in words of numbers, both ways
 pub in-range : (r : Range) (g : Segment) → inRange r g ≡ true → InRange r g
 unfolding inRange
 in-range r g h =

@@ -1,12 +1,14 @@
 -- Which sectors a list of segments holds, and which of a range are free. Assumes nothing.
-use Prim.Native.Nat.{ℕ, _+_}
-use mathlib.Core.Bool.{Bool, _&&_}
+use Prim.Native.Nat.{ℕ, _+_, _<_}
+use mathlib.Core.Path.{_≡_}
+use mathlib.Core.Bool.{Bool, true, _&&_}
 use mathlib.Core.List.{List, [], _∷_}
 use lib.Dec.{eqb}
+use lib.ListN.{length}
 use Rattle.search.specs.Search.{total, within, one}
 use Rattle.segments.specs.declared.Segment.{Segment}
 use Rattle.segments.specs.declared.Range.{Range}
-use Rattle.segments.specs.Segments.{holds}
+use Rattle.segments.specs.Segments.{nth, holds}
 
 -- in how many of the segments the sector x is
 unfoldable pub heldBy : List Segment → ℕ → ℕ
@@ -25,3 +27,10 @@ allocated (g ∷ gs) = g .sectors + allocated gs
 -- free sectors, counted as sectors of the range in no segment
 unfoldable pub freeSectors : Range → List Segment → ℕ
 freeSectors r gs = total (λ x. one (isFree r gs x)) (r .end)
+
+-- the one segment that holds x
+pub record Holder (gs : List Segment) (x : ℕ) : Type 0 where
+  pub at : ℕ
+  pub there : at < length gs
+  pub has : holds (nth gs at) x ≡ true
+  pub only : (j : ℕ) → j < length gs → holds (nth gs j) x ≡ true → j ≡ at

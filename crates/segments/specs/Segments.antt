@@ -1,5 +1,5 @@
 -- A segment, alone and beside another. Assumes nothing.
-use Prim.Native.Nat.{ℕ, _+_, max}
+use Prim.Native.Nat.{ℕ, _+_, _≤_, max}
 use mathlib.Core.Bool.{Bool, _&&_}
 use mathlib.Core.List.{List}
 use lib.Dec.{leb}
@@ -31,3 +31,9 @@ meets a b = holds a (max (a .start) (b .start)) && holds b (max (a .start) (b .s
 -- a segment is not empty and lies wholly in a range
 unfoldable pub inRange : Range → Segment → Bool
 inRange r g = leb (r .start) (g .start) && (leb 1 (g .sectors) && leb (endOf g) (r .end))
+
+-- the same in words of numbers
+pub record InRange (r : Range) (g : Segment) : Type 0 where
+  pub low : r .start ≤ g .start
+  pub some : 1 ≤ g .sectors
+  pub high : endOf g ≤ r .end

@@ -1,13 +1,12 @@
--- `record::check_in_order` meets its contract: the device numbers first, then the record. Assumes nothing.
-use Rattle.record.proofs.Ascending.{checked-no}
-use Rattle.record.proofs.Order.{check-no, check-yes}
-use Rattle.record.specs.Accept.{contentTests}
-use Rattle.record.specs.Ascending.{checked}
-use Rattle.layout.specs.declared.Device.{Device}
+-- `record::check_in_order` meets its contract. Assumes nothing.
+use Rattle.record.proofs.Checking.{checked-no}
+use Rattle.record.proofs.Testing.{check-no, check-yes}
+use Rattle.record.specs.Accept.{contentTests, checked}
 use Rattle.refusal.specs.Tests.{first}
-use mathlib.Core.List.{List}
-use mathlib.Core.Path.{refl, ap, _∙_}
+use mathlib.Core.List.{List, [], _++_}
 use Prim.Native.Nat.{ℕ}
+use mathlib.Core.Path.{_≡_, refl, ap, _∙_}
+use Rattle.layout.specs.declared.Device.{Device}
 use borrow.Author.Needs.{needs}
 use Rattle.record.proofs.check_in_order.Statement.{statement}
 use Rattle.record.proofs.check_in_order.Tie as tie
@@ -15,14 +14,14 @@ use Rattle.record.proofs.check_in_order.Tie as tie
 check-requires : tie.Need-check-requires
 check-requires c κs = search needs
 
-unordered-requires : tie.Need-unordered-requires
-unordered-requires c κs = search needs
+refused-requires : tie.Need-refused-requires
+refused-requires c κs = search needs
 
 returns : tie.Need-returns
 returns c =
     let d : Device = c .before .before .before .before .args .d in
     let s : List ℕ = c .before .before .before .before .args .s .now in
-    checked-no (c .unordered .result) (c .before .before .check .result) _ s (c .unordered .ensures) (c .before .if1 .taken)
+    checked-no (c .refused .result) (c .before .before .check .result) _ s (c .refused .ensures) (c .before .if1 .taken)
     (check-no d (contentTests d s) (c .before .before .check .result) (c .before .before .check .ensures) (c .before .if1 .taken))
 
 content-in-order-requires : tie.Need-content-in-order-requires
@@ -33,10 +32,10 @@ returns-2 c =
     let d : Device = c .before .before .before .before .args .d in
     let s : List ℕ = c .before .before .before .before .args .s .now in
     c .content-in-order .ensures
-    ∙ ap (λ (n : ℕ). checked n s (c .content-in-order .result .order .at))
+    ∙ ap (λ (n : ℕ). checked n s)
     (check-yes d (contentTests d s) (c .before .before .check .result) (first (contentTests d s)) (c .before .before .check .ensures) (c .before .if1 .left) refl)
 
 pub check-in-order-spec : {M : Type 1} → statement M
 check-in-order-spec =
     tie.close
-    (tie.spec check-requires unordered-requires returns content-in-order-requires returns-2)
+    (tie.spec check-requires refused-requires returns content-in-order-requires returns-2)

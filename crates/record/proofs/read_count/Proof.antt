@@ -1,9 +1,10 @@
 -- `record::read_count` meets its contract. Assumes nothing.
 use Rattle.refusal.proofs.Order.{answer-no, answer-yes}
-use Rattle.record.specs.Accept.{recordTests}
-use Rattle.record.specs.Items.{count}
-use Rattle.record.specs.declared.Counted.the-variants.{Segments, Refused}
 use Rattle.refusal.specs.Tests.{first}
+use Rattle.record.specs.Accept.{recordTests}
+use Rattle.items.specs.Items.{segments}
+use lib.ListN.{length}
+use Rattle.record.specs.declared.Counted.the-variants as Counted
 use mathlib.Core.Path.{ap, _∙_}
 use borrow.Author.Needs.{needs}
 use Rattle.record.proofs.read_count.Statement.{statement}
@@ -13,16 +14,15 @@ check-requires : tie.Need-check-requires
 check-requires c κs = search needs
 
 returns : tie.Need-returns
-returns c =
-    answer-no (Segments (count (c .before .before .before .args .s .now))) Refused (c .before .check .result) (first (recordTests (c .before .before .before .args .d) (c .before .before .before .args .s .now))) (c .before .check .ensures) (c .if1 .taken)
+returns c = answer-no (Counted.Segments (length (segments (c .before .before .before .args .s .now)))) Counted.Refused (c .before .check .result) (first (recordTests (c .before .before .before .args .d) (c .before .before .before .args .s .now))) (c .before .check .ensures) (c .if1 .taken)
 
 count-of-requires : tie.Need-count-of-requires
 count-of-requires c κs = search needs
 
 returns-2 : tie.Need-returns-2
 returns-2 c =
-    ap Segments (c .count-of .ensures)
-    ∙ answer-yes (Segments (count (c .before .before .before .before .args .s .now))) Refused (c .before .before .check .result) (first (recordTests (c .before .before .before .before .args .d) (c .before .before .before .before .args .s .now))) (c .before .before .check .ensures) (c .before .if1 .left)
+    ap Counted.Segments (c .count-of .ensures)
+    ∙ answer-yes (Counted.Segments (length (segments (c .before .before .before .before .args .s .now)))) Counted.Refused (c .before .before .check .result) (first (recordTests (c .before .before .before .before .args .d) (c .before .before .before .before .args .s .now))) (c .before .before .check .ensures) (c .before .if1 .left)
 
 pub read-count-spec : {M : Type 1} → statement M
 read-count-spec = tie.close (tie.spec check-requires returns count-of-requires returns-2)

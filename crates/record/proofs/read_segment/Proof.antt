@@ -1,17 +1,18 @@
 -- `record::read_segment` meets its contract. Assumes nothing.
-use Rattle.record.proofs.Order.{position-past, position-there}
 use Rattle.refusal.proofs.Order.{answer-no, answer-yes}
-use Rattle.record.proofs.Order.{more-no, more-yes}
-use Rattle.record.specs.Answers.{positionTests}
-use Rattle.record.specs.Accept.{recordTests}
-use Rattle.record.specs.Items.{count, segmentAt}
-use Rattle.record.specs.declared.Found.the-variants.{At, Refused}
-use Rattle.layout.specs.declared.Device.{Device}
+use Rattle.record.proofs.Testing.{more-no, more-yes, position-past, position-there}
 use Rattle.refusal.specs.Tests.{first}
-use native.Mathlib.Omega.{arith}
-use mathlib.Core.Path.{refl, ap, _∙_}
-use mathlib.Core.List.{List, _++_}
+use Rattle.record.specs.Accept.{recordTests}
+use Rattle.record.specs.Answers.{positionTests}
+use Rattle.items.specs.Items.{segments}
+use Rattle.segments.specs.Segments.{nth}
+use lib.ListN.{length}
+use Rattle.record.specs.declared.Found.the-variants as Found
+use mathlib.Core.List.{List, [], _++_}
 use Prim.Native.Nat.{ℕ, _≤_, _<_}
+use mathlib.Core.Path.{refl, ap, _∙_}
+use native.Mathlib.Omega.{arith}
+use Rattle.layout.specs.declared.Device.{Device}
 use borrow.Author.Needs.{needs}
 use Rattle.record.proofs.read_segment.Statement.{statement}
 use Rattle.record.proofs.read_segment.Tie as tie
@@ -21,10 +22,10 @@ check-requires c κs = search needs
 
 returns : tie.Need-returns
 returns c =
-    let s : List ℕ = c .before .before .before .args .s .now in
     let d : Device = c .before .before .before .args .d in
+    let s : List ℕ = c .before .before .before .args .s .now in
     let p : ℕ = c .before .before .before .args .position in
-    answer-no (At (segmentAt s p)) Refused (c .before .check .result) (first (recordTests d s ++ positionTests s p))
+    answer-no (Found.At (nth (segments s) p)) Found.Refused (c .before .check .result) (first (recordTests d s ++ positionTests s p))
     (more-no d s (positionTests s p) (c .before .check .result) (c .before .check .ensures) (c .if1 .taken)) (c .if1 .taken)
 
 count-of-requires : tie.Need-count-of-requires
@@ -32,11 +33,11 @@ count-of-requires c κs = search needs
 
 returns-2 : tie.Need-returns-2
 returns-2 c =
-    let s : List ℕ = c .before .before .before .before .before .args .s .now in
     let d : Device = c .before .before .before .before .before .args .d in
+    let s : List ℕ = c .before .before .before .before .before .args .s .now in
     let p : ℕ = c .before .before .before .before .before .args .position in
-    let h : count s ≤ p = omega arith in
-    answer-no (At (segmentAt s p)) Refused 22 (first (recordTests d s ++ positionTests s p))
+    let h : length (segments s) ≤ p = omega arith in
+    answer-no (Found.At (nth (segments s) p)) Found.Refused 22 (first (recordTests d s ++ positionTests s p))
     (more-yes d s (positionTests s p) (c .before .before .before .check .result) 22 (c .before .before .before .check .ensures)
     (c .before .before .if1 .left) (position-past s p h)) (omega arith)
 
@@ -45,12 +46,12 @@ segment-at-requires c κs = search needs
 
 returns-3 : tie.Need-returns-3
 returns-3 c =
-    let s : List ℕ = c .before .before .before .before .before .before .args .s .now in
     let d : Device = c .before .before .before .before .before .before .args .d in
+    let s : List ℕ = c .before .before .before .before .before .before .args .s .now in
     let p : ℕ = c .before .before .before .before .before .before .args .position in
-    let h : p < count s = omega arith in
-    ap At (c .segment-at .ensures)
-    ∙ answer-yes (At (segmentAt s p)) Refused 0 (first (recordTests d s ++ positionTests s p))
+    let h : p < length (segments s) = omega arith in
+    ap Found.At (c .segment-at .ensures)
+    ∙ answer-yes (Found.At (nth (segments s) p)) Found.Refused 0 (first (recordTests d s ++ positionTests s p))
     (more-yes d s (positionTests s p) (c .before .before .before .before .check .result) 0 (c .before .before .before .before .check .ensures)
     (c .before .before .before .if1 .left) (position-there s p h)) refl
 

@@ -1,5 +1,5 @@
 -- `room::allocate` meets its contract. Assumes nothing.
-use Rattle.room.proofs.Change.{allocate-refused, allocate-written}
+use Rattle.room.proofs.Leaving.{allocate-refused, allocate-written}
 use borrow.Author.Needs.{needs}
 use Rattle.room.proofs.allocate.Statement.{statement}
 use Rattle.room.proofs.allocate.Tie as tie
@@ -14,17 +14,10 @@ enum-told : tie.Need-enum-told
 enum-told c = search needs
 
 returns : tie.Need-returns
-returns c = (
-  c .before .before .allocation-of .ensures,
-  allocate-refused (c .before .before .before .before .before .args .d) (c .before .before .before .before .before .args .s .now) (c .before .before .before .before .before .args .kind) (c .before .before .before .before .before .args .m) (c .before .before .before .before .before .args .out .now)
-      (c .before .before .allocation-of .result) _ (c .before .before .allocation-of .ensures) (c .enum-told .given .1),
-)
+returns c = (c .before .before .allocation-of .ensures, allocate-refused (c .before .before .before .before .before .args .d) (c .before .before .before .before .before .args .s .now) (c .before .before .before .before .before .args .kind) (c .before .before .before .before .before .args .m) (c .before .before .before .before .before .args .out .now) (c .before .before .allocation-of .result) _ (c .before .before .allocation-of .ensures) (c .enum-told .given .1))
 
 put-requires : tie.Need-put-requires
 put-requires c κs = search needs
-
-count-of-requires : tie.Need-count-of-requires
-count-of-requires c κs = search needs
 
 put-segment-requires : tie.Need-put-segment-requires
 put-segment-requires c κs = search needs
@@ -34,10 +27,8 @@ same-length c = search needs
 
 returns-2 : tie.Need-returns-2
 returns-2 c =
-    allocate-written (c .before .before .before .before .before .before .before .before .before .before .before .before .before .before .before .args .d) (c .before .before .before .before .before .before .before .before .before .before .before .before .before .before .before .args .s .now) (c .before .before .before .before .before .before .before .before .before .before .before .before .before .before .before .args .kind) (c .before .before .before .before .before .before .before .before .before .before .before .before .before .before .before .args .m) (c .before .before .before .before .before .before .before .before .before .before .before .before .before .before .before .args .out .now)
-    (c .before .before .before .before .before .before .before .before .before .before .before .before .allocation-of .result) (c .before .before .before .before .before .before .before .before .before .before .a .given .0 .0) (c .before .before .before .before .before .before .before .before .before .before .a .given .0 .1 .0) (c .before .before .before .before .count-of .result)
-    (c .before .before .before .before .before .before .before .put .last .0) (c .before .before .put-segment .last .0)
-    (c .before .before .before .before .before .before .before .before .before .before .before .before .allocation-of .ensures) (c .before .before .before .before .before .before .before .before .before .before .a .given .1) (c .before .before .before .before .before .before .before .put .ensures .1) (c .before .before .before .before .count-of .ensures) (c .before .before .put-segment .ensures .1)
+    allocate-written (c .before .before .before .before .before .before .before .before .before .before .before .before .before .before .args .d) (c .before .before .before .before .before .before .before .before .before .before .before .before .before .before .args .s .now) (c .before .before .before .before .before .before .before .before .before .before .before .before .before .before .args .kind) (c .before .before .before .before .before .before .before .before .before .before .before .before .before .before .args .m) (c .before .before .before .before .before .before .before .before .before .before .before .before .before .before .args .out .now) (c .before .before .before .before .before .before .before .before .before .before .before .allocation-of .result) (c .before .before .before .before .before .before .before .before .before .a .given .0 .0) (c .before .before .before .before .before .before .before .before .before .a .given .0 .1 .0) (c .before .before .before .before .before .before .put .last .0) (c .before .before .put-segment .last .0)
+    (c .before .before .before .before .before .before .before .before .before .before .before .allocation-of .ensures) (c .before .before .before .before .before .before .before .before .before .a .given .1) (c .before .before .before .before .before .before .put .ensures .1) (c .before .before .put-segment .ensures .1)
 
 pub allocate-spec : {M : Type 1} → statement M
 allocate-spec =
@@ -48,7 +39,6 @@ allocate-spec =
     enum-told
     returns
     put-requires
-    count-of-requires
     put-segment-requires
     same-length
     returns-2)

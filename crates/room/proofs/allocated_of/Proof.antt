@@ -1,43 +1,42 @@
--- `room::allocated_of` meets its contract: the sum of the segments passed. Assumes nothing.
-use Rattle.room.proofs.Runs.{total-part}
-use Rattle.record.proofs.Search.{total-zero, total-more}
-use Rattle.record.specs.Sectors.{allocated}
-use Rattle.record.specs.Items.{count, sectorsAt}
-use Rattle.record.specs.Search.{total}
-use borrow.Author.Needs.{needs}
-use native.Mathlib.Omega.{arith}
+-- `room::allocated_of` meets its contract: what is passed and what is left is the whole. Assumes nothing.
+use Rattle.room.proofs.Calls.{allocated-drop, allocated-end}
+use Rattle.items.specs.Items.{segmentsIn}
+use Rattle.segments.specs.declared.Segment.{Segment}
+use Rattle.segments.specs.Segments.{nth}
+use Rattle.segments.specs.Sectors.{allocated}
 use mathlib.Core.List.{List}
-use mathlib.Core.Path.{_≡_, sym, ap, _∙_}
-use Prim.Native.Nat.{ℕ, _+_, _^_, _≤_, _<_, _-_}
+use lib.ListN.{length, drop}
+use Prim.Native.Nat.{ℕ, _+_, _-_, _^_, _≤_, _<_}
+use mathlib.Core.Path.{_≡_, ap}
+use native.Mathlib.Omega.{arith}
+use borrow.Author.Needs.{needs}
 use Rattle.room.proofs.allocated_of.Statement.{statement}
 use Rattle.room.proofs.allocated_of.Tie as tie
 
 abbrev Inv-loop : tie.InvT-loop
-Inv-loop s n sum₀ i₀ sum i = (i ≤ n) × (sum ≡ total (sectorsAt s) i)
+Inv-loop t n sum₀ i₀ sum i = (i ≤ n) × (sum + allocated (drop i (segmentsIn t)) ≡ allocated (segmentsIn t))
 
 abbrev μ-loop : tie.MeasureT-loop
-μ-loop s n sum₀ i₀ sum i = n - i
+μ-loop t n sum₀ i₀ sum i = n - i
 
-count-of-requires : tie.Need-count-of-requires Inv-loop μ-loop
-count-of-requires c κs = search needs
+count-in-requires : tie.Need-count-in-requires Inv-loop μ-loop
+count-in-requires c κs = search needs
 
 loop-holds : tie.Need-loop-holds Inv-loop μ-loop
-loop-holds c = (omega arith, sym (total-zero (sectorsAt (c .before .before .args .s .now))))
+loop-holds c = (omega arith, (let e : 0 + allocated (segmentsIn (c .before .before .args .t .now)) ≡ allocated (segmentsIn (c .before .before .args .t .now)) = omega arith in e))
 
-sectors-at-requires : tie.Need-sectors-at-requires Inv-loop μ-loop
-sectors-at-requires c κs = search needs
+segment-in-requires : tie.Need-segment-in-requires Inv-loop μ-loop
+segment-in-requires c κs = search needs
 
 add-sum : tie.Need-add-sum Inv-loop μ-loop
-unfolding allocated
 add-sum c =
-    let s : List ℕ = c .before .before .before .before .before .args .s .now in
-    let i : ℕ = c .before .before .loop .i in
-    let e : c .sectors-at .result ≡ sectorsAt s i = c .sectors-at .ensures in
-    let l : i + 1 ≤ count s = omega arith in
-    let p : total (sectorsAt s) (i + 1) ≤ total (sectorsAt s) (count s) = total-part (sectorsAt s) (i + 1) (count s) l in
-    let q : total (sectorsAt s) (i + 1) ≡ total (sectorsAt s) i + sectorsAt s i = total-more (sectorsAt s) i in
-    let r : total (sectorsAt s) (count s) < 2 ^ 64 = c .before .before .before .before .before .pre in
-    let t : c .before .before .loop .sum ≡ total (sectorsAt s) i = c .before .before .loop .inv .1 in
+    let gs : List Segment = segmentsIn (c .before .before .before .before .before .before .args .t .now) in
+    let i : ℕ = c .before .before .before .loop .i in
+    let e : c .before .segment-in .result .sectors ≡ nth gs i .sectors = ap (λ (g : Segment). g .sectors) (c .before .segment-in .ensures) in
+    let l : i < length gs = omega (arith, c .before .before .before .before .count-in .ensures) in
+    let r : allocated gs < 2 ^ 64 = c .before .before .before .before .before .before .pre in
+    let f : allocated (drop i gs) ≡ nth gs i .sectors + allocated (drop (i + 1) gs) = allocated-drop gs i l in
+    let v : c .before .before .before .loop .sum + allocated (drop i gs) ≡ allocated gs = c .before .before .before .loop .inv .1 in
     record { fits = omega arith }
 
 add-i : tie.Need-add-i Inv-loop μ-loop
@@ -48,19 +47,20 @@ loop-less c = omega arith
 
 loop-again : tie.Need-loop-again Inv-loop μ-loop
 loop-again c =
-    let s : List ℕ = c .before .before .before .before .before .args .s .now in
-    let i : ℕ = c .before .before .loop .i in
-    let e : c .sectors-at .result ≡ sectorsAt s i = c .sectors-at .ensures in
-    let q : total (sectorsAt s) (i + 1) ≡ total (sectorsAt s) i + sectorsAt s i = total-more (sectorsAt s) i in
-    let t : c .before .before .loop .sum ≡ total (sectorsAt s) i = c .before .before .loop .inv .1 in
-    (omega arith, omega arith)
+    let gs : List Segment = segmentsIn (c .before .before .before .before .before .before .args .t .now) in
+    let i : ℕ = c .before .before .before .loop .i in
+    let e : c .before .segment-in .result .sectors ≡ nth gs i .sectors = ap (λ (g : Segment). g .sectors) (c .before .segment-in .ensures) in
+    let l : i < length gs = omega (arith, c .before .before .before .before .count-in .ensures) in
+    let f : allocated (drop i gs) ≡ nth gs i .sectors + allocated (drop (i + 1) gs) = allocated-drop gs i l in
+    let v : c .before .before .before .loop .sum + allocated (drop i gs) ≡ allocated gs = c .before .before .before .loop .inv .1 in
+    (omega arith, (let q : c .before .before .before .loop .sum + c .before .segment-in .result .sectors + allocated (drop (i + 1) gs) ≡ allocated gs = omega arith in q))
 
 returns : tie.Need-returns Inv-loop μ-loop
-unfolding allocated
 returns c =
-    let s : List ℕ = c .before .before .before .before .args .s .now in
-    let e : c .before .loop .i ≡ count s = omega arith in
-    c .before .loop .inv .1 ∙ ap (total (sectorsAt s)) e
+    let gs : List Segment = segmentsIn (c .before .before .before .before .args .t .now) in
+    let e : allocated (drop (c .before .loop .i) gs) ≡ 0 = allocated-end gs (c .before .loop .i) (let l : length gs ≤ c .before .loop .i = omega (arith, c .before .before .count-in .ensures) in l) in
+    let v : c .before .loop .sum + allocated (drop (c .before .loop .i) gs) ≡ allocated gs = c .before .loop .inv .1 in
+    omega arith
 
 pub allocated-of-spec : {M : Type 1} → statement M
 allocated-of-spec =
@@ -68,9 +68,9 @@ allocated-of-spec =
     (tie.spec
     Inv-loop
     μ-loop
-    count-of-requires
+    count-in-requires
     loop-holds
-    sectors-at-requires
+    segment-in-requires
     add-sum
     add-i
     loop-less

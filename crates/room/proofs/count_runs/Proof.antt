@@ -1,14 +1,17 @@
 -- `room::count_runs` meets its contract. Assumes nothing.
-use Rattle.record.proofs.Ascending.{checked-number, checked-order}
-use Rattle.room.specs.Runs.{runCount}
-use Rattle.room.specs.declared.RunNumber.the-variants.{Runs, Refused}
+use Rattle.room.proofs.Calls.{Ready, ready, number-is}
 use Rattle.refusal.proofs.Order.{answer-no, answer-yes}
-use Rattle.record.specs.Accept.{recordTests}
-use Rattle.layout.specs.declared.Device.{Device}
 use Rattle.refusal.specs.Tests.{first}
-use mathlib.Core.List.{List}
-use mathlib.Core.Path.{ap, _∙_, sym}
-use Prim.Native.Nat.{ℕ, _-_}
+use Rattle.record.specs.Accept.{recordTests}
+use Rattle.items.specs.Head.{dataRange}
+use Rattle.room.specs.Answers.{runsIn}
+use Rattle.room.specs.declared.RunNumber.the-variants as RunNumber
+use Rattle.runs.specs.declared.Run.{Run}
+use lib.ListN.{length}
+use mathlib.Core.List.{List, _++_}
+use Prim.Native.Nat.{ℕ}
+use mathlib.Core.Path.{refl, sym, ap, _∙_}
+use Rattle.layout.specs.declared.Device.{Device}
 use borrow.Author.Needs.{needs}
 use Rattle.room.proofs.count_runs.Statement.{statement}
 use Rattle.room.proofs.count_runs.Tie as tie
@@ -20,21 +23,53 @@ returns : tie.Need-returns
 returns c =
     let d : Device = c .before .before .before .args .d in
     let s : List ℕ = c .before .before .before .args .s .now in
-    answer-no (Runs (runCount d s)) Refused (c .before .check-in-order .result .number) (first (recordTests d s)) (checked-number (c .before .check-in-order .result) _ _ _ (c .before .check-in-order .ensures)) (c .if1 .taken)
+    answer-no (RunNumber.Runs (length (runsIn d s))) RunNumber.Refused (c .before .check-in-order .result .number) (first (recordTests d s)) (number-is d s (c .before .check-in-order .result) (c .before .check-in-order .ensures)) (c .if1 .taken)
 
-slice-aggregate-runs-of : tie.Need-slice-aggregate-runs-of
-slice-aggregate-runs-of c = search needs
+items-of-requires : tie.Need-items-of-requires
+items-of-requires c κs = search needs
 
-runs-of-requires : tie.Need-runs-of-requires
-runs-of-requires c κs = (sym (checked-number (c .before .before .before .before .check-in-order .result) _ _ _ (c .before .before .before .before .check-in-order .ensures)) ∙ c .before .before .before .if1 .left, checked-order (c .before .before .before .before .check-in-order .result) _ _ (c .before .before .before .before .check-in-order .ensures))
+count-in-requires : tie.Need-count-in-requires
+count-in-requires c κs = search needs
+
+array-share-prefix-at : tie.Need-array-share-prefix-at
+array-share-prefix-at c =
+    let d : Device = c .before .before .before .before .before .before .before .args .d in
+    let s : List ℕ = c .before .before .before .before .before .before .before .args .s .now in
+    (ready d s (c .before .before .before .before .before .check-in-order .result) (c .before .items-of .result .now) (c .count-in .result) (dataRange d) (c .before .before .before .before .before .check-in-order .ensures) (c .before .before .before .before .if1 .left) (c .before .items-of .ensures) (c .count-in .ensures) refl) .inside
+
+slice-aggregate-count-gaps : tie.Need-slice-aggregate-count-gaps
+slice-aggregate-count-gaps c =
+    let d : Device = c .before .before .before .before .before .before .before .before .args .d in
+    let s : List ℕ = c .before .before .before .before .before .before .before .before .args .s .now in
+    (ready d s (c .before .before .before .before .before .before .check-in-order .result) (c .before .before .items-of .result .now) (c .before .count-in .result) (dataRange d) (c .before .before .before .before .before .before .check-in-order .ensures) (c .before .before .before .before .before .if1 .left) (c .before .before .items-of .ensures) (c .before .count-in .ensures) refl) .exact
+
+data-range-requires : tie.Need-data-range-requires
+data-range-requires c κs = search needs
+
+count-gaps-requires : tie.Need-count-gaps-requires
+count-gaps-requires c κs =
+    let d : Device = c .before .before .before .before .before .before .before .before .before .args .d in
+    let s : List ℕ = c .before .before .before .before .before .before .before .before .before .args .s .now in
+    (ready d s (c .before .before .before .before .before .before .before .check-in-order .result) (c .before .before .before .items-of .result .now) (c .before .before .count-in .result) (c .data-range .result) (c .before .before .before .before .before .before .before .check-in-order .ensures) (c .before .before .before .before .before .before .if1 .left) (c .before .before .before .items-of .ensures) (c .before .before .count-in .ensures) (c .data-range .ensures)) .chain
 
 returns-2 : tie.Need-returns-2
 returns-2 c =
-    let d : Device = c .before .before .before .before .before .before .before .args .d in
-    let s : List ℕ = c .before .before .before .before .before .before .before .args .s .now in
-    ap Runs (c .runs-of .ensures) ∙ answer-yes (Runs (runCount d s)) Refused (c .before .before .before .before .before .check-in-order .result .number) (first (recordTests d s)) (checked-number (c .before .before .before .before .before .check-in-order .result) _ _ _ (c .before .before .before .before .before .check-in-order .ensures)) (c .before .before .before .before .if1 .left)
+    let d : Device = c .before .before .before .before .before .before .before .before .before .before .args .d in
+    let s : List ℕ = c .before .before .before .before .before .before .before .before .before .before .args .s .now in
+    let w : Ready d s (c .before .before .before .before .before .before .before .before .check-in-order .result) (c .before .before .before .before .items-of .result .now) (c .before .before .before .count-in .result) (c .before .data-range .result) = ready d s (c .before .before .before .before .before .before .before .before .check-in-order .result) (c .before .before .before .before .items-of .result .now) (c .before .before .before .count-in .result) (c .before .data-range .result) (c .before .before .before .before .before .before .before .before .check-in-order .ensures) (c .before .before .before .before .before .before .before .if1 .left) (c .before .before .before .before .items-of .ensures) (c .before .before .before .count-in .ensures) (c .before .data-range .ensures) in
+    ap RunNumber.Runs (c .count-gaps .ensures ∙ ap (λ (z : List Run). length z) (w .runs))
+    ∙ answer-yes (RunNumber.Runs (length (runsIn d s))) RunNumber.Refused 0 (first (recordTests d s)) (sym (w .zero)) refl
 
 pub count-runs-spec : {M : Type 1} → statement M
 count-runs-spec =
     tie.close
-    (tie.spec check-in-order-requires returns slice-aggregate-runs-of runs-of-requires returns-2)
+    (tie.spec
+    check-in-order-requires
+    returns
+    items-of-requires
+    count-in-requires
+    array-share-prefix-at
+    slice-aggregate-count-gaps
+    data-range-requires
+    count-gaps-requires
+    returns-2)

@@ -1,18 +1,19 @@
 -- `room::first_fit` meets its contract. Assumes nothing.
-use Rattle.record.proofs.Ascending.{checked-number, checked-order}
-use Rattle.room.proofs.Answers.{fit-yes, fit-no, fit-zero, fit-refused, fit-passed}
-use Rattle.room.specs.Answers.{fitTests}
-use Rattle.room.specs.Runs.{runAt, fitAt}
-use Rattle.room.specs.declared.RunFound.the-variants.{At, Refused}
+use Rattle.room.proofs.Calls.{Ready, ready, number-is, fit-zero, fit-none, fit-some}
 use Rattle.refusal.proofs.Order.{answer-no, answer-yes}
-use Rattle.record.proofs.Order.{more-no, more-yes}
-use Rattle.record.specs.Accept.{recordTests}
-use Rattle.layout.specs.declared.Device.{Device}
 use Rattle.refusal.specs.Tests.{first}
-use native.Mathlib.Omega.{arith}
+use Rattle.record.specs.Accept.{recordTests}
+use Rattle.items.specs.Head.{dataRange}
+use Rattle.room.specs.Answers.{runsIn, fitTests}
+use Rattle.room.specs.declared.RunFound.the-variants as RunFound
+use Rattle.runs.specs.declared.Run.{Run}
+use Rattle.runs.specs.Runs.{fitOf}
 use mathlib.Core.List.{List, _++_}
-use mathlib.Core.Path.{refl, ap, _∙_, sym}
-use Prim.Native.Nat.{ℕ, _+_, _≤_, _-_}
+use Prim.Native.Nat.{ℕ, _≤_}
+use mathlib.Core.Path.{_≡_, refl, sym, ap, _∙_}
+use Rattle.layout.specs.declared.Device.{Device}
+use native.Mathlib.Omega.{arith}
+use Rattle.record.proofs.Testing.{more-no}
 use borrow.Author.Needs.{needs}
 use Rattle.room.proofs.first_fit.Statement.{statement}
 use Rattle.room.proofs.first_fit.Tie as tie
@@ -25,43 +26,61 @@ returns c =
     let d : Device = c .before .before .before .args .d in
     let s : List ℕ = c .before .before .before .args .s .now in
     let m : ℕ = c .before .before .before .args .m in
-    answer-no (At (runAt d s (fitAt d s m))) Refused (c .before .check-in-order .result .number) (first (recordTests d s ++ fitTests d s m))
-    (more-no d s (fitTests d s m) (c .before .check-in-order .result .number) (checked-number (c .before .check-in-order .result) _ _ _ (c .before .check-in-order .ensures)) (c .if1 .taken)) (c .if1 .taken)
+    let e = number-is d s (c .before .check-in-order .result) (c .before .check-in-order .ensures) in
+    answer-no (RunFound.At (fitOf m (runsIn d s))) RunFound.Refused (c .before .check-in-order .result .number) (first (recordTests d s ++ fitTests (runsIn d s) m)) (more-no d s (fitTests (runsIn d s) m) (c .before .check-in-order .result .number) e (c .if1 .taken)) (c .if1 .taken)
 
 returns-2 : tie.Need-returns-2
 returns-2 c =
     let d : Device = c .before .before .before .before .args .d in
     let s : List ℕ = c .before .before .before .before .args .s .now in
     let m : ℕ = c .before .before .before .before .args .m in
-    answer-no (At (runAt d s (fitAt d s m))) Refused 18 (first (recordTests d s ++ fitTests d s m))
-    (more-yes d s (fitTests d s m) (c .before .before .check-in-order .result .number) 18 (checked-number (c .before .before .check-in-order .result) _ _ _ (c .before .before .check-in-order .ensures)) (c .before .if1 .left) (fit-zero d s m (c .if2 .taken))) (omega arith)
+    let z : first (recordTests d s) ≡ 0 = sym (number-is d s (c .before .before .check-in-order .result) (c .before .before .check-in-order .ensures)) ∙ c .before .if1 .left in
+    answer-no (RunFound.At (fitOf m (runsIn d s))) RunFound.Refused 18 (first (recordTests d s ++ fitTests (runsIn d s) m)) (fit-zero d s (runsIn d s) m z (c .if2 .taken)) (omega arith)
 
-slice-aggregate-fit-of : tie.Need-slice-aggregate-fit-of
-slice-aggregate-fit-of c = search needs
+items-of-requires : tie.Need-items-of-requires
+items-of-requires c κs = search needs
 
-fit-of-requires : tie.Need-fit-of-requires
-fit-of-requires c κs = (sym (checked-number (c .before .before .before .before .before .check-in-order .result) _ _ _ (c .before .before .before .before .before .check-in-order .ensures)) ∙ c .before .before .before .before .if1 .left, (checked-order (c .before .before .before .before .before .check-in-order .result) _ _ (c .before .before .before .before .before .check-in-order .ensures), c .before .before .before .if2 .left))
+count-in-requires : tie.Need-count-in-requires
+count-in-requires c κs = search needs
+
+array-share-prefix-at : tie.Need-array-share-prefix-at
+array-share-prefix-at c =
+    let d : Device = c .before .before .before .before .before .before .before .before .args .d in
+    let s : List ℕ = c .before .before .before .before .before .before .before .before .args .s .now in
+    (ready d s (c .before .before .before .before .before .before .check-in-order .result) (c .before .items-of .result .now) (c .count-in .result) (dataRange d) (c .before .before .before .before .before .before .check-in-order .ensures) (c .before .before .before .before .before .if1 .left) (c .before .items-of .ensures) (c .count-in .ensures) refl) .inside
+
+slice-aggregate-fit : tie.Need-slice-aggregate-fit
+slice-aggregate-fit c =
+    let d : Device = c .before .before .before .before .before .before .before .before .before .args .d in
+    let s : List ℕ = c .before .before .before .before .before .before .before .before .before .args .s .now in
+    (ready d s (c .before .before .before .before .before .before .before .check-in-order .result) (c .before .before .items-of .result .now) (c .before .count-in .result) (dataRange d) (c .before .before .before .before .before .before .before .check-in-order .ensures) (c .before .before .before .before .before .before .if1 .left) (c .before .before .items-of .ensures) (c .before .count-in .ensures) refl) .exact
+
+data-range-requires : tie.Need-data-range-requires
+data-range-requires c κs = search needs
+
+fit-requires : tie.Need-fit-requires
+fit-requires c κs =
+    let d : Device = c .before .before .before .before .before .before .before .before .before .before .args .d in
+    let s : List ℕ = c .before .before .before .before .before .before .before .before .before .before .args .s .now in
+    (ready d s (c .before .before .before .before .before .before .before .before .check-in-order .result) (c .before .before .before .items-of .result .now) (c .before .before .count-in .result) (c .data-range .result) (c .before .before .before .before .before .before .before .before .check-in-order .ensures) (c .before .before .before .before .before .before .before .if1 .left) (c .before .before .before .items-of .ensures) (c .before .before .count-in .ensures) (c .data-range .ensures)) .chain
 
 returns-3 : tie.Need-returns-3
 returns-3 c =
-    let d : Device = c .before .before .before .before .before .before .before .before .before .before .args .d in
-    let s : List ℕ = c .before .before .before .before .before .before .before .before .before .before .args .s .now in
-    let m : ℕ = c .before .before .before .before .before .before .before .before .before .before .args .m in
-    let o : 1 ≤ m = c .before .before .before .before .before .before .if2 .left in
-    answer-no (At (runAt d s (fitAt d s m))) Refused 20 (first (recordTests d s ++ fitTests d s m))
-    (more-yes d s (fitTests d s m) (c .before .before .before .before .before .before .before .before .check-in-order .result .number) 20 (checked-number (c .before .before .before .before .before .before .before .before .check-in-order .result) _ _ _ (c .before .before .before .before .before .before .before .before .check-in-order .ensures)) (c .before .before .before .before .before .before .before .if1 .left)
-    (fit-refused d s m o (fit-no d s m (c .before .before .fit-of .result) o (c .before .before .fit-of .ensures) (c .if3 .taken)))) (omega arith)
+    let d : Device = c .before .before .before .before .before .before .before .before .before .before .before .before .before .args .d in
+    let s : List ℕ = c .before .before .before .before .before .before .before .before .before .before .before .before .before .args .s .now in
+    let m : ℕ = c .before .before .before .before .before .before .before .before .before .before .before .before .before .args .m in
+    let w : Ready d s (c .before .before .before .before .before .before .before .before .before .before .before .check-in-order .result) (c .before .before .before .before .before .before .items-of .result .now) (c .before .before .before .before .before .count-in .result) (c .before .before .before .data-range .result) = ready d s (c .before .before .before .before .before .before .before .before .before .before .before .check-in-order .result) (c .before .before .before .before .before .before .items-of .result .now) (c .before .before .before .before .before .count-in .result) (c .before .before .before .data-range .result) (c .before .before .before .before .before .before .before .before .before .before .before .check-in-order .ensures) (c .before .before .before .before .before .before .before .before .before .before .if1 .left) (c .before .before .before .before .before .before .items-of .ensures) (c .before .before .before .before .before .count-in .ensures) (c .before .before .before .data-range .ensures) in
+    let f : c .before .before .fit .result ≡ fitOf m (runsIn d s) = c .before .before .fit .ensures ∙ ap (fitOf m) (w .runs) in
+    answer-no (RunFound.At (fitOf m (runsIn d s))) RunFound.Refused 20 (first (recordTests d s ++ fitTests (runsIn d s) m)) (fit-none d s (runsIn d s) m (c .before .before .fit .result) (w .zero) (c .before .before .before .before .before .before .before .before .before .if2 .left) f (c .if3 .taken)) (omega arith)
 
 returns-4 : tie.Need-returns-4
 returns-4 c =
-    let d : Device = c .before .before .before .before .before .before .before .before .before .before .args .d in
-    let s : List ℕ = c .before .before .before .before .before .before .before .before .before .before .args .s .now in
-    let m : ℕ = c .before .before .before .before .before .before .before .before .before .before .args .m in
-    let o : 1 ≤ m = c .before .before .before .before .before .before .if2 .left in
-    ap At (fit-yes d s m (c .before .before .fit-of .result) (c .before .before .fit-of .ensures) (c .if3 .left) .1)
-    ∙ answer-yes (At (runAt d s (fitAt d s m))) Refused 0 (first (recordTests d s ++ fitTests d s m))
-    (more-yes d s (fitTests d s m) (c .before .before .before .before .before .before .before .before .check-in-order .result .number) 0 (checked-number (c .before .before .before .before .before .before .before .before .check-in-order .result) _ _ _ (c .before .before .before .before .before .before .before .before .check-in-order .ensures)) (c .before .before .before .before .before .before .before .if1 .left)
-    (fit-passed d s m o (fit-yes d s m (c .before .before .fit-of .result) (c .before .before .fit-of .ensures) (c .if3 .left) .0))) refl
+    let d : Device = c .before .before .before .before .before .before .before .before .before .before .before .before .before .args .d in
+    let s : List ℕ = c .before .before .before .before .before .before .before .before .before .before .before .before .before .args .s .now in
+    let m : ℕ = c .before .before .before .before .before .before .before .before .before .before .before .before .before .args .m in
+    let w : Ready d s (c .before .before .before .before .before .before .before .before .before .before .before .check-in-order .result) (c .before .before .before .before .before .before .items-of .result .now) (c .before .before .before .before .before .count-in .result) (c .before .before .before .data-range .result) = ready d s (c .before .before .before .before .before .before .before .before .before .before .before .check-in-order .result) (c .before .before .before .before .before .before .items-of .result .now) (c .before .before .before .before .before .count-in .result) (c .before .before .before .data-range .result) (c .before .before .before .before .before .before .before .before .before .before .before .check-in-order .ensures) (c .before .before .before .before .before .before .before .before .before .before .if1 .left) (c .before .before .before .before .before .before .items-of .ensures) (c .before .before .before .before .before .count-in .ensures) (c .before .before .before .data-range .ensures) in
+    let f : c .before .before .fit .result ≡ fitOf m (runsIn d s) = c .before .before .fit .ensures ∙ ap (fitOf m) (w .runs) in
+    ap RunFound.At f ∙ answer-yes (RunFound.At (fitOf m (runsIn d s))) RunFound.Refused 0 (first (recordTests d s ++ fitTests (runsIn d s) m)) (fit-some d s (runsIn d s) m (c .before .before .fit .result) (w .zero) (c .before .before .before .before .before .before .before .before .before .if2 .left) f (c .if3 .left)) refl
 
 pub first-fit-spec : {M : Type 1} → statement M
 first-fit-spec =
@@ -70,7 +89,11 @@ first-fit-spec =
     check-in-order-requires
     returns
     returns-2
-    slice-aggregate-fit-of
-    fit-of-requires
+    items-of-requires
+    count-in-requires
+    array-share-prefix-at
+    slice-aggregate-fit
+    data-range-requires
+    fit-requires
     returns-3
     returns-4)

@@ -1,16 +1,19 @@
--- `room::free_total` meets its contract, by the theorem that the parts add up. Assumes nothing.
-use Rattle.room.proofs.Answers.{Totals, totals}
-use Rattle.room.specs.declared.FreeTotal.the-variants.{Sectors, Refused}
-use Rattle.record.specs.Sectors.{allocated, freeSectors}
-use Rattle.layout.specs.Places.{dataStart, dataEnd}
+-- `room::free_total` meets its contract. Assumes nothing.
+use Rattle.room.proofs.Calls.{total-left, total-fits}
 use Rattle.refusal.proofs.Order.{answer-no, answer-yes}
-use Rattle.record.specs.Accept.{recordTests}
-use Rattle.layout.specs.declared.Device.{Device}
 use Rattle.refusal.specs.Tests.{first}
+use Rattle.record.specs.Accept.{recordTests}
+use Rattle.items.specs.Head.{dataRange}
+use Rattle.room.specs.declared.FreeTotal.the-variants as FreeTotal
+use Rattle.layout.specs.Places.{dataStart, dataEnd}
+use Rattle.items.specs.Items.{segmentsIn, segments}
+use Rattle.segments.specs.Sectors.{allocated, freeSectors}
+use mathlib.Core.List.{List, _++_}
+use lib.ListN.{length}
+use Prim.Native.Nat.{ℕ, _-_, _≤_, _<_, _^_}
+use mathlib.Core.Path.{_≡_, refl, sym, ap, _∙_}
+use Rattle.layout.specs.declared.Device.{Device}
 use native.Mathlib.Omega.{arith}
-use mathlib.Core.List.{List}
-use mathlib.Core.Path.{_≡_, sym, ap, _∙_}
-use Prim.Native.Nat.{ℕ, _^_, _≤_, _<_, _-_}
 use borrow.Author.Needs.{needs}
 use Rattle.room.proofs.free_total.Statement.{statement}
 use Rattle.room.proofs.free_total.Tie as tie
@@ -22,7 +25,7 @@ returns : tie.Need-returns
 returns c =
     let d : Device = c .before .before .before .args .d in
     let s : List ℕ = c .before .before .before .args .s .now in
-    answer-no (Sectors (freeSectors d s)) Refused (c .before .check .result) (first (recordTests d s)) (c .before .check .ensures) (c .if1 .taken)
+    answer-no (FreeTotal.Sectors (freeSectors (dataRange d) (segments s))) FreeTotal.Refused (c .before .check .result) (first (recordTests d s)) (c .before .check .ensures) (c .if1 .taken)
 
 data-end-requires : tie.Need-data-end-requires
 data-end-requires c κs = search needs
@@ -32,30 +35,41 @@ data-start-requires c κs = search needs
 
 sub-data : tie.Need-sub-data
 sub-data c =
-    let t : Totals (c .before .before .before .before .before .args .d) (c .before .before .before .before .before .args .s .now) = totals (c .before .before .before .before .before .args .d) (c .before .before .before .before .before .args .s .now) (sym (c .before .before .before .check .ensures) ∙ c .before .before .if1 .left) in
-    let h : dataStart (c .before .before .before .before .before .args .d) ≤ dataEnd (c .before .before .before .before .before .args .d) = t .range in
+    let d : Device = c .before .before .before .before .before .args .d in
+    let s : List ℕ = c .before .before .before .before .before .args .s .now in
+    let z : first (recordTests d s) ≡ 0 = sym (c .before .before .before .check .ensures) ∙ c .before .before .if1 .left in
+    let f : (allocated (segments s) ≤ dataEnd d - dataStart d) × (dataStart d ≤ dataEnd d) = total-fits d s z in
     omega (arith, c .data-start .ensures, c .before .data-end .ensures)
+
+items-of-requires : tie.Need-items-of-requires
+items-of-requires c κs = search needs
 
 allocated-of-requires : tie.Need-allocated-of-requires
 allocated-of-requires c κs =
-    let t : Totals (c .before .before .before .before .before .args .d) (c .before .before .before .before .before .args .s .now) = totals (c .before .before .before .before .before .args .d) (c .before .before .before .before .before .args .s .now) (sym (c .before .before .before .check .ensures) ∙ c .before .before .if1 .left) in
-    let h : allocated (c .before .before .before .before .before .args .s .now) ≤ dataEnd (c .before .before .before .before .before .args .d) - dataStart (c .before .before .before .before .before .args .d) = t .small in
-    let g : allocated (c .before .before .before .before .before .args .s .now) < 2 ^ 64 = omega (arith, c .before .data-end .ensures, c .before .data-end .ok) in
-    g
+    let d : Device = c .before .before .before .before .before .before .args .d in
+    let s : List ℕ = c .before .before .before .before .before .before .args .s .now in
+    let z : first (recordTests d s) ≡ 0 = sym (c .before .before .before .before .check .ensures) ∙ c .before .before .before .if1 .left in
+    let f : (allocated (segments s) ≤ dataEnd d - dataStart d) × (dataStart d ≤ dataEnd d) = total-fits d s z in
+    let e : allocated (segmentsIn (c .items-of .result .now)) ≡ allocated (segments s) = ap (λ (u : List ℕ). allocated (segmentsIn u)) (c .items-of .ensures) in
+    omega (arith, c .before .before .data-end .ensures)
 
 sub-t7 : tie.Need-sub-t7
 sub-t7 c =
-    let t : Totals (c .before .before .before .before .before .before .args .d) (c .before .before .before .before .before .before .args .s .now) = totals (c .before .before .before .before .before .before .args .d) (c .before .before .before .before .before .before .args .s .now) (sym (c .before .before .before .before .check .ensures) ∙ c .before .before .before .if1 .left) in
-    let h : allocated (c .before .before .before .before .before .before .args .s .now) ≤ dataEnd (c .before .before .before .before .before .before .args .d) - dataStart (c .before .before .before .before .before .before .args .d) = t .small in
-    rw (c .allocated-of .ensures, c .before .data-start .ensures, c .before .before .data-end .ensures) h
+    let d : Device = c .before .before .before .before .before .before .before .args .d in
+    let s : List ℕ = c .before .before .before .before .before .before .before .args .s .now in
+    let z : first (recordTests d s) ≡ 0 = sym (c .before .before .before .before .before .check .ensures) ∙ c .before .before .before .before .if1 .left in
+    let f : (allocated (segments s) ≤ dataEnd d - dataStart d) × (dataStart d ≤ dataEnd d) = total-fits d s z in
+    let e : c .allocated-of .result ≡ allocated (segments s) = c .allocated-of .ensures ∙ ap (λ (u : List ℕ). allocated (segmentsIn u)) (c .before .items-of .ensures) in
+    omega (arith, c .before .before .before .data-end .ensures, c .before .before .data-start .ensures)
 
 returns-2 : tie.Need-returns-2
 returns-2 c =
-    let d : Device = c .before .before .before .before .before .before .args .d in
-    let s : List ℕ = c .before .before .before .before .before .before .args .s .now in
-    let t : Totals d s = totals d s (sym (c .before .before .before .before .check .ensures) ∙ c .before .before .before .if1 .left) in
-    let e : c .before .before .data-end .result - c .before .data-start .result - c .allocated-of .result ≡ freeSectors d s = rw (c .allocated-of .ensures, c .before .data-start .ensures, c .before .before .data-end .ensures) (t .rest) in
-    ap Sectors e ∙ answer-yes (Sectors (freeSectors d s)) Refused (c .before .before .before .before .check .result) (first (recordTests d s)) (c .before .before .before .before .check .ensures) (c .before .before .before .if1 .left)
+    let d : Device = c .before .before .before .before .before .before .before .args .d in
+    let s : List ℕ = c .before .before .before .before .before .before .before .args .s .now in
+    let z : first (recordTests d s) ≡ 0 = sym (c .before .before .before .before .before .check .ensures) ∙ c .before .before .before .before .if1 .left in
+    let e : c .allocated-of .result ≡ allocated (segments s) = c .allocated-of .ensures ∙ ap (λ (u : List ℕ). allocated (segmentsIn u)) (c .before .items-of .ensures) in
+    rw (c .before .before .before .data-end .ensures, c .before .before .data-start .ensures, e)
+    (ap FreeTotal.Sectors (total-left d s z) ∙ answer-yes (FreeTotal.Sectors (freeSectors (dataRange d) (segments s))) FreeTotal.Refused 0 (first (recordTests d s)) (sym z) refl)
 
 pub free-total-spec : {M : Type 1} → statement M
 free-total-spec =
@@ -66,6 +80,7 @@ free-total-spec =
     data-end-requires
     data-start-requires
     sub-data
+    items-of-requires
     allocated-of-requires
     sub-t7
     returns-2)

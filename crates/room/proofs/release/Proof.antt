@@ -1,11 +1,12 @@
 -- `room::release` meets its contract. Assumes nothing.
-use Rattle.room.proofs.Change.{release-refused, release-place, release-written}
-use Rattle.record.specs.Items.{place}
+use Rattle.room.proofs.Leaving.{release-refused, release-place, release-written}
+use Rattle.items.specs.Making.{place}
+use mathlib.Core.List.{List, _++_}
 use lib.ListN.{length}
-use native.Mathlib.Omega.{arith}
-use mathlib.Core.List.{List}
-use mathlib.Core.Path.{_≡_}
 use Prim.Native.Nat.{ℕ, _+_, _≤_, min}
+use mathlib.Core.Path.{_≡_}
+use Rattle.layout.specs.declared.Device.{Device}
+use native.Mathlib.Omega.{arith}
 use borrow.Author.Needs.{needs}
 use Rattle.room.proofs.release.Statement.{statement}
 use Rattle.room.proofs.release.Tie as tie
@@ -20,20 +21,19 @@ enum-told : tie.Need-enum-told
 enum-told c = search needs
 
 returns : tie.Need-returns
-returns c = (
-  c .before .before .released-of .ensures,
-  release-refused (c .before .before .before .before .before .args .d) (c .before .before .before .before .before .args .s .now) (c .before .before .before .before .before .args .position) (c .before .before .before .before .before .args .out .now)
-      (c .before .before .released-of .result) _ (c .before .before .released-of .ensures) (c .enum-told .given .1),
-)
+returns c = (c .before .before .released-of .ensures, release-refused (c .before .before .before .before .before .args .d) (c .before .before .before .before .before .args .s .now) (c .before .before .before .before .before .args .position) (c .before .before .before .before .before .args .out .now) (c .before .before .released-of .result) _ (c .before .before .released-of .ensures) (c .enum-told .given .1))
 
 place-in-requires : tie.Need-place-in-requires
 place-in-requires c κs = search needs
 
 lay-without-requires : tie.Need-lay-without-requires
 lay-without-requires c κs =
+    let d : Device = c .before .before .before .before .before .before .before .before .args .d in
     let s : List ℕ = c .before .before .before .before .before .before .before .before .args .s .now in
-    let h : place s (c .before .before .before .before .before .before .before .before .args .position) + 20 ≤ length s = release-place (c .before .before .before .before .before .before .before .before .args .d) s (c .before .before .before .before .before .before .before .before .args .position) (length (c .before .before .before .before .before .before .before .before .args .out .now)) (c .before .before .before .before .before .released-of .result) _ (c .before .before .before .before .before .released-of .ensures) (c .before .before .before .a .given .1) .1 in
-    let e : c .place-in .result ≡ min (place s (c .before .before .before .before .before .before .before .before .args .position)) (length s) = c .place-in .ensures in
+    let p : ℕ = c .before .before .before .before .before .before .before .before .args .position in
+    let out : List ℕ = c .before .before .before .before .before .before .before .before .args .out .now in
+    let h : place s p + 20 ≤ length s = release-place d s p (length out) (c .before .before .before .before .before .released-of .result) _ (c .before .before .before .before .before .released-of .ensures) (c .before .before .before .a .given .1) .1 in
+    let e : c .place-in .result ≡ min (place s p) (length s) = c .place-in .ensures in
     let g : c .place-in .result + 20 ≤ length s = omega arith in
     g
 
@@ -42,7 +42,7 @@ same-length c = search needs
 
 returns-2 : tie.Need-returns-2
 returns-2 c =
-    let d = c .before .before .before .before .before .before .before .before .before .before .before .args .d in
+    let d : Device = c .before .before .before .before .before .before .before .before .before .before .before .args .d in
     let s : List ℕ = c .before .before .before .before .before .before .before .before .before .before .before .args .s .now in
     let p : ℕ = c .before .before .before .before .before .before .before .before .before .before .before .args .position in
     let out : List ℕ = c .before .before .before .before .before .before .before .before .before .before .before .args .out .now in

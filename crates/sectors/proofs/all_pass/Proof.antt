@@ -4,8 +4,8 @@ use mathlib.Core.Path.{_≡_, ap₂}
 use mathlib.Core.Bool.{Bool, true, not, _||_}
 use native.Mathlib.Omega.{arith}
 use borrow.Author.Needs.{needs}
-use Rattle.record.specs.Search.{every}
-use Rattle.record.proofs.Search.{every-zero, every-step, every-stop, every-done}
+use Rattle.search.specs.Search.{every}
+use Rattle.search.proofs.Search.{every-zero, every-step, every-stop, every-done}
 use Rattle.sectors.specs.Sectors.{copySectors, passes}
 use Rattle.sectors.proofs.all_pass.Statement.{statement}
 use Rattle.sectors.proofs.all_pass.Tie as tie

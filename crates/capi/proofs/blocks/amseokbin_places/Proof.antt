@@ -1,6 +1,7 @@
 -- `capi::blocks::amseokbin_places` meets its contract. Assumes nothing.
 use Rattle.capi.proofs.Told.{unsized, unsized-left, answered, whole, long}
-use Rattle.capi.specs.Answers.{placementNumber, placementLeft}
+use Rattle.capi.specs.Answers.{placementLeft}
+use Rattle.layout.specs.Answers.{placementNumber}
 use mathlib.Core.Path.{refl, _∙_}
 use Rattle.capi.specs.Lent.{has}
 use borrow.Author.Needs.{needs}

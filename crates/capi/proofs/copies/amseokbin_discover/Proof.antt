@@ -1,6 +1,7 @@
 -- `capi::copies::amseokbin_discover` meets its contract. Assumes nothing.
 use Rattle.capi.proofs.Told.{unsized, unsized-left, long, answered}
-use Rattle.capi.specs.Answers.{answerNumber, answerLeft}
+use Rattle.capi.specs.Answers.{answerLeft}
+use Rattle.discovery.specs.Answers.{answerNumber}
 use mathlib.Core.Path.{refl}
 use Rattle.capi.specs.Lent.{has}
 use borrow.Author.Needs.{needs}

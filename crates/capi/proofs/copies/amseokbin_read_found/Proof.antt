@@ -1,6 +1,7 @@
 -- `capi::copies::amseokbin_read_found` meets its contract. Assumes nothing.
 use Rattle.capi.proofs.Told.{unsized, unsized-left, long, answered-beside}
-use Rattle.capi.specs.Answers.{answerNumber, answerLeft}
+use Rattle.capi.specs.Answers.{answerLeft}
+use Rattle.discovery.specs.Answers.{answerNumber}
 use mathlib.Core.Path.{refl, ap, _∙_}
 use Rattle.discovery.specs.declared.Answer.{Answer}
 use Rattle.discovery.specs.Discovery.{readBytes}

@@ -1,6 +1,6 @@
 -- `capi::mends::amseokbin_mend_plan` meets its contract. Assumes nothing.
 use Rattle.capi.proofs.Told.{unsized, unsized-left, answered, filled, long}
-use Rattle.capi.specs.Calls.{mendingNumber}
+use Rattle.mend.specs.Answers.{mendingNumber}
 use Rattle.capi.specs.Plans.{encodedMend}
 use Rattle.capi.proofs.Codec.{rewrite-long}
 use mathlib.Core.Path.{refl, sym, ap, _∙_}

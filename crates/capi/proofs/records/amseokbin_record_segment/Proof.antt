@@ -1,6 +1,7 @@
 -- `capi::records::amseokbin_record_segment` meets its contract. Assumes nothing.
 use Rattle.capi.proofs.Told.{unsized, unsized-left, answered, whole, long}
-use Rattle.capi.specs.Answers.{segmentNumber, segmentLeft}
+use Rattle.capi.specs.Answers.{segmentLeft}
+use Rattle.record.specs.Answers.{foundNumber}
 use mathlib.Core.Path.{refl, _∙_}
 use Rattle.capi.specs.Lent.{has}
 use borrow.Author.Needs.{needs}
@@ -33,7 +34,7 @@ set-requires c κs = search needs
 returns-2 : tie.Need-returns-2
 returns-2 c =
     let start = c .before .before .before .before .before .before .before in
-    answered segmentNumber segmentLeft (start .args .segment .now) (has (start .args .segment .now) 3) (c .before .before .before .before .if1 .left) _ _ _ (c .before .before .before .read-segment .ensures) (c .before .a .given .1) _ _ refl refl
+    answered foundNumber segmentLeft (start .args .segment .now) (has (start .args .segment .now) 3) (c .before .before .before .before .if1 .left) _ _ _ (c .before .before .before .read-segment .ensures) (c .before .a .given .1) _ _ refl refl
 
 same-length : tie.Need-same-length
 same-length c = search needs
@@ -42,7 +43,7 @@ returns-3 : tie.Need-returns-3
 returns-3 c =
     let p1 = c .before .before .before .before .before .before .before .before .before .before in
     let start = p1 .before .before .before in
-    answered segmentNumber segmentLeft (start .args .segment .now) (has (start .args .segment .now) 3) (p1 .if1 .left) _ _ _ (c .before .before .before .before .before .before .before .before .before .read-segment .ensures) (c .before .before .before .before .before .before .before .a2 .given .1) _ _ refl (c .before .before .set .ensures ∙ whole (start .args .segment .now) _ (long (start .args .segment .now) 3 (p1 .if1 .left)))
+    answered foundNumber segmentLeft (start .args .segment .now) (has (start .args .segment .now) 3) (p1 .if1 .left) _ _ _ (c .before .before .before .before .before .before .before .before .before .read-segment .ensures) (c .before .before .before .before .before .before .before .a2 .given .1) _ _ refl (c .before .before .set .ensures ∙ whole (start .args .segment .now) _ (long (start .args .segment .now) 3 (p1 .if1 .left)))
 
 pub amseokbin-record-segment-spec : {M : Type 1} → statement M
 amseokbin-record-segment-spec =

@@ -1,6 +1,7 @@
 -- `capi::updates::amseokbin_update_plan` meets its contract. Assumes nothing.
 use Rattle.capi.proofs.Told.{unsized, unsized-left, answered, filled, long}
-use Rattle.capi.specs.Calls.{plannedNumber, plannedLeft}
+use Rattle.capi.specs.Calls.{plannedLeft}
+use Rattle.update.specs.Answers.{plannedNumber}
 use Rattle.capi.proofs.Codec.{plan-long}
 use mathlib.Core.Path.{refl, sym, _∙_}
 use Rattle.capi.specs.Lent.{has}
