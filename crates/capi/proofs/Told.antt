@@ -9,7 +9,7 @@ use Rattle.endian.specs.Bytes.{splice}
 use Rattle.endian.proofs.Parts.{splice-whole}
 use Rattle.endian.proofs.Tests.{and-right}
 use Rattle.refusal.proofs.Order.{answer-no, answer-yes}
-use Rattle.record.specs.Making.{unless}
+use Rattle.items.specs.Making.{unless}
 use Rattle.capi.specs.Lent.{has, numberIf, leftIf, replaced}
 
 -- a size that is not right gives 1 and leaves what was there

@@ -20,7 +20,9 @@ use Rattle.discovery.specs.declared.Answer.the-variants as Answer
 use Rattle.discovery.specs.Answers.{answerValues}
 use Rattle.record.specs.declared.Found.{Found}
 use Rattle.record.specs.declared.Found.the-variants as Found
-use Rattle.record.specs.Answers.{foundValues}
+use Rattle.record.specs.declared.Counted.{Counted}
+use Rattle.record.specs.declared.Counted.the-variants as Counted
+use Rattle.record.specs.Answers.{foundValues, countedValues}
 use Rattle.room.specs.declared.RunNumber.{RunNumber}
 use Rattle.room.specs.declared.RunNumber.the-variants as RunNumber
 use Rattle.room.specs.declared.FreeTotal.{FreeTotal}
@@ -68,6 +70,10 @@ answerLeft (Answer.Refused n) s = s
 abbrev pub segmentLeft : Found → List ℕ → List ℕ
 segmentLeft (Found.At g) s = foundValues (Found.At g)
 segmentLeft (Found.Refused n) s = s
+
+abbrev pub handedLeft : Counted → List ℕ → List ℕ
+handedLeft (Counted.Segments k) s = countedValues (Counted.Segments k)
+handedLeft (Counted.Refused n) s = s
 
 abbrev pub totalLeft : FreeTotal → List ℕ → List ℕ
 totalLeft (FreeTotal.Sectors k) s = totalValues (FreeTotal.Sectors k)

@@ -3,17 +3,20 @@ ghost use mathlib.Core.Path.{_≡_};
 ghost use mathlib.Core.List.{[], _∷_};
 ghost use lib.ListN.{length};
 ghost use Rattle.refusal.specs.Tests.{first};
-ghost use Rattle.record.specs.Items.{blockSize, count};
+ghost use Rattle.items.specs.declared.Head.the-variants.{Plain};
+ghost use Rattle.items.specs.Head.{headOf, blockSize};
+ghost use Rattle.items.specs.Items.{segments};
+ghost use Rattle.items.specs.Making.{beginTests, begun, unless};
 ghost use Rattle.record.specs.Accept.{recordTests};
-ghost use Rattle.record.specs.Answers.{segmentAnswer, foundNumber};
-ghost use Rattle.record.specs.Making.{beginTests, begun, unless};
-ghost use Rattle.room.specs.Answers.{totalAnswer, totalNumber, runsNumber};
-ghost use Rattle.room.specs.Table.{numbersAnswer, numbersLeft};
+ghost use Rattle.record.specs.Answers.{segmentAnswer, foundNumber, segmentsAnswer, segmentsLeft, countedNumber};
+ghost use Rattle.room.specs.Answers.{totalAnswer, totalNumber, numbersAnswer, numbersLeft, runsNumber};
 ghost use Rattle.room.specs.Change.{allocateAnswer, allocateLeft, releaseAnswer, releaseLeft, allocationNumber, releaseNumber};
 ghost use Rattle.capi.specs.Lent.{has, numberIf, leftIf};
-ghost use Rattle.capi.specs.Answers.{deviceFrom, segmentLeft, totalLeft, runsLeft, allocationLeft, releaseNumbers};
+ghost use Rattle.capi.specs.Answers.{deviceFrom, segmentLeft, handedLeft, totalLeft, runsLeft, allocationLeft, releaseNumbers};
 use crate::lent;
+use items::Head;
 use layout::Device;
+use record::Counted;
 use record::Found;
 use room::Allocation;
 use room::FreeTotal;
@@ -48,7 +51,7 @@ pub extern "C" fn amseokbin_record_head(
     head: &mut [u64],
 ) -> u8
     ensures { λ n. ⌜ n ≡ numberIf (has (now (head .entry)) 2) (first (recordTests (deviceFrom sectors metadata reserved) (now (content .entry)))) ⌝ }
-    ensures { λ _. ⌜ now (head .exit) ≡ leftIf (has (now (head .entry)) 2) (unless (first (recordTests (deviceFrom sectors metadata reserved) (now (content .entry)))) (blockSize (now (content .entry)) ∷ count (now (content .entry)) ∷ []) (now (head .entry))) (now (head .entry)) ⌝ }
+    ensures { λ _. ⌜ now (head .exit) ≡ leftIf (has (now (head .entry)) 2) (unless (first (recordTests (deviceFrom sectors metadata reserved) (now (content .entry)))) (blockSize (headOf (now (content .entry))) ∷ length (segments (now (content .entry))) ∷ []) (now (head .entry))) (now (head .entry)) ⌝ }
 {
     let sized = head.len() == 2;
     if !sized {
@@ -64,8 +67,8 @@ pub extern "C" fn amseokbin_record_head(
         return n;
     }
     let v = [
-        record::block_size_of(content) as u64,
-        record::count_of(content) as u64,
+        items::block_size(items::head_of(content)) as u64,
+        items::count_of(content) as u64,
     ];
     lent::set(head, &v);
     0
@@ -104,13 +107,49 @@ pub extern "C" fn amseokbin_record_segment(
     }
 }
 
+// The segments from a position on, as many as a table has room for: kind, start, length in sectors for each; how many were handed on,
+// to an array of one.
+#[no_mangle]
+pub extern "C" fn amseokbin_record_segments(
+    sectors: u64,
+    metadata: u32,
+    reserved: u32,
+    content: &[u8],
+    position: u64,
+    table: &mut [u64],
+    handed: &mut [u64],
+) -> u8
+    ensures { λ n. ⌜ n ≡ numberIf (has (now (handed .entry)) 1) (countedNumber (segmentsAnswer (deviceFrom sectors metadata reserved) (now (content .entry)) position (length (now (table .entry))))) ⌝ }
+    ensures { λ _. ⌜ now (table .exit) ≡ leftIf (has (now (handed .entry)) 1) (segmentsLeft (deviceFrom sectors metadata reserved) (now (content .entry)) position (now (table .entry))) (now (table .entry)) ⌝ }
+    ensures { λ _. ⌜ now (handed .exit) ≡ leftIf (has (now (handed .entry)) 1) (handedLeft (segmentsAnswer (deviceFrom sectors metadata reserved) (now (content .entry)) position (length (now (table .entry)))) (now (handed .entry))) (now (handed .entry)) ⌝ }
+{
+    let sized = handed.len() == 1;
+    if !sized {
+        return refusal::SLICE_SIZE;
+    }
+    let d = Device {
+        sectors,
+        metadata,
+        reserved,
+    };
+    let a = record::read_segments(d, content, position as usize, table);
+    match a {
+        Counted::Refused(n) => n,
+        Counted::Segments(k) => {
+            let v = [k as u64];
+            lent::set(handed, &v);
+            0
+        }
+    }
+}
+
 // Begins a record with its data block size.
 #[no_mangle]
 pub extern "C" fn amseokbin_record_begin(content: &mut [u8], block_size: u32) -> u8
-    ensures { λ n. ⌜ n ≡ first (beginTests (now (content .entry)) «block_size») ⌝ }
-    ensures { λ _. ⌜ now (content .exit) ≡ begun (now (content .entry)) «block_size» ⌝ }
+    ensures { λ n. ⌜ n ≡ first (beginTests (now (content .entry)) (Plain «block_size»)) ⌝ }
+    ensures { λ _. ⌜ now (content .exit) ≡ begun (now (content .entry)) (Plain «block_size») ⌝ }
 {
-    record::begin(content, block_size)
+    items::begin(content, Head::Plain(block_size))
 }
 
 // Free sectors.

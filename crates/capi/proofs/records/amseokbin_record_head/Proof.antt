@@ -1,6 +1,7 @@
 -- `capi::records::amseokbin_record_head` meets its contract. Assumes nothing.
 use Rattle.capi.proofs.Told.{unsized, unsized-left, number-refused, number-made, whole, long}
-use mathlib.Core.Path.{ap₂, _∙_}
+use mathlib.Core.Path.{ap, ap₂, _∙_}
+use Rattle.items.specs.Head.{blockSize}
 use mathlib.Core.List.{[], _∷_}
 use Prim.Native.Nat.{ℕ}
 use Rattle.capi.specs.Lent.{has}
@@ -19,11 +20,14 @@ check-requires c κs = search needs
 returns-2 : tie.Need-returns-2
 returns-2 c = number-refused (c .before .before .before .before .before .args .head .now) _ 2 _ _ (c .before .before .if1 .left) (c .before .check .ensures) (c .if2 .taken)
 
-block-size-of-requires : tie.Need-block-size-of-requires
-block-size-of-requires c κs = search needs
+head-of-requires : tie.Need-head-of-requires
+head-of-requires c κs = search needs
 
-cast-t13 : tie.Need-cast-t13
-cast-t13 c = search needs
+block-size-requires : tie.Need-block-size-requires
+block-size-requires c κs = search needs
+
+cast-t14 : tie.Need-cast-t14
+cast-t14 c = search needs
 
 count-of-requires : tie.Need-count-of-requires
 count-of-requires c κs = search needs
@@ -39,9 +43,9 @@ same-length c = search needs
 
 returns-3 : tie.Need-returns-3
 returns-3 c =
-    let p1 = c .before .before .before .before .before .before .before .before .before in
+    let p1 = c .before .before .before .before .before .before .before .before .before .before in
     let start = p1 .before .before .before in
-    number-made (start .args .head .now) _ 2 _ _ (p1 .if1 .left) (c .before .before .before .before .before .before .before .before .check .ensures) (c .before .before .before .before .before .before .before .if2 .left) _ (c .before .before .set .ensures ∙ (whole (start .args .head .now) _ (long (start .args .head .now) 2 (p1 .if1 .left)) ∙ ap₂ (λ (i j : ℕ). i ∷ j ∷ []) (c .before .before .before .before .before .before .block-size-of .ensures) (c .before .before .before .before .before .count-of .ensures)))
+    number-made (start .args .head .now) _ 2 _ _ (p1 .if1 .left) (c .before .before .before .before .before .before .before .before .before .check .ensures) (c .before .before .before .before .before .before .before .before .if2 .left) _ (c .before .before .set .ensures ∙ (whole (start .args .head .now) _ (long (start .args .head .now) 2 (p1 .if1 .left)) ∙ ap₂ (λ (i j : ℕ). i ∷ j ∷ []) (c .before .before .before .before .before .before .block-size .ensures ∙ ap blockSize (c .before .before .before .before .before .before .before .head-of .ensures)) (c .before .before .before .before .before .count-of .ensures)))
 
 pub amseokbin-record-head-spec : {M : Type 1} → statement M
 amseokbin-record-head-spec =
@@ -50,8 +54,9 @@ amseokbin-record-head-spec =
     returns
     check-requires
     returns-2
-    block-size-of-requires
-    cast-t13
+    head-of-requires
+    block-size-requires
+    cast-t14
     count-of-requires
     slice-aggregate-set
     set-requires
