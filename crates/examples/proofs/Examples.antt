@@ -1,12 +1,11 @@
 -- The twelve examples, as one equation of two tables. Assumes nothing.
-use Prim.Native.Nat.{ℕ, _+_, _*_, _<_}
+use Prim.Native.Nat.{ℕ, _+_, _*_}
 use mathlib.Core.Path.{_≡_, refl, sym, ap, _∙_}
 use mathlib.Core.Bool.{true, _&&_}
 use mathlib.Core.List.{List, [], _∷_}
-use borrow.Author.Tests.{lt-ltb}
-use lib.Dec.{leb, ltb, lit<}
+use lib.Dec.{leb, lit<}
 use lib.ListN.{length}
-use Rattle.endian.specs.Bytes.{toLe, all, zeros}
+use Rattle.endian.specs.Bytes.{all, zeros}
 use Rattle.endian.proofs.Tests.{length-zeros}
 use Rattle.refusal.specs.Tests.{first, AllHold}
 use Rattle.refusal.proofs.Order.{first-zero, first-all, first-after, answer-yes}
@@ -15,55 +14,29 @@ use Rattle.layout.specs.Places.{copyBytes}
 use Rattle.block.specs.Entry.{laterThan}
 use Rattle.block.specs.Block.{isHex}
 use Rattle.block.specs.Writing.{writeTests}
-use Rattle.record.specs.Items.{headBytes, itemBytes, kindKnown, itemOf, count}
-use Rattle.record.specs.Accept.{recordTests, mostSegments}
-use Rattle.record.specs.Sectors.{freeSectors}
-use Rattle.record.specs.Making.{recordOf, headOf, segmentBytes, allBytes}
-use Rattle.record.proofs.Order.{record-ascending}
-use Rattle.room.specs.declared.Run.{Run}
+use Rattle.segments.specs.Sectors.{freeSectors}
+use Rattle.runs.specs.declared.Run.{Run}
+use Rattle.runs.specs.Runs.{runAt, fitOf, fitting}
+use Rattle.items.specs.Head.{headOf, headSize, dataRange, itemBytes, mostSegments}
+use Rattle.items.specs.Items.{segments}
+use Rattle.record.specs.Accept.{recordTests}
+use Rattle.record.proofs.Testing.{record-ascending}
+use Rattle.record.proofs.Accepted.{accepted}
+use Rattle.record.proofs.Right.{accepted-content}
 use Rattle.room.specs.declared.RunNumber.the-variants as RunNumber
 use Rattle.room.specs.declared.RunFound.the-variants as RunFound
 use Rattle.room.specs.declared.FreeTotal.the-variants as FreeTotal
-use Rattle.room.specs.Runs.{runAt, runCount, fitAt, fitting}
-use Rattle.room.specs.Answers.{orNone, runsAnswer, totalAnswer}
-use Rattle.room.specs.Change.{ownTests, allocateTests, allocation}
+use Rattle.room.specs.Answers.{runsAnswer, totalAnswer}
+use Rattle.room.specs.Answers as Answers
+use Rattle.room.specs.Change.{runsFor, ownTests, allocateTests, allocation}
+use Rattle.room.proofs.Finding.{runs-for}
 use Rattle.update.specs.declared.Planned.the-variants as Planned
 use Rattle.update.specs.Update.{updateNumber, sectorsOf}
 use Rattle.update.specs.Plan.{planOf}
 use Rattle.format.proofs.Checking.{Taken}
 use Rattle.format.proofs.Starting.{not-refused}
-use Rattle.examples.specs.Examples.{device, time, withNanoseconds, zeroUuid, nine, pair, segments, yes, runsIn, runIn, totalIn, runOf, asking, startIn, countIn, copy, storesOf, Twelve}
-use Rattle.examples.proofs.Room.{two, accepted-nine, fit-852, fit-853, example-9, example-11, example-12}
-
--- a record that is accepted: each test holds
-held : (r : List ℕ) → first (recordTests device r) ≡ 0 → AllHold (recordTests device r)
-held r e = first-zero 0 (recordTests device r) (record-ascending device r) e
-
--- what allocation tests of the record itself
-known : kindKnown 2 ≡ true
-unfolding kindKnown itemOf
-known = refl
-
-not-full : ltb (count nine) (mostSegments (headBytes nine)) ≡ true
-unfolding mostSegments headBytes recordLimit
-not-full = ap (λ (n : ℕ). ltb n 409) two
-
-fits : leb (length nine + itemBytes) 8192 ≡ true
-unfolding pair recordOf headOf allBytes segmentBytes toLe
-fits = refl
-
--- an allocation of m sectors in the free run k
-asked : (m k s : ℕ) → fitAt device nine m ≡ k → k < 2097152 → leb 1 m ≡ true → runAt device nine k .start ≡ s → asking m ≡ s
-unfolding fitting
-asked m k s e h l r =
-    ap (λ (n : ℕ). startIn (allocation n (runAt device nine (fitAt device nine m) .start) (length nine + itemBytes))) none
-    ∙ (ap (λ (j : ℕ). runAt device nine j .start) e ∙ r)
-  where
-    own : AllHold (ownTests device nine 2 m 8192)
-    own = (known, (l, (not-full, (ap (λ (j : ℕ). ltb j 2097152) e ∙ lt-ltb k 2097152 h, (fits, tt)))))
-
-    none : first (allocateTests device nine 2 m 8192) ≡ 0
-    none = first-after (recordTests device nine) (ownTests device nine 2 m 8192) (held nine accepted-nine) ∙ first-all (ownTests device nine 2 m 8192) own
+use Rattle.examples.specs.Examples.{device, time, withNanoseconds, zeroUuid, nine, rowOf, yes, runsIn, runIn, totalIn, runOf, asking, startIn, countIn, copy, storesOf, Twelve}
+use Rattle.examples.proofs.Room.{known, free, nine-length, nine-head, nine-segments, nine-accepted, nine-runs, nine-total, example-11, example-12}
 
 -- examples 4 to 6: the device numbers
 sizes : first (deviceTests (record { sectors = 2097151; metadata = 2040; reserved = 0 })) ≡ 4
@@ -94,26 +67,47 @@ nanoseconds = refl
 -- example 9: what the calls answer of the record's free runs
 runs : runsIn (runsAnswer device nine) ≡ 2
 runs =
-    ap runsIn (sym (answer-yes (RunNumber.Runs (runCount device nine)) RunNumber.Refused 0 (first (recordTests device nine)) (sym accepted-nine) refl))
-    ∙ example-9 .runs
+    ap runsIn (sym (answer-yes (RunNumber.Runs (length (Answers.runsIn device nine))) RunNumber.Refused 0 (first (recordTests device nine)) (sym nine-accepted) refl))
+    ∙ ap (λ (rs : List Run). length rs) nine-runs
 
-run : (k : ℕ) (r : Run) → r ≡ runAt device nine k → orNone r ≡ r → runOf k ≡ r
-run k r e h =
-    ap runIn (sym (answer-yes (RunFound.At (orNone (runAt device nine k))) RunFound.Refused 0 (first (recordTests device nine)) (sym accepted-nine) refl))
-    ∙ (ap orNone (sym e) ∙ h)
+run : (k : ℕ) → runOf k ≡ runAt free k
+run k =
+    ap runIn (sym (answer-yes (RunFound.At (runAt (Answers.runsIn device nine) k)) RunFound.Refused 0 (first (recordTests device nine)) (sym nine-accepted) refl))
+    ∙ ap (λ (rs : List Run). runAt rs k) nine-runs
 
-run-0 : runOf 0 ≡ record { start = 2148; sectors = 852 }
-unfolding orNone
-run-0 = run 0 (record { start = 2148; sectors = 852 }) (example-9 .first-run) refl
+total : totalIn (totalAnswer device nine) ≡ 2092906
+total =
+    ap totalIn (sym (answer-yes (FreeTotal.Sectors (freeSectors (dataRange device) (segments nine))) FreeTotal.Refused 0 (first (recordTests device nine)) (sym nine-accepted) refl))
+    ∙ nine-total
 
-run-1 : runOf 1 ≡ record { start = 3050; sectors = 2092054 }
-unfolding orNone
-run-1 = run 1 (record { start = 3050; sectors = 2092054 }) (example-9 .second-run) refl
+-- example 10: an allocation of m sectors, where a free run fits
+runs-data : runsFor device nine 2 ≡ free
+runs-data = runs-for device nine (accepted device nine nine-accepted) 2 ∙ nine-runs
 
-free : totalIn (totalAnswer device nine) ≡ 2092906
-free =
-    ap totalIn (sym (answer-yes (FreeTotal.Sectors (freeSectors device nine)) FreeTotal.Refused 0 (first (recordTests device nine)) (sym accepted-nine) refl))
-    ∙ example-9 .free
+most : mostSegments (headOf nine) ≡ 409
+unfolding mostSegments headSize recordLimit
+most = ap mostSegments nine-head
+
+asked : (m : ℕ) → leb 1 m ≡ true → fitting m free ≡ true → asking m ≡ fitOf m free .start
+asked m l f =
+    ap (λ (n : ℕ). startIn (allocation n (fitOf m (runsFor device nine 2) .start) (length nine + itemBytes))) none
+    ∙ ap (λ (rs : List Run). fitOf m rs .start) runs-data
+  where
+    own : AllHold (ownTests device nine 2 m 8192)
+    own = (rw nine-head known, (l, (rw (nine-segments, most), (rw runs-data f, (rw nine-length, tt)))))
+
+    none : first (allocateTests device nine 2 m 8192) ≡ 0
+    none =
+        first-after (recordTests device nine) (ownTests device nine 2 m 8192) (first-zero 0 (recordTests device nine) (record-ascending device nine) nine-accepted)
+        ∙ first-all (ownTests device nine 2 m 8192) own
+
+asked-852 : asking 852 ≡ 2148
+unfolding fitOf
+asked-852 = asked 852 refl refl
+
+asked-853 : asking 853 ≡ 3050
+unfolding fitOf
+asked-853 = asked 853 refl refl
 
 -- example 12: formatting takes the record of examples 9 and 10
 hex : all isHex zeroUuid && all isHex zeroUuid ≡ true
@@ -132,7 +126,7 @@ formatted =
       metadata = refl;
       reserved = refl;
       ns = refl;
-      content = held nine accepted-nine .1 .1 .1;
+      content = accepted-content device nine nine-accepted;
     }
 
 -- the stores of an update of the formatted copies
@@ -145,16 +139,16 @@ stores r n k a l e =
     ap countIn
     (sym
     (answer-yes (Planned.Ready (planOf copy copy (time 11 0) r)) Planned.Refused 0 (updateNumber copy copy (time 11 0) r)
-    (sym (not-refused formatted (lit< tt) (lit< tt) (time 11 0) r refl later-time (held r a .1 .1 .1))) refl))
+    (sym (not-refused formatted (lit< tt) (lit< tt) (time 11 0) r refl later-time (accepted-content device r a))) refl))
     ∙ (ap (λ (m : ℕ). 2 * sectorsOf m + 2) l ∙ e)
 
-four : storesOf (segments 25) ≡ 4
+four : storesOf (rowOf 25) ≡ 4
 unfolding sectorsOf
-four = stores (segments 25) 508 4 (example-12 .0 .2) (example-12 .0 .0) refl
+four = stores (rowOf 25) 508 4 (example-12 .0 .2) (example-12 .0 .0) refl
 
-six : storesOf (segments 26) ≡ 6
+six : storesOf (rowOf 26) ≡ 6
 unfolding sectorsOf
-six = stores (segments 26) 528 6 (example-12 .1 .2) (example-12 .1 .0) refl
+six = stores (rowOf 26) 528 6 (example-12 .1 .2) (example-12 .1 .0) refl
 
 pub twelve : Twelve
 twelve i =
@@ -166,10 +160,8 @@ twelve i =
     ∷ (1 ∷ 1 ∷ largest i ∷ [])
     ∷ (later i ∷ [])
     ∷ (nanoseconds i ∷ [])
-    ∷ (runs i ∷ run-0 i .start ∷ run-0 i .sectors ∷ run-1 i .start ∷ run-1 i .sectors ∷ free i ∷ [])
-    ∷ (asked 852 0 2148 fit-852 (lit< tt) refl (ap (λ (r : Run). r .start) (sym (example-9 .first-run))) i
-    ∷ asked 853 1 3050 fit-853 (lit< tt) refl (ap (λ (r : Run). r .start) (sym (example-9 .second-run))) i
-    ∷ [])
+    ∷ (runs i ∷ run 0 i .start ∷ run 0 i .sectors ∷ run 1 i .start ∷ run 1 i .sectors ∷ total i ∷ [])
+    ∷ (asked-852 i ∷ asked-853 i ∷ [])
     ∷ (example-11 .0 i ∷ example-11 .1 i ∷ [])
     ∷ (example-12 .0 .0 i
     ∷ example-12 .0 .1 i

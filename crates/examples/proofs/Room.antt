@@ -1,152 +1,146 @@
--- Examples 9 and 11, the runs of example 10 and the records of example 12, by the laws of free room. Assumes nothing.
-use Prim.Native.Nat.{ℕ, _+_, _-_, _*_, _≤_, _<_}
-use mathlib.Core.Path.{_≡_, refl, sym, ap}
+-- The records of examples 9 to 12, and the free runs of examples 9 and 10: by the laws of records that are made. Assumes nothing.
+use Prim.Native.Nat.{ℕ, _+_, _*_, _<_, _≤_}
+use mathlib.Core.Path.{_≡_, refl, sym, ap, _∙_}
+use mathlib.Core.Bool.{Bool, true, _&&_}
+use mathlib.Core.List.{List, [], _∷_}
 use native.Mathlib.Omega.{arith}
-use Rattle.refusal.specs.Tests.{first}
-use Rattle.endian.specs.Bytes.{le, toLe, window}
-use Rattle.layout.specs.Limits.{lengthAllowed, recordLimit}
-use Rattle.layout.specs.Places.{dataEnd}
-use Rattle.record.specs.Search.{every, least, total}
-use Rattle.record.specs.Items.{itemOf, kindKnown, headBytes, blockSize, headRight, count, place, sizeAt, kindAt, startAt, sectorsAt, segmentAt}
-use Rattle.record.specs.Accept.{itemRight, wellFormed, inRange, allInRange, meets, clashesAt, laterOf, earlierOf, apart, recordTests}
-use Rattle.record.specs.Making.{headOf, segmentBytes, allBytes, recordOf}
-use Rattle.record.specs.Sectors.{holds, allocated, freeSectors}
-use native.Mathlib.Nat.{le-refl}
-use lib.Dec.{leb, lit<}
+use borrow.Author.Tests.{eqb-true, leb-true}
+use lib.Dec.{eqb, leb}
 use lib.ListN.{length}
-use Rattle.record.proofs.Search.{least-zero, least-more, least-found}
-use Rattle.record.proofs.Meaning.{accepted}
-use Rattle.record.proofs.Partition.{counted, holds-in}
-use Rattle.room.specs.declared.Run.{Run}
-use Rattle.examples.specs.Examples.{device, pair, inRow, segments, nine}
-use Rattle.room.specs.Runs.{runFrom, runAt, noRun, runCount, longEnough, fitAt}
-use Rattle.room.specs.Searching.{holderOf, lowestStart}
-use Rattle.room.proofs.Runs.{HeldUpTo, held-none, next-free-here, next-free-end, run-some, run-none, OnRun, at-first, on-run, run-is, count-more, count-done}
+use Rattle.endian.proofs.Tests.{and-left, and-right}
+use Rattle.refusal.specs.Numbers.{recordLength, segmentPlace, segmentClash}
+use Rattle.refusal.specs.Tests.{Test, _or_, first}
+use Rattle.layout.specs.Limits.{lengthAllowed, recordLimit}
+use Rattle.search.specs.Search.{every, least}
+use Rattle.search.proofs.Search.{every-at}
+use Rattle.segments.specs.declared.Segment.{Segment}
+use Rattle.segments.specs.Segments.{nth, endOf, holds, meets, inRange}
+use Rattle.segments.specs.Clash.{clashesAt, laterOf, earlierOf, apart}
+use Rattle.segments.specs.Sectors.{allocated, freeSectors}
+use Rattle.segments.specs.Order.{orderOf, follows, ascends}
+use Rattle.segments.proofs.Order.{ascends-order}
+use Rattle.runs.specs.declared.Run.{Run}
+use Rattle.runs.specs.Gaps.{gap, gaps}
+use Rattle.items.specs.declared.Head.the-variants.{Plain}
+use Rattle.items.specs.Head.{itemOf, headOf, headSize, allows, dataRange, rangeFor, itemBytes}
+use Rattle.items.specs.Items.{segments, wellFormed}
+use Rattle.items.specs.Making.{recordOf}
+use Rattle.items.proofs.Heads.{HeadFits, plain-right, right-fits}
+use Rattle.items.proofs.Making.{AllFit, length-record, head-record, segments-record, formed-record}
+use Rattle.record.specs.Accept.{allInRange, recordTests}
+use Rattle.record.proofs.Accepted.{accepted}
+use Rattle.record.proofs.Demand.{counted}
+use Rattle.room.specs.Answers as Answers
+use Rattle.room.specs.Walking.{walked}
+use Rattle.room.proofs.Finding.{runs-walked}
+use Rattle.examples.specs.Examples.{device, segment, pair, inRow, rowOf, nine}
+
+-- the segment at position i is a data segment and ends on the device
+abbrev small : List Segment → ℕ → Bool
+small gs i = eqb (nth gs i .kind) 2 && leb (endOf (nth gs i)) 2097152
+
+-- the tests of a record of such segments on the device, by the segments alone
+abbrev listTests : List Segment → List Test
+listTests gs =
+    (lengthAllowed (8 + itemBytes * length gs) or recordLength)
+    ∷ (allInRange device (Plain 128) gs or segmentPlace)
+    ∷ (apart gs or segmentClash)
+    ∷ []
+
+-- a head of block size 128: it allows data segments, and is read back
+pub known : allows (Plain 128) 2 ≡ true
+unfolding allows itemOf
+known = refl
+
+head-fits : HeadFits (Plain 128)
+head-fits = right-fits device (Plain 128) (plain-right device 128 refl)
+
+length-made : (gs : List Segment) → length (recordOf (Plain 128) gs) ≡ 8 + itemBytes * length gs
+unfolding headSize
+length-made gs = length-record (Plain 128) gs
+
+head-made : (gs : List Segment) → headOf (recordOf (Plain 128) gs) ≡ Plain 128
+head-made gs = head-record (Plain 128) gs head-fits
+
+-- what is read of a record that was made of such segments
+module _ (gs : List Segment) (h : every (small gs) (length gs) ≡ true) where
+  each : (i : ℕ) → i < length gs → (nth gs i .kind ≡ 2) × (endOf (nth gs i) ≤ 2097152)
+  each i l =
+      let e : small gs i ≡ true = every-at (small gs) (length gs) h i l in (
+        eqb-true (nth gs i .kind) 2 (and-left (eqb (nth gs i .kind) 2) (leb (endOf (nth gs i)) 2097152) e),
+        leb-true (endOf (nth gs i)) 2097152 (and-right (eqb (nth gs i .kind) 2) (leb (endOf (nth gs i)) 2097152) e),
+      )
+
+  fits : AllFit gs
+  fits i l =
+      let e : (nth gs i .kind ≡ 2) × (endOf (nth gs i) ≤ 2097152) = each i l in
+      record { kind = omega arith; start = omega arith; sectors = omega arith }
+
+  segments-made : segments (recordOf (Plain 128) gs) ≡ gs
+  segments-made = segments-record (Plain 128) gs head-fits fits
+
+  formed-made : wellFormed device (recordOf (Plain 128) gs) ≡ true
+  formed-made =
+      formed-record device (Plain 128) gs head-fits (plain-right device 128 refl) fits (λ i l. ap (allows (Plain 128)) (each i l .0) ∙ known)
+
+  -- the number of its check, by those tests
+  number-made : first (recordTests device (recordOf (Plain 128) gs)) ≡ first (listTests gs)
+  unfolding first
+  number-made = rw (length-made gs, formed-made, head-made gs, segments-made)
+
+-- 9. Segments (2,048, 100) and (3,000, 50): free runs (2,148, 852) and (3,050, 2,092,054); free total 2,092,906.
+abbrev two : List Segment
+two = segment 2048 100 ∷ segment 3000 50 ∷ []
+
+abbrev pub free : List Run
+free = record { start = 2148; sectors = 852 } ∷ record { start = 3050; sectors = 2092054 } ∷ []
+
+pub nine-length : length nine ≡ 48
+unfolding pair
+nine-length = length-made two
+
+pub nine-head : headOf nine ≡ Plain 128
+unfolding pair
+nine-head = head-made two
+
+pub nine-segments : segments nine ≡ two
+unfolding pair every
+nine-segments = segments-made two refl
+
+pub nine-accepted : first (recordTests device nine) ≡ 0
+unfolding pair first every lengthAllowed recordLimit allInRange rangeFor inRange apart earlierOf laterOf least clashesAt meets holds
+nine-accepted = number-made two refl
+
+order : 0 ∷ 1 ∷ [] ≡ orderOf two
+unfolding ascends follows
+order = ascends-order two (0 ∷ 1 ∷ []) refl refl .1
+
+pub nine-runs : Answers.runsIn device nine ≡ free
+unfolding gaps gap
+nine-runs =
+    runs-walked device nine (accepted device nine nine-accepted)
+    ∙ (ap (λ (gs : List Segment). walked (dataRange device) gs (orderOf gs)) nine-segments
+    ∙ ap (walked (dataRange device) two) (sym order))
+
+pub nine-total : freeSectors (dataRange device) (segments nine) ≡ 2092906
+unfolding allocated
+nine-total =
+    let t : allocated (segments nine) + freeSectors (dataRange device) (segments nine) + 2 * (8 + 2040 + 0) ≡ 2097152 = counted device nine nine-accepted in
+    let a : allocated (segments nine) ≡ 150 = ap allocated nine-segments in
+    omega arith
 
 -- 11. Segments (2,048, 100) and (2,147, 1): 19. With (2,148, 1) instead: accepted.
 pub example-11 : (first (recordTests device (pair 2048 100 2147 1)) ≡ 19) × (first (recordTests device (pair 2048 100 2148 1)) ≡ 0)
-unfolding first pair recordOf headOf allBytes segmentBytes toLe le window lengthAllowed recordLimit wellFormed headBytes headRight blockSize itemOf itemRight sizeAt kindAt kindKnown startAt sectorsAt place count every allInRange inRange apart earlierOf laterOf least clashesAt meets
-example-11 = (refl, refl)
-
-pub accepted-nine : first (recordTests device nine) ≡ 0
-unfolding first pair recordOf headOf allBytes segmentBytes toLe le window lengthAllowed recordLimit wellFormed headBytes headRight blockSize itemOf itemRight sizeAt kindAt kindKnown startAt sectorsAt place count every allInRange inRange apart earlierOf laterOf least clashesAt meets
-accepted-nine = refl
+unfolding pair first every lengthAllowed recordLimit allInRange rangeFor inRange apart earlierOf laterOf least clashesAt meets holds
+example-11 = (number-made (segment 2048 100 ∷ segment 2147 1 ∷ []) refl, number-made (segment 2048 100 ∷ segment 2148 1 ∷ []) refl)
 
 -- 12. A record of 508 bytes (25 segments), one of 528 bytes (26 segments).
 abbrev Sized : ℕ → ℕ → Type 0
-Sized k n = (length (segments k) ≡ n) × (count (segments k) ≡ k) × (first (recordTests device (segments k)) ≡ 0)
+Sized k n = (length (rowOf k) ≡ n) × (length (segments (rowOf k)) ≡ k) × (first (recordTests device (rowOf k)) ≡ 0)
 
 pub example-12 : Sized 25 508 × Sized 26 528
-unfolding first segments inRow recordOf headOf allBytes segmentBytes toLe le window lengthAllowed recordLimit wellFormed headBytes headRight blockSize itemOf itemRight sizeAt kindAt kindKnown startAt sectorsAt place count every allInRange inRange apart earlierOf laterOf least clashesAt meets
-example-12 = ((refl, refl, refl), (refl, refl, refl))
-
-pub two : count nine ≡ 2
-unfolding pair recordOf headOf allBytes segmentBytes toLe le window headBytes startAt sectorsAt place count
-two = refl
-
-first-start : startAt nine 0 ≡ 2048
-unfolding pair recordOf headOf allBytes segmentBytes toLe le window headBytes startAt sectorsAt place count
-first-start = refl
-
-first-end : startAt nine 0 + sectorsAt nine 0 ≡ 2148
-unfolding pair recordOf headOf allBytes segmentBytes toLe le window headBytes startAt sectorsAt place count
-first-end = refl
-
-second-start : startAt nine 1 ≡ 3000
-unfolding pair recordOf headOf allBytes segmentBytes toLe le window headBytes startAt sectorsAt place count
-second-start = refl
-
-second-end : startAt nine 1 + sectorsAt nine 1 ≡ 3050
-unfolding pair recordOf headOf allBytes segmentBytes toLe le window headBytes startAt sectorsAt place count
-second-end = refl
-
-not-held : (holderOf nine 2148 ≡ 2) × (holderOf nine 3050 ≡ 2)
-unfolding pair recordOf headOf allBytes segmentBytes toLe le window headBytes startAt sectorsAt place count holderOf least holds kindAt
-not-held = (refl, refl)
-
-starts : (3000 ≡ lowestStart nine 2148 (dataEnd device) (count nine)) × (2095104 ≡ lowestStart nine 3050 (dataEnd device) (count nine))
-unfolding pair recordOf headOf allBytes segmentBytes toLe le window headBytes startAt sectorsAt place count lowestStart
-starts = (refl, refl)
-
-all : allocated nine ≡ 150
-unfolding pair recordOf headOf allBytes segmentBytes toLe le window headBytes startAt sectorsAt place count allocated total
-all = refl
-
-held-first : HeldUpTo nine 2048 2148
-held-first z l k =
-    let a : startAt nine 0 ≡ 2048 = first-start in
-    let b : startAt nine 0 + sectorsAt nine 0 ≡ 2148 = first-end in
-    let c : count nine ≡ 2 = two in
-    (0, ((let m : 0 < count nine = omega arith in m), holds-in (segmentAt nine 0) z (let m : startAt nine 0 ≤ z = omega arith in m) (let m : z < startAt nine 0 + sectorsAt nine 0 = omega arith in m)))
-
-held-second : HeldUpTo nine 3000 3050
-held-second z l k =
-    let a : startAt nine 1 ≡ 3000 = second-start in
-    let b : startAt nine 1 + sectorsAt nine 1 ≡ 3050 = second-end in
-    let c : count nine ≡ 2 = two in
-    (1, ((let m : 1 < count nine = omega arith in m), holds-in (segmentAt nine 1) z (let m : startAt nine 1 ≤ z = omega arith in m) (let m : z < startAt nine 1 + sectorsAt nine 1 = omega arith in m)))
-
-past : (y : ℕ) → holderOf nine y ≡ 2 → count nine ≤ holderOf nine y
-past y e = let c : count nine ≡ 2 = two in omega arith
-
--- the first run, and where the second is looked for
-run-first : record { start = 2148; sectors = 852 } ≡ runFrom device nine 0
-run-first =
-    run-some device nine 0 2148 3000 (accepted device nine accepted-nine)
-    (next-free-here device nine 0 2048 2148 refl (omega arith) held-first (omega arith) (past 2148 (not-held .0))) (omega arith) (starts .0) .1
-
-run-second : record { start = 3050; sectors = 2092054 } ≡ runFrom device nine 3000
-run-second =
-    run-some device nine 3000 3050 2095104 (accepted device nine accepted-nine)
-    (next-free-here device nine 3000 3000 3050 refl (omega arith) held-second (omega arith) (past 3050 (not-held .1))) (omega arith) (starts .1) .1
-
-run-third : record { start = 2095104; sectors = 0 } ≡ runFrom device nine 2095104
-run-third =
-    run-none device nine 2095104 2095104
-    (next-free-end device nine 2095104 2095104 2095104 refl (held-none nine 2095104) (le-refl 2095104)) refl
-
-at-second : OnRun device nine 0 0 3000
-at-second = on-run device nine 0 0 (record { start = 2148; sectors = 852 }) (at-first device nine) run-first (omega arith)
-
-at-third : OnRun device nine 1 3000 2095104
-at-third = on-run device nine 1 3000 (record { start = 3050; sectors = 2092054 }) (at-second .next) run-second (omega arith)
-
-run-zero : record { start = 2148; sectors = 852 } ≡ runAt device nine 0
-run-zero = run-is device nine 0 0 (record { start = 2148; sectors = 852 }) (at-first device nine) run-first
-
-run-one : record { start = 3050; sectors = 2092054 } ≡ runAt device nine 1
-run-one = run-is device nine 1 3000 (record { start = 3050; sectors = 2092054 }) (at-second .next) run-second
-
--- 9. Segments (2,048, 100) and (3,000, 50): free runs (2,148, 852) and (3,050, 2,092,054); free total 2,092,906.
-pub record Example9 : Type 0 where
-  pub runs : runCount device nine ≡ 2
-  pub first-run : record { start = 2148; sectors = 852 } ≡ runAt device nine 0
-  pub second-run : record { start = 3050; sectors = 2092054 } ≡ runAt device nine 1
-  pub free : freeSectors device nine ≡ 2092906
-
-pub example-9 : Example9
-example-9 =
-    let t : allocated nine + freeSectors device nine + 2 * (8 + 2040 + 0) ≡ 2097152 = counted device nine accepted-nine in
-    let a : allocated nine ≡ 150 = all in
-    record {
-      runs =
-          sym (count-done device nine 2 2095104 (record { start = 2095104; sectors = 0 }) (accepted device nine accepted-nine) (at-third .next) run-third refl
-          (count-more device nine 1 3000 (record { start = 3050; sectors = 2092054 }) (at-second .next) run-second (omega arith)
-          (count-more device nine 0 0 (record { start = 2148; sectors = 852 }) (at-first device nine) run-first (omega arith) (least-zero (noRun device nine)))));
-      first-run = run-zero;
-      second-run = run-one;
-      free = omega arith;
-    }
-
-pub fit-852 : fitAt device nine 852 ≡ 0
-unfolding fitAt
-fit-852 =
-    least-found (longEnough device nine 852) 0 2097152 (least-zero (longEnough device nine 852))
-    (ap (λ (r : Run). leb 852 (r .sectors)) (sym run-zero)) (lit< tt)
-
-pub fit-853 : fitAt device nine 853 ≡ 1
-unfolding fitAt
-fit-853 =
-    least-found (longEnough device nine 853) 1 2097152
-    (least-more (longEnough device nine 853) 0 (least-zero (longEnough device nine 853)) (ap (λ (r : Run). leb 853 (r .sectors)) (sym run-zero)))
-    (ap (λ (r : Run). leb 853 (r .sectors)) (sym run-one)) (lit< tt)
+unfolding rowOf inRow first every lengthAllowed recordLimit allInRange rangeFor inRange apart earlierOf laterOf least clashesAt meets holds
+example-12 = (
+  (length-made (inRow 2048 25), ap (λ (gs : List Segment). length gs) (segments-made (inRow 2048 25) refl), number-made (inRow 2048 25) refl),
+  (length-made (inRow 2048 26), ap (λ (gs : List Segment). length gs) (segments-made (inRow 2048 26) refl), number-made (inRow 2048 26) refl),
+)

@@ -17,11 +17,12 @@ use Rattle.block.specs.declared.Entry.the-variants.{Unused, Used}
 use Rattle.block.specs.declared.BlockFields.{BlockFields}
 use Rattle.block.specs.Entry.{laterThan}
 use Rattle.block.specs.Writing.{writeTests}
-use Rattle.record.specs.declared.Segment.{Segment}
-use Rattle.record.specs.Items.{count}
+use Rattle.segments.specs.declared.Segment.{Segment}
+use Rattle.runs.specs.declared.Run.{Run}
+use Rattle.items.specs.declared.Head.the-variants.{Plain}
+use Rattle.items.specs.Items.{segments}
+use Rattle.items.specs.Making.{recordOf}
 use Rattle.record.specs.Accept.{recordTests}
-use Rattle.record.specs.Making.{recordOf}
-use Rattle.room.specs.declared.Run.{Run}
 use Rattle.room.specs.declared.RunNumber.{RunNumber}
 use Rattle.room.specs.declared.RunNumber.the-variants as RunNumber
 use Rattle.room.specs.declared.RunFound.{RunFound}
@@ -56,15 +57,15 @@ abbrev pub segment : ℕ → ℕ → Segment
 segment s n = record { kind = 2; start = s; sectors = n }
 
 unfoldable pub pair : ℕ → ℕ → ℕ → ℕ → List ℕ
-pair a m b n = recordOf 128 (segment a m ∷ segment b n ∷ [])
+pair a m b n = recordOf (Plain 128) (segment a m ∷ segment b n ∷ [])
 
 -- n segments of 100 sectors, one after the other from sector s on; a record with n of them from 2,048 on
 unfoldable pub inRow : ℕ → ℕ → List Segment
 inRow s zero = []
 inRow s (suc n) = segment s 100 ∷ inRow (s + 100) n
 
-unfoldable pub segments : ℕ → List ℕ
-segments n = recordOf 128 (inRow 2048 n)
+unfoldable pub rowOf : ℕ → List ℕ
+rowOf n = recordOf (Plain 128) (inRow 2048 n)
 
 -- the record of examples 9 and 10
 abbrev pub nine : List ℕ
@@ -153,14 +154,14 @@ given =
     ∷ [])
     ∷ (asking 852 ∷ asking 853 ∷ [])
     ∷ (first (recordTests device (pair 2048 100 2147 1)) ∷ first (recordTests device (pair 2048 100 2148 1)) ∷ [])
-    ∷ (length (segments 25)
-    ∷ count (segments 25)
-    ∷ first (recordTests device (segments 25))
-    ∷ storesOf (segments 25)
-    ∷ length (segments 26)
-    ∷ count (segments 26)
-    ∷ first (recordTests device (segments 26))
-    ∷ storesOf (segments 26)
+    ∷ (length (rowOf 25)
+    ∷ length (segments (rowOf 25))
+    ∷ first (recordTests device (rowOf 25))
+    ∷ storesOf (rowOf 25)
+    ∷ length (rowOf 26)
+    ∷ length (segments (rowOf 26))
+    ∷ first (recordTests device (rowOf 26))
+    ∷ storesOf (rowOf 26)
     ∷ [])
     ∷ []
 
