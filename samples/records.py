@@ -177,6 +177,29 @@ def release(data, position, lent):
     return None if n else data[:8 + 20 * position] + data[28 + 20 * position:]
 
 
+def clash(data):
+    """The first two segments that share a sector, of a record of any content."""
+    if not 1 <= len(data) <= 8192:
+        return say("clash", "refused", 15)
+    held = segments_of(data)
+    for i, (_, a, m) in enumerate(held):
+        for j, (_, b, n) in enumerate(held[:]):
+            if i < j and max(a, b) < min(a + m, b + n):
+                return say("clash", i, j)
+    return say("clash")
+
+
+def handed(what, data, position, lent):
+    """The segments from a position on that a table of `lent` numbers takes, and the table."""
+    n = refusal(data)
+    rest = [] if n else segments_of(data)[position:]
+    if not n and rest and lent < 3:
+        n = 1
+    taken = [] if n else rest[:lent // 3]
+    table = [x for g in taken for x in g] + [9] * (lent - 3 * len(taken))
+    say(what, position, n + 100 if n else len(taken), *table)
+
+
 def shown(data, first, second):
     check("new record", data)
     segment(data, first)
@@ -254,6 +277,14 @@ def main():
     check("L 2041", far, (2097152, 2041, 65537))
     check("R 65537", b"", (2097152, 2040, 65537))
     check("L 16384 and R 65536", far, (2097152, 16384, 65536))
+    for pair in ((2048, 100, 2147, 1), (2147, 1, 2048, 100), (2048, 100, 2148, 1), (2048, 100, 2050, 0), (MOST, 2, MOST, 1)):
+        clash(two(*pair))
+    clash(b"")
+    for position in (0, 1, 2, MOST):
+        handed("segments from", example, position, 7)
+    handed("segments from", two(2048, 100, 2147, 1), 0, 7)
+    handed("no room from", example, 1, 2)
+    handed("no room from", example, 2, 2)
     Path("crates/record_samples/stdout").write_text("".join(line + "\n" for line in lines))
 
 

@@ -2,6 +2,8 @@
 // each. The file stdout beside src/ has what must be printed. Assumes what `io` and `libc` do.
 use items::Head;
 use layout::Device;
+use order::Clash;
+use record::Clashes;
 use record::Counted;
 use record::Found;
 use record::Heading;
@@ -386,6 +388,85 @@ fn filled() {
     run_at(r, 0);
 }
 
+// Prints two positions that clash.
+fn positions(c: Clash) {
+    match c {
+        Clash::Pair(i, j) => {
+            number(i as u64);
+            number(j as u64);
+            end();
+        }
+        Clash::Nothing => end(),
+    }
+}
+
+// Prints the first two segments that share a sector, of a record of any content.
+fn clash(s: &[u8]) {
+    name(b"clash");
+    let a = record::first_clash(s);
+    match a {
+        Clashes::First(c) => positions(c),
+        Clashes::Refused(n) => refused(n),
+    }
+}
+
+// Records with and without two segments that share a sector; an empty segment shares none.
+fn clashes() {
+    clash(&two(2048, 100, 2147, 1));
+    clash(&two(2147, 1, 2048, 100));
+    clash(&two(2048, 100, 2148, 1));
+    clash(&two(2048, 100, 2050, 0));
+    clash(&two(0xFFFF_FFFF_FFFF_FFFF, 2, 0xFFFF_FFFF_FFFF_FFFF, 1));
+    clash(b"");
+}
+
+// Prints how many segments from a position on a table of seven numbers takes, and the table.
+fn handed(s: &[u8], position: usize) {
+    let mut t = [9u64; 7];
+    let a = record::read_segments(device(), s, position, &mut t);
+    name(b"segments from");
+    number(position as u64);
+    match a {
+        Counted::Segments(n) => number(n as u64),
+        Counted::Refused(n) => number(n as u64 + 100),
+    }
+    number(t[0]);
+    number(t[1]);
+    number(t[2]);
+    number(t[3]);
+    number(t[4]);
+    number(t[5]);
+    number(t[6]);
+    end();
+}
+
+// The same for a table with room for none.
+fn handed_none(s: &[u8], position: usize) {
+    let mut t = [9u64; 2];
+    let a = record::read_segments(device(), s, position, &mut t);
+    name(b"no room from");
+    number(position as u64);
+    match a {
+        Counted::Segments(n) => number(n as u64),
+        Counted::Refused(n) => number(n as u64 + 100),
+    }
+    number(t[0]);
+    number(t[1]);
+    end();
+}
+
+// Segments from a position on; 100 and the number where that is refused.
+fn handing() {
+    let s = two(2048, 100, 3000, 50);
+    handed(&s, 0);
+    handed(&s, 1);
+    handed(&s, 2);
+    handed(&s, 0xFFFF_FFFF_FFFF_FFFF);
+    handed(&two(2048, 100, 2147, 1), 0);
+    handed_none(&s, 1);
+    handed_none(&s, 2);
+}
+
 // Prints the number of the record with one segment after two of its bytes are changed.
 fn changed(what: &[u8], at: usize, v: u16) {
     let mut s = one(2, 2048, 100);
@@ -486,4 +567,6 @@ fn main() {
     ranges();
     parts();
     devices();
+    clashes();
+    handing();
 }
