@@ -3,7 +3,8 @@ use Prim.Native.Nat.{ℕ, _+_, _-_, _*_, _/_, _%_, _^_, _≤_, _<_}
 use mathlib.Core.Path.{_≡_, refl, sym, ap, _∙_}
 use mathlib.Core.Bool.{Bool, true, false, _&&_, true≢false}
 use mathlib.Core.List.{List, [], _++_, append-assoc}
-use native.Mathlib.Decide.{decLt}
+use native.Mathlib.Decide.{decLt, ℕ-discrete}
+use mathlib.Core.Logic.{_⊎_, inl, inr}
 use native.Mathlib.Omega.{arith}
 use borrow.Author.Tests.{ne-eqb, leb-true}
 use lib.Dec.{lit<, leb, eqb}
@@ -25,6 +26,11 @@ use Rattle.items.specs.Head.{itemOf, isSegment, headAs, headOf, headByte
 pub item-unknown : (k : ℕ) → (k ≡ 1 → ⊥) → (k ≡ 2 → ⊥) → (k ≡ 3 → ⊥) → (k ≡ 4 → ⊥) → (k ≡ 16 → ⊥) → itemOf k ≡ Item.Unknown
 unfolding itemOf
 item-unknown k a b c d e = rw (ne-eqb k 1 a, ne-eqb k 2 b, ne-eqb k 3 c, ne-eqb k 4 d, ne-eqb k 16 e)
+
+-- a head is no segment
+sixteen : isSegment (itemOf 16) ≡ false
+unfolding itemOf
+sixteen = refl
 
 -- a kind that a head allows has room in its two bytes
 pub kind-small : (h : Head) (k : ℕ) → allows h k ≡ true → k < 256 ^ 2
@@ -56,7 +62,7 @@ most-most d Unknown r = absurd (true≢false (sym r))
 
 -- which is this number
 pub most-any : mostOfAny ≡ 409
-unfolding mostOfAny recordLimit
+unfolding mostOfAny mostSegments headSize recordLimit
 most-any = refl
 
 -- a head that is known, with numbers that its fields have room for
@@ -71,13 +77,13 @@ field s x v y k n e l m = ap (λ (z : List ℕ). take n (drop k z)) e ∙ (ap (t
 
 -- the kind and the length that a made head says
 kind-made : (b : ℕ) (t : List ℕ) → le (window (headBytes (Plain b) ++ t) 2 2) ≡ 16
-unfolding headBytes
+unfolding headBytes headSize
 kind-made b t =
     ap le (field ((toLe 2 8 ++ (toLe 2 16 ++ toLe 4 b)) ++ t) (toLe 2 8) (toLe 2 16) (toLe 4 b ++ t) 2 2 (simp append-assoc) (length-toLe 2 8) (length-toLe 2 16))
     ∙ le-toLe 2 16 (lit< tt)
 
 block-made : (b : ℕ) (t : List ℕ) → b < 256 ^ 4 → le (window (headBytes (Plain b) ++ t) 4 4) ≡ b
-unfolding headBytes
+unfolding headBytes headSize
 block-made b t h =
     let a : length (toLe 2 8) ≡ 2 = length-toLe 2 8 in
     let c : length (toLe 2 16) ≡ 2 = length-toLe 2 16 in
@@ -140,3 +146,64 @@ right-some d Unknown r = absurd (true≢false (sym r))
 pub plain-right : (d : Device) (b : ℕ) → blockSizeAllowed b ≡ true → headRight d (Plain b) ≡ true
 unfolding headRight headAllowed
 plain-right d b r = r
+
+pub right-plain : (d : Device) (b : ℕ) → headRight d (Plain b) ≡ true → blockSizeAllowed b ≡ true
+unfolding headRight headAllowed
+right-plain d b r = r
+
+pub unknown-wrong : (d : Device) → headRight d Unknown ≡ false
+unfolding headRight
+unknown-wrong d = refl
+
+-- it allows the kinds 1 to 4
+pub kinds-plain : (b k : ℕ) → 1 ≤ k → k ≤ 4 → allows (Plain b) k ≡ true
+unfolding allows itemOf
+kinds-plain b k l h = four (which k l h)
+  where
+    which : (k : ℕ) → 1 ≤ k → k ≤ 4 → (k ≡ 1) ⊎ ((k ≡ 2) ⊎ ((k ≡ 3) ⊎ (k ≡ 4)))
+    which k l h =
+        elim (ℕ-discrete k 1) [
+          | yes e ↦ inl e
+          | no e ↦
+              elim (ℕ-discrete k 2) [
+                | yes f ↦ inr (inl f)
+                | no f ↦
+                    elim (ℕ-discrete k 3) [
+                      | yes g ↦ inr (inr (inl g))
+                      | no g ↦ inr (inr (inr (omega arith)))
+                    ]
+              ]
+        ]
+
+    four : (k ≡ 1) ⊎ ((k ≡ 2) ⊎ ((k ≡ 3) ⊎ (k ≡ 4))) → isSegment (itemOf k) ≡ true
+    four (inl e) = rw e
+    four (inr (inl e)) = rw e
+    four (inr (inr (inl e))) = rw e
+    four (inr (inr (inr e))) = rw e
+
+pub plain-kinds : (b k : ℕ) → allows (Plain b) k ≡ true → (1 ≤ k) × (k ≤ 4)
+unfolding allows
+plain-kinds b k h =
+    elim (decLt k 1) [
+      | yes l ↦ absurd (true≢false (sym h ∙ ap isSegment (item-unknown k (omega arith) (omega arith) (omega arith) (omega arith) (omega arith))))
+      | no l ↦
+          elim (decLt 4 k) [
+            | yes m ↦ absurd (go (ℕ-discrete k 16) m)
+            | no m ↦ (omega arith, omega arith)
+          ]
+    ]
+  where
+    go : Dec (k ≡ 16) → 4 < k → ⊥
+    go (yes e) m = true≢false (sym h ∙ (ap (λ (z : ℕ). isSegment (itemOf z)) e ∙ sixteen))
+    go (no e) m = true≢false (sym h ∙ ap isSegment (item-unknown k (omega arith) (omega arith) (omega arith) (omega arith) e))
+
+-- the most segments: as many as there is room for
+pub most-room : (h : Head) (n : ℕ) → n < mostSegments h → headSize h + itemBytes * (n + 1) ≤ recordLimit
+unfolding mostSegments
+most-room h n l =
+    let s : headSize h + 20 ≤ recordLimit = head-small h in
+    omega arith
+
+pub room-most : (h : Head) (n : ℕ) → headSize h + itemBytes * (n + 1) ≤ recordLimit → n < mostSegments h
+unfolding mostSegments
+room-most h n l = omega arith

@@ -37,7 +37,7 @@ length-segment g = rw (length-append, length-append, length-append, length-toLe,
 -- three writes make a head
 pub head-written : (s : List ℕ) (b : ℕ) → 8 ≤ length s
     → splice (splice (splice s 0 (toLe 2 8)) 2 (toLe 2 16)) 4 (toLe 4 b) ≡ splice s 0 (headBytes (Plain b))
-unfolding headBytes
+unfolding headBytes headSize
 head-written s b h =
     let a : length (toLe 2 8) ≡ 2 = length-toLe 2 8 in
     let d : length (toLe 2 16) ≡ 2 = length-toLe 2 16 in

@@ -42,15 +42,15 @@ headAs Item.Unknown s = Unknown
 unfoldable pub headOf : List ℕ → Head
 headOf s = headAs (itemOf (le (window s 2 2))) s
 
--- its bytes: length 8, kind 16, the block size; none of a head that is not known
-unfoldable pub headBytes : Head → List ℕ
-headBytes (Plain b) = toLe 2 8 ++ (toLe 2 16 ++ toLe 4 b)
-headBytes Unknown = []
-
--- how many they are
+-- how many bytes it has; none where it is not known
 unfoldable pub headSize : Head → ℕ
 headSize (Plain b) = 8
 headSize Unknown = 0
+
+-- its bytes: length 8, kind 16, the block size
+unfoldable pub headBytes : Head → List ℕ
+headBytes (Plain b) = toLe 2 (headSize (Plain b)) ++ (toLe 2 16 ++ toLe 4 b)
+headBytes Unknown = []
 
 -- its data block size in sectors
 unfoldable pub blockSize : Head → ℕ
@@ -95,4 +95,4 @@ mostSegments h = (recordLimit - headSize h) / itemBytes
 
 -- the most segments that any record has: one with the smallest head
 unfoldable pub mostOfAny : ℕ
-mostOfAny = (recordLimit - 8) / itemBytes
+mostOfAny = mostSegments (Plain 0)

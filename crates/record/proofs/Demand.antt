@@ -1,46 +1,61 @@
 -- Demand 2's second half and what a record is, proved: the names of specs/Demand.antt. Assumes nothing.
-use Prim.Native.Nat.{ℕ, _+_, _-_, _*_, _^_, _≤_, _<_}
+use Prim.Native.Nat.{ℕ, zero, suc, _+_, _-_, _*_, _%_, _^_, _≤_, _<_}
 use mathlib.Core.Path.{_≡_, refl, sym, ap, _∙_, subst}
-use mathlib.Core.Bool.{Bool, true, false, _&&_}
+use mathlib.Core.Bool.{Bool, true, false, cond, _&&_}
 use mathlib.Core.Logic.{_⊎_, inl, inr}
-use mathlib.Core.List.{List, [], _++_}
+use mathlib.Core.List.{List, [], _∷_, _++_}
 use native.Mathlib.Decide.{decLe, decLt, ℕ-discrete}
-use native.Mathlib.Nat.{eq-or-lt-of-le}
+use native.Mathlib.Nat.{le-refl, not-suc-le-zero}
+use native.Mathlib.Numerals.{add-one}
 use native.Mathlib.Omega.{arith}
-use lib.ListN.{length, getD, take}
+use borrow.Author.Tests.{le-leb, leb-true, eqb-true, eq-eqb, ne-eqb}
+use lib.Dec.{leb, eqb, lit<, lit≤}
+use lib.ListN.{length, take}
 use lib.Seq.{take-at}
-use Rattle.endian.specs.Bytes.{Bytes, zeros}
-use Rattle.refusal.specs.Tests.{first, Fails}
-use Rattle.refusal.proofs.Order.{first-lowest}
+use Rattle.endian.specs.Bytes.{toLe, zeros}
+use Rattle.endian.proofs.Tests.{and-left, and-right, and-both}
+use Rattle.refusal.specs.Numbers.{deviceSize, metadataSize, reservedSize, recordLength, recordForm, segmentPlace, segmentClash}
+use Rattle.refusal.specs.Tests.{Test, _or_, first, Ascending}
+use Rattle.refusal.proofs.Order.{first-lowest, first-all}
 use Rattle.layout.specs.declared.Device.{Device}
+use Rattle.layout.specs.Limits.{sizeAllowed, metadataAllowed, reservedAllowed, deviceTests, lengthAllowed, recordLimit}
 use Rattle.layout.specs.Places.{dataStart, dataEnd}
-use Rattle.search.specs.Search.{within, one}
-use Rattle.search.proofs.Search.{in-within, below-within, past-within, not-true-false}
+use Rattle.search.specs.Search.{every, within, one}
+use Rattle.search.proofs.Search.{in-within, below-within, past-within, not-true-false, both, every-zero, every-more}
 use Rattle.segments.specs.declared.Segment.{Segment}
-use Rattle.segments.specs.Segments.{nth, holds, meets}
-use Rattle.segments.specs.Clash.{laterOf, earlierOf, clashesAt}
+use Rattle.segments.specs.declared.Range.{Range}
+use Rattle.segments.specs.Segments.{nth, holds, InRange}
+use Rattle.segments.specs.Clash.{laterOf, earlierOf, clashesAt, apart}
 use Rattle.segments.specs.Sectors.{heldBy, isFree, allocated, freeSectors, Holder}
-use Rattle.segments.specs.Order.{orderOf, orderly, Placed}
-use Rattle.segments.proofs.Segments.{meets-shares, shares-meets}
-use Rattle.segments.proofs.Clash.{clash-later, clash-order, clash-meets, later-there, found-clash, clash-lowest, none-apart, earlier-le}
+use Rattle.segments.specs.Order.{orderOf, Placed}
+use Rattle.segments.proofs.Segments.{meets-shares, shares-meets, in-range-back}
+use Rattle.segments.proofs.Clash.{clash-later, clash-order, clash-meets, later-there, found-clash, clash-lowest, none-apart, apart-not, earlier-le}
 use Rattle.segments.proofs.Sectors.{Laid}
 use Rattle.segments.proofs.Sectors as Sectors
 use Rattle.segments.proofs.Order.{order-length, in-order}
 use Rattle.items.specs.declared.Head.{Head}
-use Rattle.items.specs.Head.{headOf, dataRange, mostOfAny}
-use Rattle.items.specs.Items.{segments}
-use Rattle.items.specs.Making.{recordOf}
-use Rattle.items.proofs.Making.{record-again}
+use Rattle.items.specs.declared.Head.the-variants.{Plain}
+use Rattle.items.specs.Head.{headOf, headBytes, headSize, headRight, allows, dataRange, rangeFor, mostOfAny}
+use Rattle.items.specs.Items.{segments, wellFormed}
+use Rattle.items.specs.Making.{segmentBytes, allBytes, recordOf}
+use Rattle.items.proofs.Heads.{kind-small, head-small, right-fits, one-range, plain-right, right-plain, unknown-wrong, kinds-plain, plain-kinds, most-room, room-most}
+use Rattle.items.proofs.Making.{formed-record, record-again}
 use Rattle.order.specs.declared.Order.{Order}
 use Rattle.order.specs.declared.Clash.the-variants.{Pair, Nothing}
 use Rattle.order.specs.Ordering.{firstClash}
 use Rattle.order.proofs.Ordering.{clash-pair, clash-nothing, order-yes}
-use Rattle.record.specs.Accept.{recordTests, checked}
+use Rattle.record.specs.declared.Clashes.the-variants as Clashes
+use Rattle.record.specs.declared.Found.the-variants as Found
+use Rattle.record.specs.declared.Counted.the-variants as Counted
+use Rattle.record.specs.declared.Heading.the-variants as Heading
+use Rattle.record.specs.Accept.{rangeAt, allInRange, contentTests, recordTests, checked}
 use Rattle.record.specs.Sectors.{parts}
-use Rattle.record.specs.Demand.{Share, Right, Exactly, ReadAfterMake, Lowest, Partition, Cases, Counted, Clashing, Ordered}
-use Rattle.record.proofs.Testing.{record-ascending}
+use Rattle.record.specs.Answers.{lengthTests, clashNumber, positionTests, foundNumber, countedNumber, headingNumber, handedOn, someRoom}
+use Rattle.record.specs.Demand.{Share, Right, Exactly, ReadAfterMake, Heads, Full, Printed, Means, Meaning, Lowest, Partition, Cases, Sums, Clashing, Ordered, Numbered}
+use Rattle.record.proofs.Testing.{record-ascending, fails-at}
 use Rattle.record.proofs.Accepted.{Accepted, accepted, ends, laid, ordered, fewer}
-use Rattle.record.proofs.Right.{apart-share, read-head, read-segments, accepted-made, accepted-right}
+use Rattle.record.proofs.Right.{apart-share, read-head, read-segments, accepted-made, accepted-right, right-empty}
+use Rattle.record.proofs.Change.{right-append}
 
 pub exactly : Exactly
 exactly d s small b = (forth, back)
@@ -111,8 +126,8 @@ cases d s h x l =
           | no e ↦ inl (Sectors.holder (dataRange d) (segments s) w x (let u : heldBy (segments s) x ≡ 1 = omega arith in u))
         ]
 
-pub counted : Counted
-counted d s h =
+pub sums : Sums
+sums d s h =
     let a : Accepted d s = accepted d s h in
     let e : (dataStart d < dataEnd d) × (dataEnd d + dataStart d ≡ d .sectors) = ends d (a .size) (a .metadata) (a .reserved) in
     let c : allocated (segments s) + freeSectors (dataRange d) (segments s) ≡ dataEnd d - dataStart d = Sectors.counted (dataRange d) (segments s) (laid d s a) (omega arith) in
@@ -179,3 +194,136 @@ ordered-all d s h = (
   ap (λ (o : Order). o .ordered) (order-is d s h),
   subst (Placed (segments s)) (sym (order-taken d s h)) (in-order (segments s) (ordered d s (accepted d s h))),
 )
+
+-- heads and kinds in document 01's numbers
+plain-block : (d : Device) (b : ℕ) → headRight d (Plain b) ≡ true → (128 ≤ b) × ((b ≤ 2097152) × (b % 128 ≡ 0))
+plain-block d b r =
+    let q : eqb (b % 128) 0 && (leb 128 b && leb b 2097152) ≡ true = right-plain d b r in
+    let w : leb 128 b && leb b 2097152 ≡ true = and-right (eqb (b % 128) 0) (leb 128 b && leb b 2097152) q in (
+      leb-true 128 b (and-left (leb 128 b) (leb b 2097152) w),
+      (leb-true b 2097152 (and-right (leb 128 b) (leb b 2097152) w), eqb-true (b % 128) 0 (and-left (eqb (b % 128) 0) (leb 128 b && leb b 2097152) q)),
+    )
+
+pub heads : Heads
+heads d b k = (
+  (plain-block d b, λ h. plain-right d b (rw (eq-eqb (b % 128) 0 (h .1 .1), le-leb 128 b (h .0), le-leb b 2097152 (h .1 .0)))),
+  ((plain-kinds b k, λ h. kinds-plain b k (h .0) (h .1)), unknown-wrong d),
+)
+
+pub full : Full
+full h n = (most-room h n, room-most h n)
+
+-- document 01's whole record
+printed-bytes : recordOf (Plain 128) (record { kind = 2; start = 2048; sectors = 100 } ∷ []) ≡ 8 ∷ 0 ∷ 16 ∷ 0 ∷ 128 ∷ 0 ∷ 0 ∷ 0 ∷ 20 ∷ 0 ∷ 2 ∷ 0 ∷ 0 ∷ 8 ∷ 0 ∷ 0 ∷ 0 ∷ 0 ∷ 0 ∷ 0 ∷ 100 ∷ 0 ∷ 0 ∷ 0 ∷ 0 ∷ 0 ∷ 0 ∷ 0 ∷ []
+unfolding recordOf headBytes headSize allBytes segmentBytes toLe
+printed-bytes = refl
+
+printed-right : Right (record { sectors = 2097152; metadata = 2040; reserved = 0 }) (Plain 128) (record { kind = 2; start = 2048; sectors = 100 } ∷ [])
+printed-right =
+    let d : Device = record { sectors = 2097152; metadata = 2040; reserved = 0 } in
+    let g : Segment = record { kind = 2; start = 2048; sectors = 100 } in
+    right-append d (Plain 128) [] g (right-empty d (Plain 128) device-right (plain-right d 128 refl)) (room-most (Plain 128) 0 (head-small (Plain 128))) (kinds-plain 128 2 (lit≤ tt) (lit≤ tt))
+    (subst (λ (r : Range). InRange r g) (sym (one-range d (Plain 128) 2 (plain-right d 128 refl))) (record { low = lit≤ tt; some = lit≤ tt; high = lit≤ tt }))
+    (λ i x l e f. not-suc-le-zero l)
+  where
+    device-right : first (deviceTests (record { sectors = 2097152; metadata = 2040; reserved = 0 })) ≡ 0
+    device-right = first-all (deviceTests (record { sectors = 2097152; metadata = 2040; reserved = 0 })) (refl, (refl, (refl, tt)))
+
+pub printed : Printed
+printed = (
+  printed-bytes,
+  accepted-made (record { sectors = 2097152; metadata = 2040; reserved = 0 }) (Plain 128) (record { kind = 2; start = 2048; sectors = 100 } ∷ []) (lit< tt) printed-right,
+)
+
+-- What a refusal number says: its own test fails.
+module _ (d : Device) (s : List ℕ) where
+  abbrev rest-18 : List Test
+  rest-18 = (apart (segments s) or segmentClash) ∷ []
+
+  abbrev rest-17 : List Test
+  rest-17 = (allInRange d (headOf s) (segments s) or segmentPlace) ∷ rest-18
+
+  abbrev rest-15 : List Test
+  rest-15 = (wellFormed d s or recordForm) ∷ rest-17
+
+  abbrev upto-15 : List Test
+  upto-15 = deviceTests d ++ ((lengthAllowed (length s) or recordLength) ∷ [])
+
+  ascends : Ascending 0 (recordTests d s)
+  ascends = record-ascending d s
+
+  too-long : lengthAllowed (length s) ≡ false → (length s ≡ 0) ⊎ (recordLimit < length s)
+  unfolding lengthAllowed
+  too-long h =
+      elim (decLt recordLimit (length s)) [
+        | yes l ↦ inr l
+        | no l ↦
+            elim (ℕ-discrete (length s) 0) [
+              | yes e ↦ inl e
+              | no e ↦
+                  absurd (both (leb 1 (length s) && leb (length s) recordLimit)
+                  (and-both (leb 1 (length s)) (leb (length s) recordLimit) (le-leb 1 (length s) (omega arith)) (le-leb (length s) recordLimit (omega arith))) h)
+            ]
+      ]
+
+  -- a segment that is not in its range is found
+  find : (n : ℕ) → every (rangeAt d (headOf s) (segments s)) n ≡ false → (i : ℕ) × ((i < n) × (rangeAt d (headOf s) (segments s) i ≡ false))
+  find zero h = absurd (both (every (rangeAt d (headOf s) (segments s)) 0) (every-zero (rangeAt d (headOf s) (segments s))) h)
+  find (suc n) h = go (find n) (rangeAt d (headOf s) (segments s) n) refl
+    where
+      go : (every (rangeAt d (headOf s) (segments s)) n ≡ false → (i : ℕ) × ((i < n) × (rangeAt d (headOf s) (segments s) i ≡ false))) → (b : Bool) → rangeAt d (headOf s) (segments s) n ≡ b → (i : ℕ) × ((i < suc n) × (rangeAt d (headOf s) (segments s) i ≡ false))
+      go r false e = (n, (le-refl (suc n), e))
+      go r true e =
+          let f : every (rangeAt d (headOf s) (segments s)) n ≡ false =
+          not-true-false (every (rangeAt d (headOf s) (segments s)) n) (λ k. both (every (rangeAt d (headOf s) (segments s)) (suc n)) (rw add-one at (every-more (rangeAt d (headOf s) (segments s)) n k e)) h) in
+          let u : (i : ℕ) × ((i < n) × (rangeAt d (headOf s) (segments s) i ≡ false)) = r f in
+          let l : u .0 < n = u .1 .0 in
+          (u .0, ((let m : u .0 < suc n = omega arith in m), u .1 .1))
+
+  out-of-range : allInRange d (headOf s) (segments s) ≡ false
+      → (i : ℕ) × ((i < length (segments s)) × (InRange (rangeFor d (headOf s) (nth (segments s) i .kind)) (nth (segments s) i) → ⊥))
+  unfolding allInRange
+  out-of-range h =
+      let u : (i : ℕ) × ((i < length (segments s)) × (rangeAt d (headOf s) (segments s) i ≡ false)) = find (length (segments s)) h in
+      (u .0, (u .1 .0, λ r. both (rangeAt d (headOf s) (segments s) (u .0)) (in-range-back (rangeFor d (headOf s) (nth (segments s) (u .0) .kind)) (nth (segments s) (u .0)) r) (u .1 .1)))
+
+  clash-there : apart (segments s) ≡ false → (i : ℕ) × ((j : ℕ) × ((x : ℕ) × Share (segments s) i j x))
+  clash-there h =
+      let l : earlierOf (segments s) < length (segments s) = apart-not (segments s) h in
+      let w : (x : ℕ) × Share (segments s) (earlierOf (segments s)) (laterOf (segments s) (earlierOf (segments s))) x = clashing (segments s) .0 (earlierOf (segments s)) (laterOf (segments s) (earlierOf (segments s))) (pair-of (segments s) l) .0 in
+      (earlierOf (segments s), (laterOf (segments s) (earlierOf (segments s)), w))
+
+  pub means : Means d s
+  means =
+      record {
+        four = λ e. fails-at 0 [] ((metadataAllowed (d .metadata) or metadataSize) ∷ (reservedAllowed (d .reserved) or reservedSize) ∷ contentTests d s) (sizeAllowed (d .sectors)) 4 ascends e;
+        seven = λ e. fails-at 0 ((sizeAllowed (d .sectors) or deviceSize) ∷ []) ((reservedAllowed (d .reserved) or reservedSize) ∷ contentTests d s) (metadataAllowed (d .metadata)) 7 ascends e;
+        eight = λ e. fails-at 0 ((sizeAllowed (d .sectors) or deviceSize) ∷ (metadataAllowed (d .metadata) or metadataSize) ∷ []) (contentTests d s) (reservedAllowed (d .reserved)) 8 ascends e;
+        fifteen = λ e. too-long (fails-at 0 (deviceTests d) rest-15 (lengthAllowed (length s)) 15 ascends e);
+        seventeen = λ e h gs r k q.
+            both (wellFormed d s) (subst (λ (z : List ℕ). wellFormed d z ≡ true) q (formed-record d h gs (right-fits d h r) r (λ i l. record { kind = kind-small h (nth gs i .kind) (k i l .0); start = k i l .1 .0; sectors = k i l .1 .1 }) (λ i l. k i l .0)))
+            (fails-at 0 upto-15 rest-17 (wellFormed d s) 17 ascends e);
+        eighteen = λ e. out-of-range (fails-at 0 (upto-15 ++ ((wellFormed d s or recordForm) ∷ [])) rest-18 (allInRange d (headOf s) (segments s)) 18 ascends e);
+        nineteen = λ e. clash-there (fails-at 0 (upto-15 ++ ((wellFormed d s or recordForm) ∷ (allInRange d (headOf s) (segments s) or segmentPlace) ∷ [])) [] (apart (segments s)) 19 ascends e);
+      }
+
+pub meaning : Meaning
+meaning = means
+
+-- the number of an answer that is made of its tests' number
+number-of : {A : Type 0} (number : A → ℕ) (value : A) (refused : ℕ → A) → number value ≡ 0 → ((n : ℕ) → number (refused n) ≡ n) → (n : ℕ) → number (cond (eqb n 0) value (refused n)) ≡ n
+number-of number value refused z r n =
+    elim (ℕ-discrete n 0) [
+      | yes e ↦ rw (eq-eqb n 0 e) (z ∙ sym e)
+      | no e ↦ rw (ne-eqb n 0 e) (r n)
+    ]
+
+pub numbered : Numbered
+numbered d s p w =
+    record {
+      clash = number-of clashNumber (Clashes.First (firstClash (segments s))) Clashes.Refused refl (λ n. refl) (first (lengthTests s));
+      segment = number-of foundNumber (Found.At (nth (segments s) p)) Found.Refused refl (λ n. refl) (first (recordTests d s ++ positionTests s p));
+      many = number-of countedNumber (Counted.Segments (length (segments s))) Counted.Refused refl (λ n. refl) (first (recordTests d s));
+      head = number-of headingNumber (Heading.Of (headOf s)) Heading.Refused refl (λ n. refl) (first (recordTests d s));
+      handed = number-of countedNumber (Counted.Segments (handedOn s p w)) Counted.Refused refl (λ n. refl) (first (recordTests d s ++ someRoom s p w));
+    }

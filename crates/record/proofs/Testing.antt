@@ -1,7 +1,9 @@
 -- Tests that follow other tests. Assumes nothing.
 use Prim.Native.Nat.{ℕ, _<_, _≤_}
-use mathlib.Core.Path.{_≡_, sym, _∙_}
-use mathlib.Core.List.{List, [], _++_}
+use mathlib.Core.Path.{_≡_, refl, sym, _∙_}
+use mathlib.Core.Bool.{Bool, true, false}
+use mathlib.Core.List.{List, [], _∷_, _++_}
+use native.Mathlib.Omega.{arith}
 use borrow.Author.Tests.{lt-ltb, le-ltb}
 use lib.Dec.{ltb, lit<}
 use lib.ListN.{length}
@@ -46,3 +48,43 @@ position-there s p h = sym (first-pass (ltb p (length (segments s))) noSegment [
 
 pub record-numbered : (d : Device) (s : List ℕ) → Numbered (recordTests d s)
 record-numbered d s = ascending-numbered 0 (recordTests d s) (record-ascending d s)
+
+-- tests whose numbers ascend above m give one above m
+first-above : (m : ℕ) (ts : List Test) → Ascending m ts → 0 < first ts → m < first ts
+first-above m [] a p = absurd (let z : first [] ≡ 0 = first-nil in omega arith)
+first-above m (t ∷ ts) a p = go (first-above (t .otherwise) ts (a .1)) (t .holds) refl
+  where
+    go : (0 < first ts → t .otherwise < first ts) → (b : Bool) → t .holds ≡ b → m < first (t ∷ ts)
+    go h false e =
+        let n : first (t ∷ ts) ≡ t .otherwise = first-fail (t .holds) (t .otherwise) ts e in
+        let l : m < t .otherwise = a .0 in
+        omega arith
+    go h true e =
+        let n : first (t ∷ ts) ≡ first ts = first-pass (t .holds) (t .otherwise) ts e in
+        let r : t .otherwise < first ts = h (let q : 0 < first ts = omega arith in q) in
+        let l : m < t .otherwise = a .0 in
+        omega arith
+
+-- the test whose number is given fails
+pub fails-at : (m : ℕ) (ts us : List Test) (b : Bool) (n : ℕ) → Ascending m (ts ++ ((b or n) ∷ us)) → first (ts ++ ((b or n) ∷ us)) ≡ n → b ≡ false
+fails-at m [] us false n a e = refl
+fails-at m [] us true n a e =
+    let f : first us ≡ n = sym (first-pass true n us refl) ∙ e in
+    let l : m < n = a .0 in
+    let r : n < first us = first-above n us (a .1) (let q : 0 < first us = omega arith in q) in
+    absurd (omega arith)
+fails-at m (t ∷ ts) us b n a e = go (fails-at (t .otherwise) ts us b n (a .1)) (t .holds) refl
+  where
+    later : (x : ℕ) (qs : List Test) → Ascending x (qs ++ ((b or n) ∷ us)) → x < n
+    later x [] h = h .0
+    later x (q ∷ qs) h =
+        let i : x < q .otherwise = h .0 in
+        let j : q .otherwise < n = later (q .otherwise) qs (h .1) in
+        omega arith
+
+    go : (first (ts ++ ((b or n) ∷ us)) ≡ n → b ≡ false) → (c : Bool) → t .holds ≡ c → b ≡ false
+    go h false k =
+        let f : first ((t ∷ ts) ++ ((b or n) ∷ us)) ≡ t .otherwise = first-fail (t .holds) (t .otherwise) (ts ++ ((b or n) ∷ us)) k in
+        let l : t .otherwise < n = later (t .otherwise) ts (a .1) in
+        absurd (omega arith)
+    go h true k = h (sym (first-pass (t .holds) (t .otherwise) (ts ++ ((b or n) ∷ us)) k) ∙ e)

@@ -27,10 +27,11 @@ use Rattle.record.specs.declared.Heading.{Heading}
 use Rattle.record.specs.declared.Heading.the-variants as Heading
 use Rattle.record.specs.Accept.{recordTests}
 
--- the first two segments that share a sector, of a record of any content; 15 for a length that no record has
+-- 15 for a length that no record has
 abbrev pub lengthTests : List ℕ → List Test
 lengthTests s = (lengthAllowed (length s) or recordLength) ∷ []
 
+-- the first two segments that share a sector, of a record of any content
 abbrev pub clashAnswer : List ℕ → Clashes
 clashAnswer s = cond (eqb (first (lengthTests s)) 0) (Clashes.First (firstClash (segments s))) (Clashes.Refused (first (lengthTests s)))
 
@@ -46,10 +47,11 @@ abbrev pub clashValues : Clashes → List ℕ
 clashValues (Clashes.First c) = pairOf c
 clashValues (Clashes.Refused n) = []
 
--- the segment at position p, counted from 0: its kind, start and length
+-- there is a segment at position p, counted from 0
 abbrev pub positionTests : List ℕ → ℕ → List Test
 positionTests s p = (ltb p (length (segments s)) or noSegment) ∷ []
 
+-- that segment: its kind, start and length
 abbrev pub found : ℕ → Segment → Found
 found n g = cond (eqb n 0) (Found.At g) (Found.Refused n)
 

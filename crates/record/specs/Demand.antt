@@ -1,10 +1,10 @@
--- Demand 2, second half, and what a record is: statements about what the calls answer, without how they find it.
--- `proofs/Demand.antt` proves them. Assumes nothing.
-use Prim.Native.Nat.{ℕ, _+_, _*_, _^_, _≤_, _<_}
+-- Demand 2, second half, and what a record is, in other words than the tests. A device's size below 2^64 and elements below 256
+-- (`Bytes`) are what the machine's types have. `proofs/Demand.antt` proves all of it. Assumes nothing.
+use Prim.Native.Nat.{ℕ, _+_, _*_, _%_, _^_, _≤_, _<_}
 use mathlib.Core.Path.{_≡_}
-use mathlib.Core.Bool.{true}
+use mathlib.Core.Bool.{true, false}
 use mathlib.Core.Logic.{_⊎_}
-use mathlib.Core.List.{List}
+use mathlib.Core.List.{List, [], _∷_, _++_}
 use lib.ListN.{length, take}
 use Rattle.endian.specs.Bytes.{Bytes}
 use Rattle.refusal.specs.Tests.{first, Fails}
@@ -16,13 +16,15 @@ use Rattle.segments.specs.Segments.{nth, holds, InRange}
 use Rattle.segments.specs.Sectors.{isFree, allocated, freeSectors, Holder}
 use Rattle.segments.specs.Order.{Placed}
 use Rattle.items.specs.declared.Head.{Head}
-use Rattle.items.specs.Head.{headOf, headSize, headRight, allows, dataRange, rangeFor, itemBytes}
+use Rattle.items.specs.declared.Head.the-variants.{Plain, Unknown}
+use Rattle.items.specs.Head.{headOf, headSize, headRight, allows, dataRange, rangeFor, itemBytes, mostSegments}
 use Rattle.items.specs.Items.{segments}
 use Rattle.items.specs.Making.{recordOf}
 use Rattle.order.specs.declared.Clash.the-variants.{Pair, Nothing}
 use Rattle.order.specs.Ordering.{firstClash}
 use Rattle.record.specs.Accept.{recordTests, checked}
 use Rattle.record.specs.Sectors.{parts}
+use Rattle.record.specs.Answers.{lengthTests, clashAnswer, clashNumber, positionTests, segmentAnswer, foundNumber, countAnswer, countedNumber, headAnswer, headingNumber, someRoom, segmentsAnswer}
 
 -- two positions whose segments share the sector x
 pub record Share (gs : List Segment) (i j x : ℕ) : Type 0 where
@@ -60,6 +62,51 @@ ReadAfterMake =
     (d : Device) (h : Head) (gs : List Segment) → d .sectors < 2 ^ 64 → Right d h gs
     → (headOf (recordOf h gs) ≡ h) × ((segments (recordOf h gs) ≡ gs) × (first (recordTests d (recordOf h gs)) ≡ 0))
 
+-- The heads and kinds that are allowed, in document 01's numbers: a head of kind 16 is right on a device exactly when its block size is
+-- from 128 to 2,097,152 and a multiple of 128, and allows the kinds 1 to 4; one that is not known is never right.
+abbrev pub Heads : Type 0
+Heads =
+    (d : Device) (b k : ℕ)
+    → ((headRight d (Plain b) ≡ true → (128 ≤ b) × ((b ≤ 2097152) × (b % 128 ≡ 0)))
+    × ((128 ≤ b) × ((b ≤ 2097152) × (b % 128 ≡ 0)) → headRight d (Plain b) ≡ true))
+    × (((allows (Plain b) k ≡ true → (1 ≤ k) × (k ≤ 4)) × ((1 ≤ k) × (k ≤ 4) → allows (Plain b) k ≡ true))
+    × (headRight d Unknown ≡ false))
+
+-- A record has room for one more segment exactly when it would not be longer than the limit.
+abbrev pub Full : Type 0
+Full =
+    (h : Head) (n : ℕ)
+    → (n < mostSegments h → headSize h + itemBytes * (n + 1) ≤ recordLimit)
+    × (headSize h + itemBytes * (n + 1) ≤ recordLimit → n < mostSegments h)
+
+-- Document 01's whole record, block size 128 and a data segment of 100 sectors at 2,048, byte for byte; it is accepted on the
+-- examples' device.
+abbrev pub Printed : Type 0
+Printed =
+    (recordOf (Plain 128) (record { kind = 2; start = 2048; sectors = 100 } ∷ [])
+    ≡ 8 ∷ 0 ∷ 16 ∷ 0 ∷ 128 ∷ 0 ∷ 0 ∷ 0 ∷ 20 ∷ 0 ∷ 2 ∷ 0 ∷ 0 ∷ 8 ∷ 0 ∷ 0 ∷ 0 ∷ 0 ∷ 0 ∷ 0 ∷ 100 ∷ 0 ∷ 0 ∷ 0 ∷ 0 ∷ 0 ∷ 0 ∷ 0 ∷ [])
+    × (first (recordTests (record { sectors = 2097152; metadata = 2040; reserved = 0 }) (recordOf (Plain 128) (record { kind = 2; start = 2048; sectors = 100 } ∷ []))) ≡ 0)
+
+-- What each refusal number says of the device numbers d and the record s.
+pub record Means (d : Device) (s : List ℕ) : Type 0 where
+  pub four : first (recordTests d s) ≡ 4 → sizeAllowed (d .sectors) ≡ false
+  pub seven : first (recordTests d s) ≡ 7 → metadataAllowed (d .metadata) ≡ false
+  pub eight : first (recordTests d s) ≡ 8 → reservedAllowed (d .reserved) ≡ false
+  -- length 0 or over the limit
+  pub fifteen : first (recordTests d s) ≡ 15 → (length s ≡ 0) ⊎ (recordLimit < length s)
+  -- malformed, or a kind not known: not the bytes of a right head and of segments of its kinds
+  pub seventeen : first (recordTests d s) ≡ 17 → (h : Head) (gs : List Segment) → headRight d h ≡ true
+      → ((i : ℕ) → i < length gs → (allows h (nth gs i .kind) ≡ true) × ((nth gs i .start < 2 ^ 64) × (nth gs i .sectors < 2 ^ 64)))
+      → recordOf h gs ≡ s → ⊥
+  -- a segment empty or not wholly in its range
+  pub eighteen : first (recordTests d s) ≡ 18
+      → (i : ℕ) × ((i < length (segments s)) × (InRange (rangeFor d (headOf s) (nth (segments s) i .kind)) (nth (segments s) i) → ⊥))
+  -- two segments share a sector
+  pub nineteen : first (recordTests d s) ≡ 19 → (i : ℕ) × ((j : ℕ) × ((x : ℕ) × Share (segments s) i j x))
+
+abbrev pub Meaning : Type 0
+Meaning = (d : Device) (s : List ℕ) → Means d s
+
 -- A refusal is the lowest number whose condition holds.
 abbrev pub Lowest : Type 0
 Lowest =
@@ -70,15 +117,15 @@ Lowest =
 abbrev pub Partition : Type 0
 Partition = (d : Device) (s : List ℕ) → first (recordTests d s) ≡ 0 → (x : ℕ) → x < d .sectors → parts d (segments s) x ≡ 1
 
--- The same by cases: the sector is in the front end, in the back end, in one segment, or free.
+-- By cases: the sector is in the front end, in the back end, in one segment, or free; by `Partition` in one of them only.
 abbrev pub Cases : Type 0
 Cases =
     (d : Device) (s : List ℕ) → first (recordTests d s) ≡ 0 → (x : ℕ) → x < d .sectors
     → (x < dataStart d) ⊎ ((dataEnd d ≤ x) ⊎ (Holder (segments s) x ⊎ (isFree (dataRange d) (segments s) x ≡ true)))
 
 -- Allocated sectors, free sectors and 2 x (8 + L + R) add up to S.
-abbrev pub Counted : Type 0
-Counted =
+abbrev pub Sums : Type 0
+Sums =
     (d : Device) (s : List ℕ) → first (recordTests d s) ≡ 0
     → allocated (segments s) + freeSectors (dataRange d) (segments s) + 2 * (8 + d .metadata + d .reserved) ≡ d .sectors
 
@@ -98,3 +145,14 @@ Ordered =
     (d : Device) (s : List ℕ) → first (recordTests d s) ≡ 0
     → (checked (first (recordTests d s)) s .order .ordered ≡ true)
     × Placed (segments s) (take (length (segments s)) (checked (first (recordTests d s)) s .order .at))
+
+-- What a call answers has the number that its tests give, for every input.
+pub record Numbers (d : Device) (s : List ℕ) (p w : ℕ) : Type 0 where
+  pub clash : clashNumber (clashAnswer s) ≡ first (lengthTests s)
+  pub segment : foundNumber (segmentAnswer d s p) ≡ first (recordTests d s ++ positionTests s p)
+  pub many : countedNumber (countAnswer d s) ≡ first (recordTests d s)
+  pub head : headingNumber (headAnswer d s) ≡ first (recordTests d s)
+  pub handed : countedNumber (segmentsAnswer d s p w) ≡ first (recordTests d s ++ someRoom s p w)
+
+abbrev pub Numbered : Type 0
+Numbered = (d : Device) (s : List ℕ) (p w : ℕ) → Numbers d s p w

@@ -104,7 +104,7 @@ pub fn check_in_order(d: Device, s: &[u8]) -> Checked
     content_in_order(d, s)
 }
 
-// The refusal number of a record on a device whose numbers are allowed: 15, 17, 18 or 19, the first that applies; else 0.
+// The refusal number of a record's content: 15, 17, 18 or 19, the first that applies; else 0. The device numbers are not tested here.
 pub fn check_content(d: Device, s: &[u8]) -> u8
     ensures { λ r. ⌜ r ≡ first (contentTests d (now (s .entry))) ⌝ }
 {

@@ -2,5 +2,6 @@
 pub mod Walking
 pub mod Tables
 pub mod Answers
+pub mod Preparing
 pub mod Change
 pub mod Demand

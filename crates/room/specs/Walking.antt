@@ -5,10 +5,11 @@ use mathlib.Core.Path.{_≡_}
 use mathlib.Core.Bool.{cond}
 use mathlib.Core.List.{List, [], _∷_}
 use lib.Dec.{eqb}
-use lib.ListN.{drop}
+use lib.ListN.{length, take, drop}
 use Rattle.segments.specs.declared.Segment.{Segment}
 use Rattle.segments.specs.declared.Range.{Range}
 use Rattle.segments.specs.Order.{pickedAt, Chain}
+use Rattle.items.specs.Items.{segments}
 use Rattle.runs.specs.declared.Run.{Run}
 use Rattle.runs.specs.Gaps.{gaps}
 use Rattle.room.specs.declared.walk.Walk.{Walk}
@@ -16,6 +17,10 @@ use Rattle.room.specs.declared.walk.Walk.{Walk}
 -- the gaps that the segments at positions p leave in a range
 abbrev pub walked : Range → List Segment → List ℕ → List Run
 walked r gs p = gaps (r .start) (r .end) (pickedAt gs p)
+
+-- of positions p the first, as many as a record has segments
+abbrev pub meant : List ℕ → List ℕ → List ℕ
+meant s p = take (length (segments s)) p
 
 -- a walk before its first gap
 abbrev pub begun : Range → Walk

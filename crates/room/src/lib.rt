@@ -16,6 +16,7 @@ ghost use Rattle.items.specs.Head.{dataRange, itemBytes};
 ghost use Rattle.items.specs.Items.{segmentsIn};
 ghost use Rattle.record.specs.Accept.{recordTests};
 ghost use Rattle.room.specs.Answers.{runsIn, runsAnswer, runAnswer, totalAnswer, fitAnswer, tableAnswer, tableLeft, entriesOf, numbersAnswer, numbersLeft};
+ghost use Rattle.room.specs.Preparing.{Checking, Prepared};
 ghost use Rattle.room.specs.Change.{allocateAnswer, allocateLeft, releaseAnswer, releaseLeft};
 
 // What `count_runs` and the calls that fill a table answer.
@@ -252,4 +253,80 @@ pub fn free_run_numbers(d: Device, s: &[u8], table: &mut [u64]) -> RunNumber
     }
     walk::fill_numbers(t, &at[..many], data_range(d), k as usize, table);
     RunNumber::Runs(k)
+}
+
+// What is known before a table is filled: the answer, how many entries are filled, and the order of an accepted record's segments.
+struct Filling {
+    answer: RunNumber,
+    count: usize,
+    at: [u16; items::MOST_SEGMENTS],
+}
+
+// What a call that fills a table of w entries answers, where `number` is that of the record's check and `at` begins with the
+// order of its segments.
+fn table_answer(d: Device, s: &[u8], number: u8, at: &[u16], w: usize) -> RunNumber
+    requires { ⌜ Checking d (now s) number (now at) ⌝ }
+    ensures { λ r. ⌜ r ≡ tableAnswer d (now (s .entry)) w ⌝ }
+{
+    if number != 0 {
+        return RunNumber::Refused(number);
+    }
+    let t = items::items_of(s);
+    let k = walk::count_gaps(t, walk::first_of(at, items::count_in(t)), data_range(d));
+    if (w as u64) < k {
+        return RunNumber::Refused(refusal::SLICE_SIZE);
+    }
+    RunNumber::Runs(k)
+}
+
+// The number of entries that an answer fills.
+fn entries_of(a: RunNumber) -> usize
+    ensures { λ r. ⌜ r ≡ entriesOf a ⌝ }
+{
+    match a {
+        RunNumber::Runs(n) => n as usize,
+        RunNumber::Refused(_) => 0,
+    }
+}
+
+// The record is checked and its segments are ordered, once; its free runs are counted.
+fn prepare(d: Device, s: &[u8], w: usize) -> Filling
+    ensures { λ r. ⌜ Prepared d (now (s .entry)) w (r .answer) (r .count) (r .at) ⌝ }
+{
+    let c = record::check_in_order(d, s);
+    let o = c.order;
+    let at = o.at;
+    let answer = table_answer(d, s, c.number, &at, w);
+    let count = entries_of(answer);
+    Filling { answer, count, at }
+}
+
+// Writes every free run to the table's first entries, ascending; the entries past them stay.
+pub fn free_runs(d: Device, s: &[u8], table: &mut [Run]) -> RunNumber
+    ensures { λ r. ⌜ r ≡ tableAnswer d (now (s .entry)) (length (now (table .entry))) ⌝ }
+    ensures { λ _. ⌜ now (table .exit) ≡ tableLeft d (now (s .entry)) (now (table .entry)) ⌝ }
+{
+    let f = prepare(d, s, table.len());
+    let at = f.at;
+    walk::fill_runs(s, &at, d, f.count, table);
+    f.answer
+}
+
+// The same with the device numbers as plain parameters.
+pub fn free_runs_of(
+    sectors: u64,
+    metadata: u32,
+    reserved: u32,
+    s: &[u8],
+    table: &mut [Run],
+) -> RunNumber
+    ensures { λ r. ⌜ r ≡ tableAnswer (record { sectors = sectors; metadata = metadata; reserved = reserved }) (now (s .entry)) (length (now (table .entry))) ⌝ }
+    ensures { λ _. ⌜ now (table .exit) ≡ tableLeft (record { sectors = sectors; metadata = metadata; reserved = reserved }) (now (s .entry)) (now (table .entry)) ⌝ }
+{
+    let d = Device {
+        sectors,
+        metadata,
+        reserved,
+    };
+    free_runs(d, s, table)
 }

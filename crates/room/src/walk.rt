@@ -1,5 +1,6 @@
 // A walk over the gaps between segments, in their order: each gap is found from the one before it. t is the items of a record
 // after its head, `at` the positions of its segments in their order. Assumes nothing.
+use layout::Device;
 use runs::Run;
 use segments::Range;
 ghost use mathlib.Core.Path.{_≡_};
@@ -7,9 +8,10 @@ ghost use Prim.Native.Nat.{_*_, _≤_, _<_};
 ghost use mathlib.Core.List.{_++_};
 ghost use lib.ListN.{length, take, drop};
 ghost use Rattle.segments.specs.Order.{pickedAt, Chain};
-ghost use Rattle.items.specs.Items.{segmentsIn};
+ghost use Rattle.items.specs.Head.{dataRange};
+ghost use Rattle.items.specs.Items.{segmentsIn, segments};
 ghost use Rattle.runs.specs.Runs.{runAt, fitOf};
-ghost use Rattle.room.specs.Walking.{walked, begun, On, Stepped};
+ghost use Rattle.room.specs.Walking.{walked, meant, begun, On, Stepped};
 ghost use Rattle.room.specs.Tables.{numbersOf};
 
 // A gap, the end of the range, and the place in the order of the first segment past the gap.
@@ -67,7 +69,7 @@ fn step(t: &[u8], at: &[u16], w: Walk) -> Walk
 }
 
 // How many gaps there are.
-pub fn count_gaps(t: &[u8], at: &[u16], r: Range) -> u64
+pub(super) fn count_gaps(t: &[u8], at: &[u16], r: Range) -> u64
     requires { ⌜ Chain (r .start) (r .end) (pickedAt (segmentsIn (now t)) (now at)) ⌝ }
     ensures { λ n. ⌜ n ≡ length (walked r (segmentsIn (now (t .entry))) (now (at .entry))) ⌝ }
 {
@@ -84,7 +86,7 @@ pub fn count_gaps(t: &[u8], at: &[u16], r: Range) -> u64
 }
 
 // Gap number k, counted from 0; zero in both fields past the last.
-pub fn gap_at(t: &[u8], at: &[u16], r: Range, k: u64) -> Run
+pub(super) fn gap_at(t: &[u8], at: &[u16], r: Range, k: u64) -> Run
     requires { ⌜ Chain (r .start) (r .end) (pickedAt (segmentsIn (now t)) (now at)) ⌝ }
     ensures { λ a. ⌜ a ≡ runAt (walked r (segmentsIn (now (t .entry))) (now (at .entry))) k ⌝ }
 {
@@ -107,7 +109,7 @@ pub fn gap_at(t: &[u8], at: &[u16], r: Range, k: u64) -> Run
 }
 
 // The first gap of m sectors or more; zero in both fields where there is none.
-pub fn fit(t: &[u8], at: &[u16], r: Range, m: u64) -> Run
+pub(super) fn fit(t: &[u8], at: &[u16], r: Range, m: u64) -> Run
     requires { ⌜ Chain (r .start) (r .end) (pickedAt (segmentsIn (now t)) (now at)) ⌝ }
     ensures { λ a. ⌜ a ≡ fitOf m (walked r (segmentsIn (now (t .entry))) (now (at .entry))) ⌝ }
 {
@@ -128,7 +130,7 @@ pub fn fit(t: &[u8], at: &[u16], r: Range, m: u64) -> Run
 }
 
 // Stores the first n gaps in a table of numbers: a start and a length for each. The numbers past them stay.
-pub fn fill_numbers(t: &[u8], at: &[u16], r: Range, n: usize, table: &mut [u64])
+pub(super) fn fill_numbers(t: &[u8], at: &[u16], r: Range, n: usize, table: &mut [u64])
     requires { ⌜ (0 < n → Chain (r .start) (r .end) (pickedAt (segmentsIn (now t)) (now at))) × ((n ≤ length (walked r (segmentsIn (now t)) (now at))) × (2 * n ≤ length (now table))) ⌝ }
     ensures { λ _. ⌜ now (table .exit) ≡ numbersOf (take n (walked r (segmentsIn (now (t .entry))) (now (at .entry)))) ++ drop (2 * n) (now (table .entry)) ⌝ }
 {
@@ -143,6 +145,32 @@ pub fn fill_numbers(t: &[u8], at: &[u16], r: Range, n: usize, table: &mut [u64])
     }
 }
 
+// Before the first gap of a device's data range.
+fn begin_on(d: Device) -> Walk
+    ensures { λ w. ⌜ w ≡ begun (dataRange d) ⌝ }
+{
+    begin(crate::data_range(d))
+}
+
+// The first n positions.
+pub(super) fn first_of(at: &[u16], n: usize) -> &[u16]
+    ensures { λ r. ⌜ now r ≡ take n (now (at .entry)) ⌝ }
+{
+    if n < at.len() {
+        return &at[..n];
+    }
+    at
+}
+
+// The next gap of a record s, where `at` begins with the positions of its segments.
+fn step_in(s: &[u8], at: &[u16], w: Walk) -> Walk
+    requires { ⌜ On (segments (now s)) (meant (now s) (now at)) w ⌝ }
+    ensures { λ r. ⌜ Stepped (segments (now (s .entry))) (meant (now (s .entry)) (now (at .entry))) w r ⌝ }
+{
+    let t = items::items_of(s);
+    step(t, first_of(at, items::count_in(t)), w)
+}
+
 // The gap of a walk.
 fn gap_of(w: Walk) -> Run
     ensures { λ r. ⌜ r ≡ w .gap ⌝ }
@@ -150,15 +178,16 @@ fn gap_of(w: Walk) -> Run
     w.gap
 }
 
-// Stores the first n gaps in a table of runs. The entries past them stay.
-pub fn fill_runs(t: &[u8], at: &[u16], r: Range, n: usize, table: &mut [Run])
-    requires { ⌜ (0 < n → Chain (r .start) (r .end) (pickedAt (segmentsIn (now t)) (now at))) × ((n ≤ length (walked r (segmentsIn (now t)) (now at))) × (n ≤ length (now table))) ⌝ }
-    ensures { λ _. ⌜ now (table .exit) ≡ take n (walked r (segmentsIn (now (t .entry))) (now (at .entry))) ++ drop n (now (table .entry)) ⌝ }
+// Stores the first n gaps of a device with a record s in a table of runs, where `at` begins with the positions of its segments.
+// The entries past them stay.
+pub(super) fn fill_runs(s: &[u8], at: &[u16], d: Device, n: usize, table: &mut [Run])
+    requires { ⌜ (0 < n → Chain (dataRange d .start) (dataRange d .end) (pickedAt (segments (now s)) (meant (now s) (now at)))) × ((n ≤ length (walked (dataRange d) (segments (now s)) (meant (now s) (now at)))) × (n ≤ length (now table))) ⌝ }
+    ensures { λ _. ⌜ now (table .exit) ≡ take n (walked (dataRange d) (segments (now (s .entry))) (meant (now (s .entry)) (now (at .entry)))) ++ drop n (now (table .entry)) ⌝ }
 {
-    let mut w = begin(r);
+    let mut w = begin_on(d);
     let mut i = 0;
     while i < n {
-        w = step(t, at, w);
+        w = step_in(s, at, w);
         table[i] = gap_of(w);
         i += 1;
     }

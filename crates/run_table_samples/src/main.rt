@@ -7,7 +7,7 @@ use runs::Run;
 use segments::Segment;
 ghost use mathlib.Core.Path.{_≡_};
 ghost use lib.ListN.{length};
-ghost use Rattle.room.specs.Table.{tableAnswer, tableLeft};
+ghost use Rattle.room.specs.Answers.{tableAnswer, tableLeft};
 
 const OUT: i32 = 1;
 

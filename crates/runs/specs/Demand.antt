@@ -20,7 +20,7 @@ pub record FreeRun (p : ℕ → Bool) (e : ℕ) (r : Run) : Type 0 where
   pub before : (x : ℕ) → suc x ≡ r .start → p x ≡ false
   pub after : r .start + r .sectors < e → p (r .start + r .sectors) ≡ false
 
--- the run at position k is there
+-- the sector x is in one of the runs
 pub record InRun (rs : List Run) (x : ℕ) : Type 0 where
   pub at : ℕ
   pub there : at < length rs

@@ -50,12 +50,12 @@ use denote.Triple.Clauses.{ensured, lasts}
 use denote.Triple.Table.{entered, cited}
 use denote.Triple.Walked.{says, Stays, stay-none, stay-none-slice, stay-dropped, walkOf, Walks, ends-at, walked, goes-none, goes-none-slice, goes-dropped, walk-meets}
 use Rattle.layout.specs.declared.Device.{Device}
-use Rattle.room.specs.declared.Run.{Run}
+use Rattle.runs.specs.declared.Run.{Run}
+use Rattle.runs.proofs.Run as R
+use Rattle.runs.proofs.Run.Laws as R′
 use Rattle.room.specs.declared.RunNumber.{RunNumber}
-use Rattle.room.specs.Table.{tableAnswer, tableLeft}
-use Rattle.room.proofs.Walk.{word, half, bytes, lent}
-use Rattle.room.proofs.Run as R
-use Rattle.room.proofs.Run.Laws as R′
+use Rattle.room.specs.Answers.{tableAnswer, tableLeft}
+use Rattle.room.proofs.Hand.{word, half, bytes, lent}
 use Rattle.room.proofs.RunNumber as N
 use Rattle.room.proofs.RunNumber.Laws as N′
 use Rattle.room.proofs.free_runs_of as free-runs-of
@@ -90,7 +90,7 @@ function = record {
   lifetimes = 1;
   outlives = [];
   params = 5;
-  locals = local F′.mir valueLocal ∷ local word valueLocal ∷ local half valueLocal ∷ local half valueLocal ∷ local bytes valueLocal ∷ local three valueLocal ∷ local three memorySlot ∷ local N′.mir valueLocal ∷ local threeRef valueLocal ∷ local lent valueLocal ∷ local three valueLocal ∷ [];
+  locals = local F′.mir valueLocal ∷ local word valueLocal ∷ local half valueLocal ∷ local half valueLocal ∷ local (bytes 0) valueLocal ∷ local three valueLocal ∷ local three memorySlot ∷ local N′.mir valueLocal ∷ local threeRef valueLocal ∷ local lent valueLocal ∷ local three valueLocal ∷ [];
   body = t-1;
 }
 
@@ -202,12 +202,12 @@ module _ {M : Type 1} (𝓤 : URA M) (H : Heap 𝓤) (A : Atoms 𝓤) (W : Given
       Λ = 𝓣 .Λ
 
       abbrev En : Env 𝓤 H
-      En = (F′.mir, l₀) ∷ (word, l₁) ∷ (half, l₂) ∷ (half, l₃) ∷ (bytes, l₄) ∷ (three, l₅) ∷ (three, l₆) ∷ (N′.mir, l₇) ∷ (threeRef, l₈) ∷ (lent, l₉) ∷ (three, l₁₀) ∷ []
+      En = (F′.mir, l₀) ∷ (word, l₁) ∷ (half, l₂) ∷ (half, l₃) ∷ (bytes 0, l₄) ∷ (three, l₅) ∷ (three, l₆) ∷ (N′.mir, l₇) ∷ (threeRef, l₈) ∷ (lent, l₉) ∷ (three, l₁₀) ∷ []
 
       -- the locals once the parameters are passed, the token, and what the parameters own
       abbrev Passed : List (Item 𝓤)
       Passed = ‵ (froom three l₁₀ 0) ∷ ‵ (fdies three l₁₀) ∷ ‵ (froom lent l₉ 0) ∷ ‵ (fdies lent l₉) ∷ ‵ (froom threeRef l₈ 0) ∷ ‵ (fdies threeRef l₈) ∷ ‵ (froom N′.mir l₇ 0) ∷ ‵ (fdies N′.mir l₇) ∷ ‵ (froom three l₆ 0) ∷ ‵ (fdies three l₆)
-          ∷ ‵ (fat fullShare three l₅ 0 av) ∷ ‵ (fdies three l₅) ∷ ‵ (fat fullShare bytes l₄ 0 sv) ∷ ‵ (fdies bytes l₄) ∷ ‵ (fat fullShare half l₃ 0 (vint w32 n)) ∷ ‵ (fdies half l₃) ∷ ‵ (fat fullShare half l₂ 0 (vint w32 m)) ∷ ‵ (fdies half l₂) ∷ ‵ (fat fullShare word l₁ 0 (vint w64 x)) ∷ ‵ (fdies word l₁)
+          ∷ ‵ (fat fullShare three l₅ 0 av) ∷ ‵ (fdies three l₅) ∷ ‵ (fat fullShare (bytes 0) l₄ 0 sv) ∷ ‵ (fdies (bytes 0) l₄) ∷ ‵ (fat fullShare half l₃ 0 (vint w32 n)) ∷ ‵ (fdies half l₃) ∷ ‵ (fat fullShare half l₂ 0 (vint w32 m)) ∷ ‵ (fdies half l₂) ∷ ‵ (fat fullShare word l₁ 0 (vint w64 x)) ∷ ‵ (fdies word l₁)
           ∷ ‵ (froom F′.mir l₀ 0) ∷ ‵ (fdies F′.mir l₀) ∷ (‵ (flft κ q) ⊛ ‵ ftrue) ∷ ‵ (owns (u64 ∷ u32 ∷ u32 ∷ ShrSlice (named 0) κ u8 ∷ Three ∷ []) a vals) ∷ []
 
       starts : ent 𝓤 (⋆ 𝓤 H A Passed) (Wp 𝓤 H C Λ En t-1 (atReturn 𝓤 H En Post))
