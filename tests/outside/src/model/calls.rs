@@ -5,7 +5,7 @@ use super::discovery::{self, Found};
 use super::format;
 use super::layout::{BACK, FRONT, SECTOR};
 use super::plan_bytes::{decode_mend, decode_update, encode_mend, encode_update, MEND_PLAN, UPDATE_PLAN};
-use super::record::{self, check, check_length, SEGMENT_BYTES};
+use super::record::{self, check, check_length, HEAD_BYTES, SEGMENT_BYTES};
 use super::refusal::{require, Refusal};
 use super::{crc, mend, room, update};
 use crate::interface::{BlockNumbers, Device, Interface, BLOCK_NUMBERS, FOUND, PLACES};
@@ -170,9 +170,9 @@ fn record_segment(device: &Device, record: &[u8], position: u64, answer: &mut [u
 }
 
 fn record_begin(record: &mut [u8], block_size: u32) -> Done {
-    let head = record::head(block_size)?;
-    has_room(record, head.len())?;
-    record[..head.len()].copy_from_slice(&head);
+    // The room needed does not depend on the answer, so the lowest number that applies is given.
+    has_room(record, HEAD_BYTES)?;
+    record[..HEAD_BYTES].copy_from_slice(&record::head(block_size)?);
     Ok(())
 }
 

@@ -25,6 +25,7 @@ pub fn case(run: &mut Run, _: &mut Rng, _: u64) {
         };
         check_values(api, &mut expect);
         devices(api, &mut expect);
+        heads(api, &mut expect);
         free_room(api, &mut expect);
         stores(api, &mut expect);
     }
@@ -39,6 +40,19 @@ fn check_values(api: &dyn Interface, expect: &mut Expect) {
     expect("CRC32 of 32 bytes 255", api.checksum(&[0xff; 32]) == 0xFF6C_AB0B);
     let fox = b"The quick brown fox jumps over the lazy dog";
     expect("CRC32 of a sentence", api.checksum(fox) == 0x414F_A339);
+}
+
+/// The head of a record: the lowest number that applies, for too little room and a block size that is not allowed.
+fn heads(api: &dyn Interface, expect: &mut Expect) {
+    let begin = |room, block_size| api.record_begin(&mut vec![0; room], block_size);
+    for block_size in [0, 127, 129, 2_097_151, 2_097_280, u32::MAX] {
+        expect("a head of 17 in too little room is 1", begin(0, block_size) == 1 && begin(7, block_size) == 1);
+        expect("a head of a size that is not allowed", begin(8, block_size) == 17 && begin(9, block_size) == 17);
+    }
+    for block_size in [128, 256, 2_097_152] {
+        expect("a head in too little room", begin(0, block_size) == 1 && begin(7, block_size) == 1);
+        expect("a head", begin(8, block_size) == 0 && begin(9, block_size) == 0);
+    }
 }
 
 /// Examples 1 to 6 and 8.

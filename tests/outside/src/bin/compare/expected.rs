@@ -33,6 +33,7 @@ pub const CALLS: &[(&str, &[u64])] = &[
 
 /// Cases beside the answers.
 pub const LAST: &[&str] = &[
+    "record_begin, 1 and 17 both apply",
     "read_found, too little room",
     "free_runs, too little room",
     "allocate, too little room",

@@ -5,7 +5,7 @@ use outside::interface::{Device, Interface};
 use outside::lent::Lent;
 use outside::model;
 use outside::model::layout::RECORD_LIMIT;
-use outside::model::record::MAX_SEGMENTS;
+use outside::model::record::{is_block_size, HEAD_BYTES, MAX_SEGMENTS};
 use outside::model::room::{free_runs, Run as FreeRun};
 use outside::rng::Rng;
 use outside::sample::numbers::{break_device, device};
@@ -51,6 +51,9 @@ fn begin(run: &mut Run, rng: &mut Rng) {
     let room = rng.one_of(&[0, 1, 7, 8, 9, random]);
     let lent = [Lent::random(rng, room)];
     run.both("record_begin", &[], lent, [], |api, [record], []| api.record_begin(record.part_mut(), size));
+    if room < HEAD_BYTES && !is_block_size(size) {
+        run.reached("record_begin, 1 and 17 both apply");
+    }
 }
 
 fn read(run: &mut Run, rng: &mut Rng, device: &Device, record: &Lent<u8>) {
