@@ -195,7 +195,8 @@ uint8_t amseokbin_record_head(uint64_t sectors, uint32_t metadata, uint32_t rese
 uint8_t amseokbin_record_segment(uint64_t sectors, uint32_t metadata, uint32_t reserved, const uint8_t *record, size_t record_length,
                                  uint64_t position, uint64_t *segment, size_t segment_length);
 
-/* Begins a record with its data block size, in the first 8 bytes of a buffer. 17 for a size not allowed, then 1. */
+/* Begins a record with its data block size, in the first 8 bytes of a buffer. 1 for too little room, then 17 for a size not
+ * allowed. */
 uint8_t amseokbin_record_begin(uint8_t *record, size_t record_length, uint32_t block_size);
 
 /* ---- Free room --------------------------------------------------------------------------------------------------------- */
