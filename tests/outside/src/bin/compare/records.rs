@@ -100,12 +100,13 @@ fn sectors(run: &mut Run, device: &Device, record: &[u8]) {
     run.require("free_runs", same, "the runs do not add up to the free total");
 }
 
-/// A position in the record, just past it, or any number.
+/// A position in the record, just past it, one whose place in the record is inside it where the product wraps, or any number.
 fn position(rng: &mut Rng, record: &[u8]) -> u64 {
     let count = record.len().saturating_sub(8) as u64 / 20;
     let inside = rng.below(count.max(1));
     let random = rng.next() >> rng.below(64);
-    rng.one_of(&[0, inside, inside, inside, count.saturating_sub(1), count, random, u64::MAX])
+    let wraps = (1 << 62) + inside;
+    rng.one_of(&[0, inside, inside, inside, count.saturating_sub(1), count, wraps, random, u64::MAX])
 }
 
 fn table(run: &mut Run, rng: &mut Rng, device: &Device, record: &Lent<u8>, runs: &[FreeRun]) {
