@@ -31,6 +31,7 @@ fn main() {
     block(&mut rng);
     discovery(&mut rng);
     record_check(&mut rng);
+    record_segments(&mut rng);
     allocation(&mut rng);
     update(&mut rng);
     record_clash(&mut rng);
@@ -157,6 +158,22 @@ fn record_check(rng: &mut Rng) {
     row("checking a record of 409 segments", |api| {
         answered(api.record_check(&DEVICE, black_box(&record)));
     });
+}
+
+fn record_segments(rng: &mut Rng) {
+    let record = scattered(rng, MAX_SEGMENTS);
+    let tables = [&Library as &dyn Interface, &Model].map(|api| {
+        let (mut table, mut count) = ([0; 3 * MAX_SEGMENTS], [0]);
+        answered(api.record_segments(&DEVICE, &record, 0, &mut table, &mut count));
+        (table, count)
+    });
+    assert_eq!(tables[0], tables[1]);
+    let (mut table, mut count) = ([0; 3 * MAX_SEGMENTS], [0]);
+    row("all 409 segments by one call", |api| {
+        answered(api.record_segments(&DEVICE, black_box(&record), 0, &mut table, &mut count));
+        black_box((&table, &count));
+    });
+    assert_eq!(count, [MAX_SEGMENTS as u64]);
 }
 
 fn allocation(rng: &mut Rng) {
