@@ -17,7 +17,7 @@ static int answer;
 static uint8_t front[AMSEOKBIN_COPY], back[AMSEOKBIN_COPY];
 static uint8_t record[AMSEOKBIN_RECORD], changed[AMSEOKBIN_RECORD], bytes[AMSEOKBIN_SECTOR];
 static uint8_t update[AMSEOKBIN_UPDATE_PLAN], mend[AMSEOKBIN_MEND_PLAN];
-static uint64_t numbers[2 * (SEGMENTS + 1)], found[AMSEOKBIN_FOUND], pair[2], one[1];
+static uint64_t numbers[3 * SEGMENTS], found[AMSEOKBIN_FOUND], pair[2], one[1];
 static const uint8_t uuid[] = "0123456789abcdef0123456789abcdef";
 static const uint64_t S = (uint64_t)1 << 40;
 static const uint32_t L = 16384, R = 65536;
@@ -28,6 +28,9 @@ static const size_t length = 8 + 20 * SEGMENTS;
 
 static int nothing(void) { return 0; }
 static int checking(void) { return amseokbin_record_check(DEVICE, record, length); }
+static int handing_on(void) {
+    return amseokbin_record_segments(DEVICE, record, length, 0, numbers, sizeof numbers / 8, one, 1);
+}
 static int running_free(void) { return amseokbin_free_runs(DEVICE, record, length, numbers, sizeof numbers / 8, one, 1); }
 static int allocating(void) {
     return amseokbin_allocate(DEVICE, record, length - 20, 2, 20000, changed, sizeof changed, pair, 2);
@@ -73,9 +76,9 @@ int main(void) {
         const char *name;
         int (*call)(void);
     } calls[] = {
-        {"record_check", checking}, {"free_runs", running_free}, {"allocate", allocating},    {"release", releasing},
-        {"format", formatting},     {"discover", discovering},   {"read_found", reading},     {"update_plan", planning},
-        {"update_store", storing},  {"mend_plan", mending},      {"mend_store", mend_storing},
+        {"record_check", checking}, {"record_segments", handing_on}, {"free_runs", running_free}, {"allocate", allocating},
+        {"release", releasing},     {"format", formatting},          {"discover", discovering},   {"read_found", reading},
+        {"update_plan", planning},  {"update_store", storing},       {"mend_plan", mending},      {"mend_store", mend_storing},
     };
     const int count = sizeof calls / sizeof calls[0];
     int most = 0, base;
