@@ -176,7 +176,7 @@ fn record_segments(device: &Device, record: &[u8], position: u64, table: &mut [u
     let left = record.count() - position;
     // How much room is needed depends on the answer, so 1 for too little of it comes last.
     has_room(table, 3 * left.min(1))?;
-    for (segment, entry) in record.segments().skip(position).zip(table.chunks_exact_mut(3)) {
+    for (segment, entry) in record.segments_from(position).zip(table.chunks_exact_mut(3)) {
         entry.copy_from_slice(&[u64::from(segment.kind), segment.start, segment.length]);
     }
     count[0] = left.min(table.len() / 3) as u64;
