@@ -195,7 +195,15 @@ uint8_t amseokbin_record_head(uint64_t sectors, uint32_t metadata, uint32_t rese
 uint8_t amseokbin_record_segment(uint64_t sectors, uint32_t metadata, uint32_t reserved, const uint8_t *record, size_t record_length,
                                  uint64_t position, uint64_t *segment, size_t segment_length);
 
-/* Begins a record with its data block size, in the first 8 bytes of a buffer. 17 for a size not allowed, then 1. */
+/* The segments from a position on, as many as a table has room for, three numbers for each: kind, start, length in sectors; how
+ * many were handed on, to an array of one: 0 where none is left, also for a position past the last. Numbers past them stay. The
+ * record is checked once for all of them; a walk goes on at the position plus that count, until it is 0. 1 for another count array
+ * first; 1 where some are left and there is room for none, fewer than 3 numbers, last. */
+uint8_t amseokbin_record_segments(uint64_t sectors, uint32_t metadata, uint32_t reserved, const uint8_t *record, size_t record_length,
+                                  uint64_t position, uint64_t *table, size_t table_length, uint64_t *count, size_t count_length);
+
+/* Begins a record with its data block size, in the first 8 bytes of a buffer. 1 for too little room, then 17 for a size not
+ * allowed. */
 uint8_t amseokbin_record_begin(uint8_t *record, size_t record_length, uint32_t block_size);
 
 /* ---- Free room --------------------------------------------------------------------------------------------------------- */

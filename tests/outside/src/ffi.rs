@@ -162,6 +162,18 @@ extern "C" {
         segment: *mut u64,
         segment_length: usize,
     ) -> u8;
+    fn amseokbin_record_segments(
+        sectors: u64,
+        metadata: u32,
+        reserved: u32,
+        record: *const u8,
+        record_length: usize,
+        position: u64,
+        table: *mut u64,
+        table_length: usize,
+        count: *mut u64,
+        count_length: usize,
+    ) -> u8;
     fn amseokbin_record_begin(record: *mut u8, record_length: usize, block_size: u32) -> u8;
     fn amseokbin_free_total(
         sectors: u64,
@@ -491,6 +503,30 @@ impl Interface for Library {
                 position,
                 start_mut(segment),
                 segment.len(),
+            )
+        }
+    }
+
+    fn record_segments(
+        &self,
+        device: &Device,
+        record: &[u8],
+        position: u64,
+        table: &mut [u64],
+        count: &mut [u64],
+    ) -> u8 {
+        unsafe {
+            amseokbin_record_segments(
+                device.sectors,
+                device.metadata,
+                device.reserved,
+                start(record),
+                record.len(),
+                position,
+                start_mut(table),
+                table.len(),
+                start_mut(count),
+                count.len(),
             )
         }
     }

@@ -95,6 +95,14 @@ pub trait Interface {
     fn record_check(&self, device: &Device, record: &[u8]) -> u8;
     fn record_head(&self, device: &Device, record: &[u8], head: &mut [u64]) -> u8;
     fn record_segment(&self, device: &Device, record: &[u8], position: u64, segment: &mut [u64]) -> u8;
+    fn record_segments(
+        &self,
+        device: &Device,
+        record: &[u8],
+        position: u64,
+        table: &mut [u64],
+        count: &mut [u64],
+    ) -> u8;
     fn record_begin(&self, record: &mut [u8], block_size: u32) -> u8;
 
     fn free_total(&self, device: &Device, record: &[u8], total: &mut [u64]) -> u8;

@@ -353,6 +353,28 @@ unsafe extern "C" fn amseokbin_record_segment(
 }
 
 #[no_mangle]
+unsafe extern "C" fn amseokbin_record_segments(
+    sectors: u64,
+    metadata: u32,
+    reserved: u32,
+    record: *const u8,
+    record_length: usize,
+    position: u64,
+    table: *mut u64,
+    table_length: usize,
+    count: *mut u64,
+    count_length: usize,
+) -> u8 {
+    Model.record_segments(
+        &Device { sectors, metadata, reserved },
+        shared(record, record_length),
+        position,
+        unique(table, table_length),
+        unique(count, count_length),
+    )
+}
+
+#[no_mangle]
 unsafe extern "C" fn amseokbin_record_begin(record: *mut u8, record_length: usize, block_size: u32) -> u8 {
     Model.record_begin(unique(record, record_length), block_size)
 }

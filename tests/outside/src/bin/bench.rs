@@ -10,6 +10,7 @@ use outside::interface::{Interface, BLOCK_NUMBERS, FOUND, UPDATE_PLAN};
 use outside::model::block::{Identity, Time};
 use outside::model::layout::{Device, COPY, RECORD_LIMIT, SECTOR};
 use outside::model::record::{Segment, MAX_SEGMENTS};
+use outside::model::refusal::Refusal;
 use outside::model::Model;
 use outside::rng::Rng;
 use outside::sample::copies::{copy, get_block, Area};
@@ -30,8 +31,11 @@ fn main() {
     block(&mut rng);
     discovery(&mut rng);
     record_check(&mut rng);
+    record_segments(&mut rng);
     allocation(&mut rng);
     update(&mut rng);
+    record_clash(&mut rng);
+    free_runs(&mut rng);
 }
 
 /// Times a call by both and prints a row.
@@ -87,13 +91,30 @@ fn time(seconds: u64) -> Time {
     Time { seconds, nanoseconds: 0 }
 }
 
-/// A record of scattered segments in random order.
-fn scattered(rng: &mut Rng, count: usize) -> Vec<u8> {
+/// Scattered segments in random order, with free sectors after each.
+fn scattered_segments(rng: &mut Rng, count: usize) -> Vec<Segment> {
     let start = DEVICE.data_start();
     let mut segments: Vec<Segment> = (0..count as u64)
         .map(|i| Segment { kind: 2, start: start + 10_000 * i, length: rng.within(1, 9_000) })
         .collect();
     rng.shuffle(&mut segments);
+    segments
+}
+
+/// A record of scattered segments in random order.
+fn scattered(rng: &mut Rng, count: usize) -> Vec<u8> {
+    encode(128, &scattered_segments(rng, count))
+}
+
+/// A record of scattered segments in which only the one at this position and the next share a sector.
+fn clashing(rng: &mut Rng, count: usize, position: usize) -> Vec<u8> {
+    let mut segments = scattered_segments(rng, count);
+    let Segment { start, length, .. } = segments[position];
+    segments[position + 1] = Segment { kind: 2, start: start + length - 1, length: 100 };
+    let pairs = (0..count).flat_map(|i| (i + 1..count).map(move |j| (i, j)));
+    let shares = |a: &Segment, b: &Segment| a.start < b.start + b.length && b.start < a.start + a.length;
+    let found: Vec<(usize, usize)> = pairs.filter(|&(i, j)| shares(&segments[i], &segments[j])).collect();
+    assert_eq!(found, [(position, position + 1)]);
     encode(128, &segments)
 }
 
@@ -139,6 +160,22 @@ fn record_check(rng: &mut Rng) {
     });
 }
 
+fn record_segments(rng: &mut Rng) {
+    let record = scattered(rng, MAX_SEGMENTS);
+    let tables = [&Library as &dyn Interface, &Model].map(|api| {
+        let (mut table, mut count) = ([0; 3 * MAX_SEGMENTS], [0]);
+        answered(api.record_segments(&DEVICE, &record, 0, &mut table, &mut count));
+        (table, count)
+    });
+    assert_eq!(tables[0], tables[1]);
+    let (mut table, mut count) = ([0; 3 * MAX_SEGMENTS], [0]);
+    row("all 409 segments by one call", |api| {
+        answered(api.record_segments(&DEVICE, black_box(&record), 0, &mut table, &mut count));
+        black_box((&table, &count));
+    });
+    assert_eq!(count, [MAX_SEGMENTS as u64]);
+}
+
 fn allocation(rng: &mut Rng) {
     let record = scattered(rng, MAX_SEGMENTS - 1);
     let (mut changed, mut answer) = ([0; RECORD_LIMIT], [0; 2]);
@@ -165,4 +202,31 @@ fn update(rng: &mut Rng) {
             black_box((&bytes, &sector));
         }
     });
+}
+
+fn record_clash(rng: &mut Rng) {
+    let last = MAX_SEGMENTS - 2;
+    for (position, place) in [(last, "last two"), (last / 2, "middle two")] {
+        let record = clashing(rng, MAX_SEGMENTS, position);
+        row(&format!("record refused with 19, {place} of 409"), |api| {
+            let number = black_box(api.record_check(&DEVICE, black_box(&record)));
+            assert_eq!(number, Refusal::SegmentClash.number());
+        });
+    }
+}
+
+fn free_runs(rng: &mut Rng) {
+    let record = scattered(rng, MAX_SEGMENTS);
+    let tables = [&Library as &dyn Interface, &Model].map(|api| {
+        let (mut table, mut count) = ([0; 2 * MAX_SEGMENTS + 2], [0]);
+        answered(api.free_runs(&DEVICE, &record, &mut table, &mut count));
+        (table, count)
+    });
+    assert_eq!(tables[0], tables[1]);
+    let (mut table, mut count) = ([0; 2 * MAX_SEGMENTS + 2], [0]);
+    row("free runs as numbers, 409 scattered segments", |api| {
+        answered(api.free_runs(&DEVICE, black_box(&record), &mut table, &mut count));
+        black_box((&table, &count));
+    });
+    assert_eq!(count, [MAX_SEGMENTS as u64]);
 }

@@ -5,7 +5,7 @@ use super::discovery::{self, Found};
 use super::format;
 use super::layout::{BACK, FRONT, SECTOR};
 use super::plan_bytes::{decode_mend, decode_update, encode_mend, encode_update, MEND_PLAN, UPDATE_PLAN};
-use super::record::{self, check, check_length, SEGMENT_BYTES};
+use super::record::{self, check, check_length, HEAD_BYTES, SEGMENT_BYTES};
 use super::refusal::{require, Refusal};
 use super::{crc, mend, room, update};
 use crate::interface::{BlockNumbers, Device, Interface, BLOCK_NUMBERS, FOUND, PLACES};
@@ -169,10 +169,24 @@ fn record_segment(device: &Device, record: &[u8], position: u64, answer: &mut [u
     Ok(())
 }
 
+fn record_segments(device: &Device, record: &[u8], position: u64, table: &mut [u64], count: &mut [u64]) -> Done {
+    has_size(count, 1)?;
+    let (record, _) = check(device, record)?;
+    let position = position.min(record.count() as u64) as usize;
+    let left = record.count() - position;
+    // How much room is needed depends on the answer, so 1 for too little of it comes last.
+    has_room(table, 3 * left.min(1))?;
+    for (segment, entry) in record.segments_from(position).zip(table.chunks_exact_mut(3)) {
+        entry.copy_from_slice(&[u64::from(segment.kind), segment.start, segment.length]);
+    }
+    count[0] = left.min(table.len() / 3) as u64;
+    Ok(())
+}
+
 fn record_begin(record: &mut [u8], block_size: u32) -> Done {
-    let head = record::head(block_size)?;
-    has_room(record, head.len())?;
-    record[..head.len()].copy_from_slice(&head);
+    // The room needed does not depend on the answer, so the lowest number that applies is given.
+    has_room(record, HEAD_BYTES)?;
+    record[..HEAD_BYTES].copy_from_slice(&record::head(block_size)?);
     Ok(())
 }
 
@@ -346,6 +360,17 @@ impl Interface for Model {
 
     fn record_segment(&self, device: &Device, record: &[u8], position: u64, segment: &mut [u64]) -> u8 {
         number(record_segment(device, record, position, segment))
+    }
+
+    fn record_segments(
+        &self,
+        device: &Device,
+        record: &[u8],
+        position: u64,
+        table: &mut [u64],
+        count: &mut [u64],
+    ) -> u8 {
+        number(record_segments(device, record, position, table, count))
     }
 
     fn record_begin(&self, record: &mut [u8], block_size: u32) -> u8 {

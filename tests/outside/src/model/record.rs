@@ -118,7 +118,12 @@ impl<'a> Record<'a> {
     }
 
     pub fn segments(&self) -> impl Iterator<Item = Segment> + 'a {
-        self.bytes[HEAD_BYTES..].chunks_exact(SEGMENT_BYTES).map(Segment::read)
+        self.segments_from(0)
+    }
+
+    /// The segments from a position on, which is at most their number.
+    pub fn segments_from(&self, position: usize) -> impl Iterator<Item = Segment> + 'a {
+        self.bytes[HEAD_BYTES + position * SEGMENT_BYTES..].chunks_exact(SEGMENT_BYTES).map(Segment::read)
     }
 
     pub fn segment(&self, position: u64) -> Option<Segment> {

@@ -180,8 +180,17 @@ fn records(run: &mut Run, rng: &mut Rng, room: &mut Room) {
     let model = Model.record_segment(&device, &record, position, &mut [0; 3]);
     same(run, "record_segment", library, model);
 
-    let table: Vec<u64> = zeros(rng, record.len() / 10);
     let [numbers_a, numbers_b] = &mut room.numbers;
+    let left = (record.len().saturating_sub(8) / 20).saturating_sub(position as usize);
+    let some = rng.index(left + 1);
+    let right = 3 * rng.one_of(&[left, left, some, 0]);
+    let table: Vec<u64> = zeros(rng, right);
+    let (held_table, count) = (numbers_a.hold(&table, end), numbers_b.hold(&[0], end));
+    let library = Library.record_segments(&device, held, position, held_table, count);
+    let model = Model.record_segments(&device, &record, position, &mut table.clone(), &mut [0]);
+    same(run, "record_segments", library, model);
+
+    let table: Vec<u64> = zeros(rng, record.len() / 10);
     let (held_table, count) = (numbers_a.hold(&table, end), numbers_b.hold(&[0], end));
     let library = Library.free_runs(&device, held, held_table, count);
     let model = Model.free_runs(&device, &record, &mut table.clone(), &mut [0]);

@@ -25,6 +25,8 @@ pub fn case(run: &mut Run, _: &mut Rng, _: u64) {
         };
         check_values(api, &mut expect);
         devices(api, &mut expect);
+        heads(api, &mut expect);
+        segments(api, &mut expect);
         free_room(api, &mut expect);
         stores(api, &mut expect);
     }
@@ -39,6 +41,45 @@ fn check_values(api: &dyn Interface, expect: &mut Expect) {
     expect("CRC32 of 32 bytes 255", api.checksum(&[0xff; 32]) == 0xFF6C_AB0B);
     let fox = b"The quick brown fox jumps over the lazy dog";
     expect("CRC32 of a sentence", api.checksum(fox) == 0x414F_A339);
+}
+
+/// The head of a record: the lowest number that applies, for too little room and a block size that is not allowed.
+fn heads(api: &dyn Interface, expect: &mut Expect) {
+    let begin = |room, block_size| api.record_begin(&mut vec![0; room], block_size);
+    for block_size in [0, 127, 129, 2_097_151, 2_097_280, u32::MAX] {
+        expect("a head of 17 in too little room is 1", begin(0, block_size) == 1 && begin(7, block_size) == 1);
+        expect("a head of a size that is not allowed", begin(8, block_size) == 17 && begin(9, block_size) == 17);
+    }
+    for block_size in [128, 256, 2_097_152] {
+        expect("a head in too little room", begin(0, block_size) == 1 && begin(7, block_size) == 1);
+        expect("a head", begin(8, block_size) == 0 && begin(9, block_size) == 0);
+    }
+}
+
+/// The segments of a record of three from a position on: what a table of so many numbers then holds, and the count.
+fn segments(api: &dyn Interface, expect: &mut Expect) {
+    let three =
+        [(2, 2_048, 100), (4, 3_000, 50), (1, 2_200, 7)].map(|(kind, start, length)| Segment { kind, start, length });
+    let record = encode(128, &three);
+    let left = |room: usize, position| {
+        let (mut table, mut count) = (vec![9; room], [9]);
+        let number = api.record_segments(&DEVICE, &record, position, &mut table, &mut count);
+        (number, table, count[0])
+    };
+    let all = vec![2, 2_048, 100, 4, 3_000, 50, 1, 2_200, 7];
+    expect("all segments", left(9, 0) == (0, all.clone(), 3));
+    expect("all segments, more room", left(12, 0) == (0, [&all[..], &[9; 3]].concat(), 3));
+    expect("segments, two numbers over", left(8, 0) == (0, [&all[..6], &[9; 2]].concat(), 2));
+    expect("segments from 1", left(7, 1) == (0, [&all[3..], &[9]].concat(), 2));
+    expect("the last segment", left(3, 2) == (0, all[6..].to_vec(), 1));
+    expect("no room for a segment", left(0, 0) == (1, vec![], 9) && left(2, 2) == (1, vec![9; 2], 9));
+    for position in [3, 4, 1 << 62, u64::MAX] {
+        expect("no segment left", left(0, position) == (0, vec![], 0) && left(4, position) == (0, vec![9; 4], 0));
+    }
+    let counts = |size: usize| api.record_segments(&DEVICE, &record, 0, &mut [0; 9], &mut vec![0; size]);
+    expect("an array that is not of one", counts(0) == 1 && counts(2) == 1);
+    let refused = api.record_segments(&DEVICE, &record[..27], 0, &mut [], &mut [0]);
+    expect("a refused record before too little room", refused == 17);
 }
 
 /// Examples 1 to 6 and 8.

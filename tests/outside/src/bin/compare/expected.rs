@@ -24,6 +24,7 @@ pub const CALLS: &[(&str, &[u64])] = &[
     ("record_check", &[0, 4, 7, 8, 15, 17, 18, 19]),
     ("record_head", &[0, 1, 4, 7, 8, 15, 17, 18, 19]),
     ("record_segment", &[0, 1, 4, 7, 8, 15, 17, 18, 19, 22]),
+    ("record_segments", &[0, 1, 4, 7, 8, 15, 17, 18, 19]),
     ("record_begin", &[0, 1, 17]),
     ("free_total", &[0, 1, 4, 7, 8, 15, 17, 18, 19]),
     ("free_runs", &[0, 1, 4, 7, 8, 15, 17, 18, 19]),
@@ -33,6 +34,15 @@ pub const CALLS: &[(&str, &[u64])] = &[
 
 /// Cases beside the answers.
 pub const LAST: &[&str] = &[
+    "record_begin, 1 and 17 both apply",
+    "record_segments, all that are left",
+    "record_segments, fewer than are left",
+    "record_segments, none left at the end",
+    "record_segments, none left past the end",
+    "record_segments, none left and no room",
+    "record_segments, too little room",
+    "record_segments, a refused record in too little room",
+    "record_segments, a walk over 409 by chunks",
     "read_found, too little room",
     "free_runs, too little room",
     "allocate, too little room",

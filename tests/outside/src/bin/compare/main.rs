@@ -14,6 +14,7 @@ mod expected;
 mod formats;
 mod records;
 mod run;
+mod segments;
 mod sweeps;
 mod updates;
 mod walks;
@@ -38,6 +39,7 @@ const FAMILIES: &[Family] = &[
     ("updates", 16_000, updates::case),
     ("formats", 20_000, formats::case),
     ("records", 12_000, records::case),
+    ("segments", 2_000, segments::case),
     ("walks", 1_000, walks::case),
     ("edges", 12_000, edges::case),
 ];

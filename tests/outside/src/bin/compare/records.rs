@@ -5,7 +5,7 @@ use outside::interface::{Device, Interface};
 use outside::lent::Lent;
 use outside::model;
 use outside::model::layout::RECORD_LIMIT;
-use outside::model::record::MAX_SEGMENTS;
+use outside::model::record::{is_block_size, HEAD_BYTES, MAX_SEGMENTS};
 use outside::model::room::{free_runs, Run as FreeRun};
 use outside::rng::Rng;
 use outside::sample::numbers::{break_device, device};
@@ -51,6 +51,9 @@ fn begin(run: &mut Run, rng: &mut Rng) {
     let room = rng.one_of(&[0, 1, 7, 8, 9, random]);
     let lent = [Lent::random(rng, room)];
     run.both("record_begin", &[], lent, [], |api, [record], []| api.record_begin(record.part_mut(), size));
+    if room < HEAD_BYTES && !is_block_size(size) {
+        run.reached("record_begin, 1 and 17 both apply");
+    }
 }
 
 fn read(run: &mut Run, rng: &mut Rng, device: &Device, record: &Lent<u8>) {
@@ -97,12 +100,13 @@ fn sectors(run: &mut Run, device: &Device, record: &[u8]) {
     run.require("free_runs", same, "the runs do not add up to the free total");
 }
 
-/// A position in the record, just past it, or any number.
+/// A position in the record, just past it, one whose place in the record is inside it where the product wraps, or any number.
 fn position(rng: &mut Rng, record: &[u8]) -> u64 {
     let count = record.len().saturating_sub(8) as u64 / 20;
     let inside = rng.below(count.max(1));
     let random = rng.next() >> rng.below(64);
-    rng.one_of(&[0, inside, inside, inside, count.saturating_sub(1), count, random, u64::MAX])
+    let wraps = (1 << 62) + inside;
+    rng.one_of(&[0, inside, inside, inside, count.saturating_sub(1), count, wraps, random, u64::MAX])
 }
 
 fn table(run: &mut Run, rng: &mut Rng, device: &Device, record: &Lent<u8>, runs: &[FreeRun]) {
