@@ -311,7 +311,7 @@ pub meaning : Meaning
 meaning = means
 
 -- the number of an answer that is made of its tests' number
-number-of : {A : Type 0} (number : A → ℕ) (value : A) (refused : ℕ → A) → number value ≡ 0 → ((n : ℕ) → number (refused n) ≡ n) → (n : ℕ) → number (cond (eqb n 0) value (refused n)) ≡ n
+pub number-of : {A : Type 0} (number : A → ℕ) (value : A) (refused : ℕ → A) → number value ≡ 0 → ((n : ℕ) → number (refused n) ≡ n) → (n : ℕ) → number (cond (eqb n 0) value (refused n)) ≡ n
 number-of number value refused z r n =
     elim (ℕ-discrete n 0) [
       | yes e ↦ rw (eq-eqb n 0 e) (z ∙ sym e)

@@ -15,10 +15,7 @@ use Rattle.items.specs.Items.{segments}
 use Rattle.record.specs.Accept.{recordTests}
 use Rattle.record.specs.Answers.{positionTests}
 use Rattle.record.proofs.Testing.{record-numbered}
-use Rattle.record.proofs.Accepted.{Accepted, accepted}
-use Rattle.room.specs.Answers.{runsIn}
 use Rattle.room.specs.Change.{runsFor, ownTests, allocateTests, roomTests, releaseTests}
-use Rattle.room.proofs.Finding.{runs-for}
 
 own-numbered : (d : Device) (s : List ℕ) (k m w : ℕ) → Numbered (ownTests d s k m w)
 own-numbered d s k m w = (lit< tt, (lit< tt, (lit< tt, (lit< tt, (lit< tt, tt)))))
@@ -28,7 +25,7 @@ pub record Allowed (d : Device) (s : List ℕ) (k m w : ℕ) : Type 0 where
   pub kind : allows (headOf s) k ≡ true
   pub some : 1 ≤ m
   pub few : length (segments s) < mostSegments (headOf s)
-  pub fits : fitting m (runsIn d s) ≡ true
+  pub fits : fitting m (runsFor d s k) ≡ true
   pub room : length s + itemBytes ≤ w
 
 pub allowed : (d : Device) (s : List ℕ) (k m w : ℕ) → first (allocateTests d s k m w) ≡ 0 → Allowed d s k m w
@@ -40,7 +37,7 @@ allowed d s k m w h =
       kind = a .0;
       some = leb-true 1 m (a .1 .0);
       few = ltb-true (length (segments s)) (mostSegments (headOf s)) (a .1 .1 .0);
-      fits = ap (fitting m) (sym (runs-for d s (accepted d s (p .0)) k)) ∙ a .1 .1 .1 .0;
+      fits = a .1 .1 .1 .0;
       room = leb-true (length s + itemBytes) w (a .1 .1 .1 .1 .0);
     }
 
