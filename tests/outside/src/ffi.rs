@@ -199,12 +199,12 @@ extern "C" {
         sectors: u64,
         metadata: u32,
         reserved: u32,
-        content: *const u8,
-        length: usize,
+        record: *const u8,
+        record_length: usize,
         table: *mut FreeRun,
         entries: usize,
-        runs: *mut u64,
-        runs_length: usize,
+        count: *mut u64,
+        count_length: usize,
     ) -> u8;
     fn amseokbin_allocate(
         sectors: u64,

@@ -421,18 +421,18 @@ unsafe extern "C" fn amseokbin_free_run_table(
     sectors: u64,
     metadata: u32,
     reserved: u32,
-    content: *const u8,
-    length: usize,
+    record: *const u8,
+    record_length: usize,
     table: *mut FreeRun,
     entries: usize,
-    runs: *mut u64,
-    runs_length: usize,
+    count: *mut u64,
+    count_length: usize,
 ) -> u8 {
     Model.free_run_table(
         &Device { sectors, metadata, reserved },
-        shared(content, length),
+        shared(record, record_length),
         unique(table, entries),
-        unique(runs, runs_length),
+        unique(count, count_length),
     )
 }
 
