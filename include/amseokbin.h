@@ -219,6 +219,16 @@ uint8_t amseokbin_free_total(uint64_t sectors, uint32_t metadata, uint32_t reser
 uint8_t amseokbin_free_runs(uint64_t sectors, uint32_t metadata, uint32_t reserved, const uint8_t *record, size_t record_length,
                             uint64_t *table, size_t table_length, uint64_t *count, size_t count_length);
 
+/* A free run: its first sector, and its length in sectors. */
+struct amseokbin_run {
+    uint64_t start;
+    uint64_t sectors;
+};
+
+/* The same to a table of runs; `entries` is how many it has room for. */
+uint8_t amseokbin_free_run_table(uint64_t sectors, uint32_t metadata, uint32_t reserved, const uint8_t *record, size_t record_length,
+                                 struct amseokbin_run *table, size_t entries, uint64_t *count, size_t count_length);
+
 /* Appends a segment of that kind and length, in the free run of lowest start that is long enough. The new record goes to a
  * buffer; its first sector and the new record's length, to an array of two. 1 for another array first, then the record's
  * numbers, 17, 18, 21, 20, and 1 for too little room, last. */

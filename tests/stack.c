@@ -20,6 +20,7 @@ static uint8_t record[AMSEOKBIN_RECORD], clash[AMSEOKBIN_RECORD], changed[AMSEOK
 static uint8_t update[AMSEOKBIN_UPDATE_PLAN], mend[AMSEOKBIN_MEND_PLAN];
 static uint8_t pool[AMSEOKBIN_UUID], device[AMSEOKBIN_UUID];
 static uint64_t numbers[3 * SEGMENTS], found[AMSEOKBIN_FOUND], pair[2], one[1];
+static struct amseokbin_run table[SEGMENTS + 1];
 static const uint8_t uuid[] = "0123456789abcdef0123456789abcdef";
 static const uint64_t S = (uint64_t)1 << 40;
 static const uint32_t L = 16384, R = 65536;
@@ -41,6 +42,9 @@ static int handing_on(void) {
 static int beginning(void) { return amseokbin_record_begin(changed, sizeof changed, 128); }
 static int totalling(void) { return amseokbin_free_total(DEVICE, record, length, one, 1); }
 static int running_free(void) { return amseokbin_free_runs(DEVICE, record, length, numbers, sizeof numbers / 8, one, 1); }
+static int running_table(void) {
+    return amseokbin_free_run_table(DEVICE, record, length, table, SEGMENTS + 1, one, 1);
+}
 static int allocating(void) {
     return amseokbin_allocate(DEVICE, record, length - 20, 2, 20000, changed, sizeof changed, pair, 2);
 }
@@ -110,6 +114,7 @@ int main(int words, char **word) {
         {"record_begin", beginning, 0},
         {"free_total", totalling, 0},
         {"free_runs", running_free, 0},
+        {"free_run_table", running_table, 0},
         {"allocate", allocating, 0},
         {"release", releasing, 0},
         {"places", placing, 0},

@@ -1,6 +1,8 @@
 // Records and free room, as C has them. Assumes nothing.
 ghost use mathlib.Core.Path.{_≡_};
 ghost use mathlib.Core.List.{[], _∷_};
+ghost use mathlib.Core.Bool.{cond};
+ghost use lib.Dec.{eqb};
 ghost use lib.ListN.{length};
 ghost use Rattle.refusal.specs.Tests.{first};
 ghost use Rattle.items.specs.declared.Head.the-variants.{Plain};
@@ -9,7 +11,7 @@ ghost use Rattle.items.specs.Items.{segments};
 ghost use Rattle.items.specs.Making.{beginTests, begun, unless};
 ghost use Rattle.record.specs.Accept.{recordTests};
 ghost use Rattle.record.specs.Answers.{segmentAnswer, foundNumber, segmentsAnswer, segmentsLeft, countedNumber};
-ghost use Rattle.room.specs.Answers.{totalAnswer, totalNumber, numbersAnswer, numbersLeft, runsNumber};
+ghost use Rattle.room.specs.Answers.{totalAnswer, totalNumber, tableAnswer, tableLeft, numbersAnswer, numbersLeft, runsNumber};
 ghost use Rattle.room.specs.Change.{allocateAnswer, allocateLeft, releaseAnswer, releaseLeft, allocationNumber, releaseNumber};
 ghost use Rattle.capi.specs.Lent.{has, numberIf, leftIf};
 ghost use Rattle.capi.specs.Answers.{deviceFrom, segmentLeft, handedLeft, totalLeft, runsLeft, allocationLeft, releaseNumbers};
@@ -22,6 +24,7 @@ use room::Allocation;
 use room::FreeTotal;
 use room::Released;
 use room::RunNumber;
+use runs::Run;
 
 // Checks a record on a device.
 #[no_mangle]
@@ -216,6 +219,54 @@ pub extern "C" fn amseokbin_free_runs(
             0
         }
     }
+}
+
+// The device's size where an array of one number was lent, else 0, which is refused and so changes nothing.
+fn sectors_if(sectors: u64, numbers: usize) -> u64
+    ensures { λ r. ⌜ r ≡ cond (eqb numbers 1) sectors 0 ⌝ }
+{
+    if numbers == 1 {
+        return sectors;
+    }
+    0
+}
+
+// The number of runs to an array of one.
+fn tell_runs(a: RunNumber, runs: &mut [u64]) -> u8
+    ensures { λ n. ⌜ n ≡ numberIf (has (now (runs .entry)) 1) (runsNumber a) ⌝ }
+    ensures { λ _. ⌜ now (runs .exit) ≡ leftIf (has (now (runs .entry)) 1) (runsLeft a (now (runs .entry))) (now (runs .entry)) ⌝ }
+{
+    let sized = runs.len() == 1;
+    if !sized {
+        return refusal::SLICE_SIZE;
+    }
+    match a {
+        RunNumber::Refused(n) => n,
+        RunNumber::Runs(k) => {
+            let v = [k];
+            lent::set(runs, &v);
+            0
+        }
+    }
+}
+
+// The free runs, ascending, to a table of runs; how many there are, to an array of one.
+#[no_mangle]
+pub extern "C" fn amseokbin_free_run_table(
+    sectors: u64,
+    metadata: u32,
+    reserved: u32,
+    content: &[u8],
+    table: &mut [Run],
+    runs: &mut [u64],
+) -> u8
+    ensures { λ n. ⌜ n ≡ numberIf (has (now (runs .entry)) 1) (runsNumber (tableAnswer (deviceFrom sectors metadata reserved) (now (content .entry)) (length (now (table .entry))))) ⌝ }
+    ensures { λ _. ⌜ now (table .exit) ≡ cond (has (now (runs .entry)) 1) (tableLeft (deviceFrom sectors metadata reserved) (now (content .entry)) (now (table .entry))) (now (table .entry)) ⌝ }
+    ensures { λ _. ⌜ now (runs .exit) ≡ leftIf (has (now (runs .entry)) 1) (runsLeft (tableAnswer (deviceFrom sectors metadata reserved) (now (content .entry)) (length (now (table .entry)))) (now (runs .entry))) (now (runs .entry)) ⌝ }
+{
+    let size = sectors_if(sectors, runs.len());
+    let a = room::free_runs_of(size, metadata, reserved, content, table);
+    tell_runs(a, runs)
 }
 
 // Appends a segment: the new record to a buffer, its first sector and the new record's length to an array of two.

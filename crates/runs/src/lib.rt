@@ -1,6 +1,7 @@
 // Free runs of sectors: definitions over any test of sectors below an end, and their laws. Assumes nothing.
 
 // A run: its first sector, and its length in sectors.
+#[repr(C)]
 pub struct Run {
     pub start: u64,
     pub sectors: u64,

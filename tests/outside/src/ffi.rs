@@ -2,7 +2,7 @@
 
 use std::ptr::{null, null_mut};
 
-use crate::interface::{BlockNumbers, Device, Interface};
+use crate::interface::{BlockNumbers, Device, FreeRun, Interface};
 
 extern "C" {
     fn amseokbin_checksum(bytes: *const u8, length: usize) -> u32;
@@ -192,6 +192,17 @@ extern "C" {
         record_length: usize,
         table: *mut u64,
         table_length: usize,
+        count: *mut u64,
+        count_length: usize,
+    ) -> u8;
+    fn amseokbin_free_run_table(
+        sectors: u64,
+        metadata: u32,
+        reserved: u32,
+        record: *const u8,
+        record_length: usize,
+        table: *mut FreeRun,
+        entries: usize,
         count: *mut u64,
         count_length: usize,
     ) -> u8;
@@ -561,6 +572,22 @@ impl Interface for Library {
                 table.len(),
                 start_mut(count),
                 count.len(),
+            )
+        }
+    }
+
+    fn free_run_table(&self, device: &Device, record: &[u8], table: &mut [FreeRun], runs: &mut [u64]) -> u8 {
+        unsafe {
+            amseokbin_free_run_table(
+                device.sectors,
+                device.metadata,
+                device.reserved,
+                start(record),
+                record.len(),
+                start_mut(table),
+                table.len(),
+                start_mut(runs),
+                runs.len(),
             )
         }
     }

@@ -46,6 +46,7 @@ fn rust_type(c_type: &str) -> Option<&'static str> {
         "uint64_t" => Some("u64"),
         "size_t" => Some("usize"),
         "bool" => Some("bool"),
+        "struct amseokbin_run" => Some("FreeRun"),
         _ => None,
     }
 }
@@ -62,6 +63,6 @@ fn of_source(source: &str) -> Vec<String> {
 fn declarations_are_those_of_the_header() {
     let header = of_header(include_str!("../../../include/amseokbin.h"));
     let source = of_source(include_str!("ffi.rs"));
-    assert!(header.len() >= 28, "the header could not be read");
+    assert!(header.len() >= 29, "the header could not be read");
     assert_eq!(header, source);
 }

@@ -24,6 +24,21 @@ pub struct BlockNumbers {
     pub b_crc: u32,
 }
 
+/// A free run, as C has it: `struct amseokbin_run`.
+#[repr(C)]
+#[derive(Clone, Copy, Debug, Default, PartialEq, Eq)]
+pub struct FreeRun {
+    pub start: u64,
+    pub sectors: u64,
+}
+
+/// Numbers as the runs that they are the fields of; one that is left over is not lent.
+pub fn as_runs(numbers: &mut [u64]) -> &mut [FreeRun] {
+    let (start, count) = (numbers.as_mut_ptr(), numbers.len() / 2);
+    // A run is two numbers, in their alignment, and borrowed as long as they are.
+    unsafe { std::slice::from_raw_parts_mut(start.cast::<FreeRun>(), count) }
+}
+
 /// S, L and R, the first three arguments of the calls about records.
 pub use crate::model::layout::Device;
 
@@ -107,6 +122,7 @@ pub trait Interface {
 
     fn free_total(&self, device: &Device, record: &[u8], total: &mut [u64]) -> u8;
     fn free_runs(&self, device: &Device, record: &[u8], table: &mut [u64], count: &mut [u64]) -> u8;
+    fn free_run_table(&self, device: &Device, record: &[u8], table: &mut [FreeRun], runs: &mut [u64]) -> u8;
     fn allocate(
         &self,
         device: &Device,

@@ -2,7 +2,7 @@
 
 use std::slice::{from_raw_parts, from_raw_parts_mut};
 
-use crate::interface::{BlockNumbers, Device, Interface};
+use crate::interface::{BlockNumbers, Device, FreeRun, Interface};
 use crate::model::Model;
 
 unsafe fn shared<'a, T>(items: *const T, length: usize) -> &'a [T] {
@@ -412,6 +412,26 @@ unsafe extern "C" fn amseokbin_free_runs(
         &Device { sectors, metadata, reserved },
         shared(record, record_length),
         unique(table, table_length),
+        unique(count, count_length),
+    )
+}
+
+#[no_mangle]
+unsafe extern "C" fn amseokbin_free_run_table(
+    sectors: u64,
+    metadata: u32,
+    reserved: u32,
+    record: *const u8,
+    record_length: usize,
+    table: *mut FreeRun,
+    entries: usize,
+    count: *mut u64,
+    count_length: usize,
+) -> u8 {
+    Model.free_run_table(
+        &Device { sectors, metadata, reserved },
+        shared(record, record_length),
+        unique(table, entries),
         unique(count, count_length),
     )
 }

@@ -6,7 +6,7 @@ use std::hint::black_box;
 use std::time::Instant;
 
 use outside::ffi::Library;
-use outside::interface::{Interface, BLOCK_NUMBERS, FOUND, UPDATE_PLAN};
+use outside::interface::{FreeRun, Interface, BLOCK_NUMBERS, FOUND, UPDATE_PLAN};
 use outside::model::block::{Identity, Time};
 use outside::model::layout::{Device, COPY, RECORD_LIMIT, SECTOR};
 use outside::model::record::{Segment, MAX_SEGMENTS};
@@ -36,6 +36,7 @@ fn main() {
     update(&mut rng);
     record_clash(&mut rng);
     free_runs(&mut rng);
+    free_run_table(&mut rng);
 }
 
 /// Times a call by both and prints a row.
@@ -229,4 +230,20 @@ fn free_runs(rng: &mut Rng) {
         black_box((&table, &count));
     });
     assert_eq!(count, [MAX_SEGMENTS as u64]);
+}
+
+fn free_run_table(rng: &mut Rng) {
+    let record = scattered(rng, MAX_SEGMENTS);
+    let tables = [&Library as &dyn Interface, &Model].map(|api| {
+        let (mut table, mut runs) = ([FreeRun::default(); MAX_SEGMENTS + 1], [0]);
+        answered(api.free_run_table(&DEVICE, &record, &mut table, &mut runs));
+        (table, runs)
+    });
+    assert_eq!(tables[0], tables[1]);
+    let (mut table, mut runs) = ([FreeRun::default(); MAX_SEGMENTS + 1], [0]);
+    row("free runs as structs, 409 scattered segments", |api| {
+        answered(api.free_run_table(&DEVICE, black_box(&record), &mut table, &mut runs));
+        black_box((&table, &runs));
+    });
+    assert_eq!(runs, [MAX_SEGMENTS as u64]);
 }

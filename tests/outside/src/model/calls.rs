@@ -8,7 +8,7 @@ use super::plan_bytes::{decode_mend, decode_update, encode_mend, encode_update, 
 use super::record::{self, check, check_length, HEAD_BYTES, SEGMENT_BYTES};
 use super::refusal::{require, Refusal};
 use super::{crc, mend, room, update};
-use crate::interface::{BlockNumbers, Device, Interface, BLOCK_NUMBERS, FOUND, PLACES};
+use crate::interface::{BlockNumbers, Device, FreeRun, Interface, BLOCK_NUMBERS, FOUND, PLACES};
 
 /// The independent implementation.
 pub struct Model;
@@ -209,6 +209,18 @@ fn free_runs(device: &Device, record: &[u8], table: &mut [u64], count: &mut [u64
     Ok(())
 }
 
+fn free_run_table(device: &Device, record: &[u8], table: &mut [FreeRun], runs: &mut [u64]) -> Done {
+    has_size(runs, 1)?;
+    let (_, spans) = check(device, record)?;
+    let count = room::free_runs(device, spans.as_slice()).count();
+    has_room(table, count)?;
+    for (run, entry) in room::free_runs(device, spans.as_slice()).zip(table) {
+        *entry = FreeRun { start: run.start, sectors: run.length };
+    }
+    runs[0] = count as u64;
+    Ok(())
+}
+
 fn allocate(device: &Device, record: &[u8], kind: u16, length: u64, changed: &mut [u8], answer: &mut [u64]) -> Done {
     has_size(answer, 2)?;
     let segment = room::allocate(device, record, kind, length)?;
@@ -383,6 +395,10 @@ impl Interface for Model {
 
     fn free_runs(&self, device: &Device, record: &[u8], table: &mut [u64], count: &mut [u64]) -> u8 {
         number(free_runs(device, record, table, count))
+    }
+
+    fn free_run_table(&self, device: &Device, record: &[u8], table: &mut [FreeRun], runs: &mut [u64]) -> u8 {
+        number(free_run_table(device, record, table, runs))
     }
 
     fn allocate(

@@ -4,7 +4,7 @@ use std::cell::RefCell;
 
 use outside::ffi::Library;
 use outside::guard::Guarded;
-use outside::interface::{Interface, BLOCK_NUMBERS, FOUND, MEND_PLAN, PLACES, UPDATE_PLAN};
+use outside::interface::{as_runs, Interface, BLOCK_NUMBERS, FOUND, MEND_PLAN, PLACES, UPDATE_PLAN};
 use outside::model::layout::{COPY, RECORD_LIMIT, SECTOR};
 use outside::model::Model;
 use outside::rng::Rng;
@@ -195,6 +195,11 @@ fn records(run: &mut Run, rng: &mut Rng, room: &mut Room) {
     let library = Library.free_runs(&device, held, held_table, count);
     let model = Model.free_runs(&device, &record, &mut table.clone(), &mut [0]);
     same(run, "free_runs", library, model);
+    let mut table: Vec<u64> = zeros(rng, record.len() / 20 * 2);
+    let (held_table, count) = (numbers_a.hold(&table, end), numbers_b.hold(&[0], end));
+    let library = Library.free_run_table(&device, held, as_runs(held_table), count);
+    let model = Model.free_run_table(&device, &record, as_runs(&mut table), &mut [0]);
+    same(run, "free_run_table", library, model);
 
     let changed: Vec<u8> = zeros(rng, record.len() + 20);
     let length = rng.next() >> rng.below(64);

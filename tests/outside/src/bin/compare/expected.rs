@@ -28,6 +28,7 @@ pub const CALLS: &[(&str, &[u64])] = &[
     ("record_begin", &[0, 1, 17]),
     ("free_total", &[0, 1, 4, 7, 8, 15, 17, 18, 19]),
     ("free_runs", &[0, 1, 4, 7, 8, 15, 17, 18, 19]),
+    ("free_run_table", &[0, 1, 4, 7, 8, 15, 17, 18, 19]),
     ("allocate", &[0, 1, 4, 7, 8, 15, 17, 18, 19, 20, 21]),
     ("release", &[0, 1, 4, 7, 8, 15, 17, 18, 19, 22]),
 ];
@@ -45,6 +46,7 @@ pub const LAST: &[&str] = &[
     "record_segments, a walk over 409 by chunks",
     "read_found, too little room",
     "free_runs, too little room",
+    "free_run_table, too little room",
     "allocate, too little room",
     "release, too little room",
     "allocate, 17 for its own kind",

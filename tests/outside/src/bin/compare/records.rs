@@ -1,7 +1,7 @@
 //! Records and their free room.
 
 use outside::ffi::Library;
-use outside::interface::{Device, Interface};
+use outside::interface::{as_runs, Device, Interface};
 use outside::lent::Lent;
 use outside::model;
 use outside::model::layout::RECORD_LIMIT;
@@ -35,6 +35,7 @@ pub fn case(run: &mut Run, rng: &mut Rng, _: u64) {
     }
     allocate(run, rng, &device, &record, &runs);
     release(run, rng, &device, &record);
+    run_table(run, rng, &device, &record, &runs);
 }
 
 /// The free runs by the independent implementation, none where the record is refused.
@@ -123,6 +124,21 @@ fn table(run: &mut Run, rng: &mut Rng, device: &Device, record: &Lent<u8>, runs:
     });
     if count == 1 && outcome.expected == 1 {
         run.reached("free_runs, too little room");
+    }
+}
+
+/// The same runs as structs, in a table that is not always long enough.
+fn run_table(run: &mut Run, rng: &mut Rng, device: &Device, record: &Lent<u8>, runs: &[FreeRun]) {
+    let needed = runs.len();
+    let random = rng.index(MAX_SEGMENTS + 2);
+    let entries = rng.one_of(&[needed, needed, needed + 1, random, needed.saturating_sub(1), 0]);
+    let count = length(rng, 1);
+    let lent = [Lent::random(rng, 2 * entries), Lent::random(rng, count)];
+    let outcome = run.both("free_run_table", &[record], [], lent, |api, [], [table, count]| {
+        api.free_run_table(device, record.part(), as_runs(table.part_mut()), count.part_mut())
+    });
+    if count == 1 && outcome.expected == 1 {
+        run.reached("free_run_table, too little room");
     }
 }
 
