@@ -23,8 +23,8 @@ use Rattle.record.specs.declared.Found.the-variants as Found
 use Rattle.record.specs.declared.Counted.{Counted}
 use Rattle.record.specs.declared.Counted.the-variants as Counted
 use Rattle.record.specs.Answers.{foundValues, countedValues}
-use Rattle.room.specs.declared.RunNumber.{RunNumber}
-use Rattle.room.specs.declared.RunNumber.the-variants as RunNumber
+use Rattle.room.specs.declared.RunCount.{RunCount}
+use Rattle.room.specs.declared.RunCount.the-variants as RunCount
 use Rattle.room.specs.declared.FreeTotal.{FreeTotal}
 use Rattle.room.specs.declared.FreeTotal.the-variants as FreeTotal
 use Rattle.room.specs.Answers.{runsValues, totalValues}
@@ -79,9 +79,9 @@ abbrev pub totalLeft : FreeTotal → List ℕ → List ℕ
 totalLeft (FreeTotal.Sectors k) s = totalValues (FreeTotal.Sectors k)
 totalLeft (FreeTotal.Refused n) s = s
 
-abbrev pub runsLeft : RunNumber → List ℕ → List ℕ
-runsLeft (RunNumber.Runs k) s = runsValues (RunNumber.Runs k)
-runsLeft (RunNumber.Refused n) s = s
+abbrev pub runsLeft : RunCount → List ℕ → List ℕ
+runsLeft (RunCount.Runs k) s = runsValues (RunCount.Runs k)
+runsLeft (RunCount.Refused n) s = s
 
 abbrev pub allocationLeft : Allocation → List ℕ → List ℕ
 allocationLeft (Allocation.Placed start len) s = allocationValues (Allocation.Placed start len)

@@ -23,7 +23,7 @@ use record::Found;
 use room::Allocation;
 use room::FreeTotal;
 use room::Released;
-use room::RunNumber;
+use room::RunCount;
 use runs::Run;
 
 // Checks a record on a device.
@@ -212,8 +212,8 @@ pub extern "C" fn amseokbin_free_runs(
     };
     let a = room::free_run_numbers(d, content, table);
     match a {
-        RunNumber::Refused(n) => n,
-        RunNumber::Runs(k) => {
+        RunCount::Refused(n) => n,
+        RunCount::Runs(k) => {
             let v = [k];
             lent::set(runs, &v);
             0
@@ -232,7 +232,7 @@ fn sectors_if(sectors: u64, numbers: usize) -> u64
 }
 
 // The number of runs to an array of one.
-fn tell_runs(a: RunNumber, runs: &mut [u64]) -> u8
+fn tell_runs(a: RunCount, runs: &mut [u64]) -> u8
     ensures { λ n. ⌜ n ≡ numberIf (has (now (runs .entry)) 1) (runsNumber a) ⌝ }
     ensures { λ _. ⌜ now (runs .exit) ≡ leftIf (has (now (runs .entry)) 1) (runsLeft a (now (runs .entry))) (now (runs .entry)) ⌝ }
 {
@@ -241,8 +241,8 @@ fn tell_runs(a: RunNumber, runs: &mut [u64]) -> u8
         return refusal::SLICE_SIZE;
     }
     match a {
-        RunNumber::Refused(n) => n,
-        RunNumber::Runs(k) => {
+        RunCount::Refused(n) => n,
+        RunCount::Runs(k) => {
             let v = [k];
             lent::set(runs, &v);
             0

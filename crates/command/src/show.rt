@@ -11,7 +11,7 @@ use discovery::Answer;
 use discovery::Other;
 use discovery::Record;
 use room::FreeTotal;
-use room::RunNumber;
+use room::RunCount;
 use runs::Run;
 use text::Text;
 
@@ -37,8 +37,8 @@ fn add_yes(t: Text, yes: bool) -> Text {
 fn run_count(look: Look, r: &[u8]) -> u64 {
     let n = room::count_runs(look.device, r);
     match n {
-        RunNumber::Runs(k) => k,
-        RunNumber::Refused(_) => 0,
+        RunCount::Runs(k) => k,
+        RunCount::Refused(_) => 0,
     }
 }
 

@@ -23,7 +23,7 @@ use Rattle.record.specs.Accept.{recordTests}
 use Rattle.record.proofs.Testing.{record-ascending}
 use Rattle.record.proofs.Accepted.{accepted}
 use Rattle.record.proofs.Right.{accepted-content}
-use Rattle.room.specs.declared.RunNumber.the-variants as RunNumber
+use Rattle.room.specs.declared.RunCount.the-variants as RunCount
 use Rattle.room.specs.declared.RunFound.the-variants as RunFound
 use Rattle.room.specs.declared.FreeTotal.the-variants as FreeTotal
 use Rattle.room.specs.Answers.{runsAnswer, totalAnswer}
@@ -67,7 +67,7 @@ nanoseconds = refl
 -- example 9: what the calls answer of the record's free runs
 runs : runsIn (runsAnswer device nine) ≡ 2
 runs =
-    ap runsIn (sym (answer-yes (RunNumber.Runs (length (Answers.runsIn device nine))) RunNumber.Refused 0 (first (recordTests device nine)) (sym nine-accepted) refl))
+    ap runsIn (sym (answer-yes (RunCount.Runs (length (Answers.runsIn device nine))) RunCount.Refused 0 (first (recordTests device nine)) (sym nine-accepted) refl))
     ∙ ap (λ (rs : List Run). length rs) nine-runs
 
 run : (k : ℕ) → runOf k ≡ runAt free k

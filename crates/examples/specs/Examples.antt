@@ -23,8 +23,8 @@ use Rattle.items.specs.declared.Head.the-variants.{Plain}
 use Rattle.items.specs.Items.{segments}
 use Rattle.items.specs.Making.{recordOf}
 use Rattle.record.specs.Accept.{recordTests}
-use Rattle.room.specs.declared.RunNumber.{RunNumber}
-use Rattle.room.specs.declared.RunNumber.the-variants as RunNumber
+use Rattle.room.specs.declared.RunCount.{RunCount}
+use Rattle.room.specs.declared.RunCount.the-variants as RunCount
 use Rattle.room.specs.declared.RunFound.{RunFound}
 use Rattle.room.specs.declared.RunFound.the-variants as RunFound
 use Rattle.room.specs.declared.FreeTotal.{FreeTotal}
@@ -77,9 +77,9 @@ yes true = 1
 yes false = 0
 
 -- what the calls on free runs answer: how many there are, a run, the free sectors; 0 where they refuse
-abbrev pub runsIn : RunNumber → ℕ
-runsIn (RunNumber.Runs n) = n
-runsIn (RunNumber.Refused n) = 0
+abbrev pub runsIn : RunCount → ℕ
+runsIn (RunCount.Runs n) = n
+runsIn (RunCount.Refused n) = 0
 
 abbrev pub runIn : RunFound → Run
 runIn (RunFound.At r) = r

@@ -11,7 +11,7 @@ use room::Allocation;
 use room::FreeTotal;
 use room::Released;
 use room::RunFound;
-use room::RunNumber;
+use room::RunCount;
 use segments::Segment;
 ghost use Prim.Native.Nat.{_≤_};
 
@@ -170,11 +170,11 @@ fn run_at(s: &[u8], k: u64) {
 fn free(s: &[u8]) {
     name(b"free runs");
     match room::count_runs(device(), s) {
-        RunNumber::Runs(n) => {
+        RunCount::Runs(n) => {
             number(n);
             end();
         }
-        RunNumber::Refused(n) => refused(n),
+        RunCount::Refused(n) => refused(n),
     }
     name(b"free total");
     match room::free_total(device(), s) {

@@ -36,8 +36,8 @@ use Rattle.record.proofs.Testing.{more-no, more-yes}
 use Rattle.record.proofs.Accepted.{Accepted, accepted, ends, laid, fewer}
 use Rattle.record.proofs.Checking.{checked-number}
 use Rattle.record.proofs.Demand.{order-is, order-taken}
-use Rattle.room.specs.declared.RunNumber.{RunNumber}
-use Rattle.room.specs.declared.RunNumber.the-variants as RunNumber
+use Rattle.room.specs.declared.RunCount.{RunCount}
+use Rattle.room.specs.declared.RunCount.the-variants as RunCount
 use Rattle.room.specs.Tables.{numbersOf}
 use Rattle.room.specs.Walking.{walked}
 use Rattle.room.specs.Answers.{runsIn, fitTests, tableTests, numbersAnswer, numbersLeft}
@@ -174,21 +174,21 @@ pub range-is : (d : Device) (s : List ℕ) (h : Head) (r : Range) (k : ℕ) → 
 range-is d s h r k z e f = f ∙ (ap (λ (v : Head). rangeFor d v k) e ∙ for-any d s (accepted d s z) k)
 
 -- What the call that fills a table of numbers answers and leaves.
-abbrev pub Numbers : Device → List ℕ → List ℕ → RunNumber → List ℕ → Type 0
+abbrev pub Numbers : Device → List ℕ → List ℕ → RunCount → List ℕ → Type 0
 Numbers d s t a q = (a ≡ numbersAnswer d s (length t)) × (q ≡ numbersLeft d s t)
 
-pub numbers-no : (d : Device) (s t : List ℕ) (n : ℕ) → n ≡ first (tableTests d s (length t / 2)) → (n ≡ 0 → ⊥) → Numbers d s t (RunNumber.Refused n) t
+pub numbers-no : (d : Device) (s t : List ℕ) (n : ℕ) → n ≡ first (tableTests d s (length t / 2)) → (n ≡ 0 → ⊥) → Numbers d s t (RunCount.Refused n) t
 numbers-no d s t n e h = (
-  answer-no (RunNumber.Runs (length (runsIn d s))) RunNumber.Refused n (first (tableTests d s (length t / 2))) e h,
+  answer-no (RunCount.Runs (length (runsIn d s))) RunCount.Refused n (first (tableTests d s (length t / 2))) e h,
   answer-no (numbersOf (runsIn d s) ++ drop (2 * length (runsIn d s)) t) (λ (x : ℕ). t) n (first (tableTests d s (length t / 2))) e h,
 )
 
 pub numbers-yes : (d : Device) (s t : List ℕ) (k : ℕ) (rs : List Run) (q : List ℕ) → rs ≡ runsIn d s → k ≡ length rs → first (recordTests d s) ≡ 0 → k ≤ length t / 2
-    → q ≡ numbersOf (take k rs) ++ drop (2 * k) t → Numbers d s t (RunNumber.Runs k) q
+    → q ≡ numbersOf (take k rs) ++ drop (2 * k) t → Numbers d s t (RunCount.Runs k) q
 numbers-yes d s t k rs q e f z l h =
     let m : k ≡ length (runsIn d s) = f ∙ ap (λ (v : List Run). length v) e in
     let o : 0 ≡ first (tableTests d s (length t / 2)) = table-room d s (length t / 2) z (let v : length (runsIn d s) ≤ length t / 2 = omega arith in v) in (
-      ap RunNumber.Runs m ∙ answer-yes (RunNumber.Runs (length (runsIn d s))) RunNumber.Refused 0 (first (tableTests d s (length t / 2))) o refl,
+      ap RunCount.Runs m ∙ answer-yes (RunCount.Runs (length (runsIn d s))) RunCount.Refused 0 (first (tableTests d s (length t / 2))) o refl,
       h
           ∙ (ap (λ (v : List Run). numbersOf v ++ drop (2 * k) t) (ap (λ (u : ℕ). take u rs) f ∙ (take-length rs ∙ e))
           ∙ (ap (λ (v : ℕ). numbersOf (runsIn d s) ++ drop (2 * v) t) m

@@ -46,7 +46,7 @@ use Rattle.record.proofs.Accepted.{Accepted, accepted, laid}
 use Rattle.record.proofs.Right.{read-head, read-segments, accepted-made, accepted-right}
 use Rattle.record.proofs.Change.{right-append, right-remove, less}
 use Rattle.record.proofs.Demand.{order-taken, number-of}
-use Rattle.room.specs.declared.RunNumber.the-variants as RunNumber
+use Rattle.room.specs.declared.RunCount.the-variants as RunCount
 use Rattle.room.specs.declared.RunFound.the-variants as RunFound
 use Rattle.room.specs.declared.FreeTotal.the-variants as FreeTotal
 use Rattle.room.specs.declared.Allocation.the-variants as Allocation
@@ -371,18 +371,18 @@ refusing d s n l =
     record {
       allocation = λ k m out e. (refuses (Allocation.Placed (given d s k m .start) (length s + itemBytes)) Allocation.Refused (first (allocateTests d s k m (length out))) n e l, refuses (splice out 0 (appended s (given d s k m))) (λ (x : ℕ). out) (first (allocateTests d s k m (length out))) n e l);
       release = λ p out e. (refuses (Released.Length (length s - itemBytes)) Released.Refused (first (releaseTests d s p (length out))) n e l, refuses (splice out 0 (removed s p)) (λ (x : ℕ). out) (first (releaseTests d s p (length out))) n e l);
-      table = λ t e. (refuses (RunNumber.Runs (length (runsIn d s))) RunNumber.Refused (first (tableTests d s (length t))) n e l, refuses (runsIn d s ++ drop (length (runsIn d s)) t) (λ (x : ℕ). t) (first (tableTests d s (length t))) n e l);
-      numbers = λ t e. (refuses (RunNumber.Runs (length (runsIn d s))) RunNumber.Refused (first (tableTests d s (length t / 2))) n e l, refuses (numbersOf (runsIn d s) ++ drop (2 * length (runsIn d s)) t) (λ (x : ℕ). t) (first (tableTests d s (length t / 2))) n e l);
+      table = λ t e. (refuses (RunCount.Runs (length (runsIn d s))) RunCount.Refused (first (tableTests d s (length t))) n e l, refuses (runsIn d s ++ drop (length (runsIn d s)) t) (λ (x : ℕ). t) (first (tableTests d s (length t))) n e l);
+      numbers = λ t e. (refuses (RunCount.Runs (length (runsIn d s))) RunCount.Refused (first (tableTests d s (length t / 2))) n e l, refuses (numbersOf (runsIn d s) ++ drop (2 * length (runsIn d s)) t) (λ (x : ℕ). t) (first (tableTests d s (length t / 2))) n e l);
     }
 
 pub numbered : Numbered
 numbered d s k m w =
     record {
-      runs = number-of runsNumber (RunNumber.Runs (length (runsIn d s))) RunNumber.Refused refl (λ n. refl) (first (recordTests d s));
+      runs = number-of runsNumber (RunCount.Runs (length (runsIn d s))) RunCount.Refused refl (λ n. refl) (first (recordTests d s));
       run = number-of runNumber (RunFound.At (runAt (runsIn d s) k)) RunFound.Refused refl (λ n. refl) (first (recordTests d s));
       free = number-of totalNumber (FreeTotal.Sectors (freeSectors (dataRange d) (segments s))) FreeTotal.Refused refl (λ n. refl) (first (recordTests d s));
       fit = number-of runNumber (RunFound.At (fitOf m (runsIn d s))) RunFound.Refused refl (λ n. refl) (first (recordTests d s ++ fitTests (runsIn d s) m));
-      table = number-of runsNumber (RunNumber.Runs (length (runsIn d s))) RunNumber.Refused refl (λ n. refl) (first (tableTests d s w));
+      table = number-of runsNumber (RunCount.Runs (length (runsIn d s))) RunCount.Refused refl (λ n. refl) (first (tableTests d s w));
       allocation = number-of allocationNumber (Allocation.Placed (given d s k m .start) (length s + itemBytes)) Allocation.Refused refl (λ n. refl) (first (allocateTests d s k m w));
       release = number-of releaseNumber (Released.Length (length s - itemBytes)) Released.Refused refl (λ n. refl) (first (releaseTests d s k w));
     }

@@ -24,8 +24,8 @@ use Rattle.record.proofs.Testing.{more-no, more-yes, record-numbered}
 use Rattle.record.proofs.Accepted.{accepted}
 use Rattle.record.proofs.Checking.{checked-number}
 use Rattle.record.proofs.Demand.{order-taken}
-use Rattle.room.specs.declared.RunNumber.{RunNumber}
-use Rattle.room.specs.declared.RunNumber.the-variants.{Runs, Refused}
+use Rattle.room.specs.declared.RunCount.{RunCount}
+use Rattle.room.specs.declared.RunCount.the-variants.{Runs, Refused}
 use Rattle.room.specs.Walking.{walked, meant, On, Stepped}
 use Rattle.room.specs.declared.walk.Walk.{Walk}
 use Rattle.room.specs.Answers.{runsIn, numbered, tableTests, tableAnswer, tableLeft, entriesOf}
@@ -115,7 +115,7 @@ pub record Filled (d : Device) (s p : List ℕ) (t : List Run) (n : ℕ) : Type 
   pub within : n ≤ length t
   pub left : take n (walked (dataRange d) (segments s) (meant s p)) ++ drop n t ≡ tableLeft d s t
 
-pub filled : (d : Device) (s p : List ℕ) (t : List Run) (a : RunNumber) (n : ℕ) → Prepared d s (length t) a n p → Filled d s p t n
+pub filled : (d : Device) (s p : List ℕ) (t : List Run) (a : RunCount) (n : ℕ) → Prepared d s (length t) a n p → Filled d s p t n
 filled d s p t a n c = go (eqb (first (tableTests d s (length t))) 0) refl
   where
     entries : (b : Bool) → eqb (first (tableTests d s (length t))) 0 ≡ b → n ≡ entriesOf (cond b (Runs (length (runsIn d s))) (Refused (first (tableTests d s (length t)))))

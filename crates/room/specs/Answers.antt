@@ -15,8 +15,8 @@ use Rattle.runs.specs.Runs.{runsOf, runAt, fitOf, fitting}
 use Rattle.items.specs.Head.{dataRange}
 use Rattle.items.specs.Items.{segments}
 use Rattle.record.specs.Accept.{recordTests}
-use Rattle.room.specs.declared.RunNumber.{RunNumber}
-use Rattle.room.specs.declared.RunNumber.the-variants as RunNumber
+use Rattle.room.specs.declared.RunCount.{RunCount}
+use Rattle.room.specs.declared.RunCount.the-variants as RunCount
 use Rattle.room.specs.declared.RunFound.{RunFound}
 use Rattle.room.specs.declared.RunFound.the-variants as RunFound
 use Rattle.room.specs.declared.FreeTotal.{FreeTotal}
@@ -32,19 +32,19 @@ abbrev pub runsIn : Device → List ℕ → List Run
 runsIn d s = freeRuns (dataRange d) (segments s)
 
 -- how many there are
-abbrev pub numbered : ℕ → ℕ → RunNumber
-numbered n k = cond (eqb n 0) (RunNumber.Runs k) (RunNumber.Refused n)
+abbrev pub numbered : ℕ → ℕ → RunCount
+numbered n k = cond (eqb n 0) (RunCount.Runs k) (RunCount.Refused n)
 
-abbrev pub runsAnswer : Device → List ℕ → RunNumber
+abbrev pub runsAnswer : Device → List ℕ → RunCount
 runsAnswer d s = numbered (first (recordTests d s)) (length (runsIn d s))
 
-abbrev pub runsNumber : RunNumber → ℕ
-runsNumber (RunNumber.Runs k) = 0
-runsNumber (RunNumber.Refused n) = n
+abbrev pub runsNumber : RunCount → ℕ
+runsNumber (RunCount.Runs k) = 0
+runsNumber (RunCount.Refused n) = n
 
-abbrev pub runsValues : RunNumber → List ℕ
-runsValues (RunNumber.Runs k) = k ∷ []
-runsValues (RunNumber.Refused n) = []
+abbrev pub runsValues : RunCount → List ℕ
+runsValues (RunCount.Runs k) = k ∷ []
+runsValues (RunCount.Refused n) = []
 
 -- run k, counted from 0: its start and length; where there is none, zero in both
 abbrev pub foundRun : ℕ → Run → RunFound
@@ -86,7 +86,7 @@ abbrev pub tableTests : Device → List ℕ → ℕ → List Test
 tableTests d s w = recordTests d s ++ ((leb (length (runsIn d s)) w or sliceSize) ∷ [])
 
 -- how many free runs there are, where the table has room for them
-abbrev pub tableAnswer : Device → List ℕ → ℕ → RunNumber
+abbrev pub tableAnswer : Device → List ℕ → ℕ → RunCount
 tableAnswer d s w = numbered (first (tableTests d s w)) (length (runsIn d s))
 
 -- the whole table afterwards: every free run and the entries past them, or every entry as it was
@@ -94,12 +94,12 @@ abbrev pub tableLeft : Device → List ℕ → List Run → List Run
 tableLeft d s t = cond (eqb (first (tableTests d s (length t))) 0) (runsIn d s ++ drop (length (runsIn d s)) t) t
 
 -- the number of entries that an answer fills
-abbrev pub entriesOf : RunNumber → ℕ
-entriesOf (RunNumber.Runs n) = n
-entriesOf (RunNumber.Refused n) = 0
+abbrev pub entriesOf : RunCount → ℕ
+entriesOf (RunCount.Runs n) = n
+entriesOf (RunCount.Refused n) = 0
 
 -- the same two for a table of numbers, a start and a length for each run, which has room for half as many
-abbrev pub numbersAnswer : Device → List ℕ → ℕ → RunNumber
+abbrev pub numbersAnswer : Device → List ℕ → ℕ → RunCount
 numbersAnswer d s w = tableAnswer d s (w / 2)
 
 abbrev pub numbersLeft : Device → List ℕ → List ℕ → List ℕ

@@ -26,8 +26,8 @@ use Rattle.room.specs.Answers.{freeRuns}
 abbrev pub runsFor : Device → List ℕ → ℕ → List Run
 runsFor d s k = freeRuns (rangeFor d (headOf s) k) (segments s)
 
--- allocation: its record, then its own kind and count, then whether the record is full, then the room for it;
--- 1 for too little room, last, where w bytes are lent
+-- the tests of an allocation after those of its record: the kind, the number of sectors, whether the record is full, whether a free
+-- run is long enough; and, although its number is the lowest, last of all, whether the new record fits the w bytes lent
 abbrev pub ownTests : Device → List ℕ → ℕ → ℕ → ℕ → List Test
 ownTests d s k m w =
     (allows (headOf s) k or recordForm)
@@ -62,7 +62,7 @@ abbrev pub allocationValues : Allocation → List ℕ
 allocationValues (Allocation.Placed start len) = start ∷ len ∷ []
 allocationValues (Allocation.Refused n) = []
 
--- release: its record, then the position; 1 last
+-- the last test of a release, after those of its record and of the position: whether the new record fits the w bytes lent
 abbrev pub roomTests : List ℕ → ℕ → List Test
 roomTests s w = (leb (length s - itemBytes) w or sliceSize) ∷ []
 

@@ -22,7 +22,7 @@ use Rattle.items.specs.Head.{headOf, headSize, allows, dataRange, rangeFor, ite
 use Rattle.items.specs.Items.{segments}
 use Rattle.items.specs.Making.{recordOf}
 use Rattle.record.specs.Accept.{recordTests, checked}
-use Rattle.room.specs.declared.RunNumber.the-variants as RunNumber
+use Rattle.room.specs.declared.RunCount.the-variants as RunCount
 use Rattle.room.specs.declared.Allocation.the-variants as Allocation
 use Rattle.room.specs.declared.Released.the-variants as Released
 use Rattle.room.specs.Answers.{runsIn, runsAnswer, runsNumber, runAnswer, runNumber, totalAnswer, totalNumber, fitTests, fitAnswer, tableTests, tableAnswer, tableLeft, numbersAnswer, numbersLeft}
@@ -122,9 +122,9 @@ pub record Unchanged (d : Device) (s : List ℕ) (n : ℕ) : Type 0 where
       → (allocateAnswer d s k m (length out) ≡ Allocation.Refused n) × (allocateLeft d s k m out ≡ out)
   pub release : (p : ℕ) (out : List ℕ) → first (releaseTests d s p (length out)) ≡ n
       → (releaseAnswer d s p (length out) ≡ Released.Refused n) × (releaseLeft d s p out ≡ out)
-  pub table : (t : List Run) → first (tableTests d s (length t)) ≡ n → (tableAnswer d s (length t) ≡ RunNumber.Refused n) × (tableLeft d s t ≡ t)
+  pub table : (t : List Run) → first (tableTests d s (length t)) ≡ n → (tableAnswer d s (length t) ≡ RunCount.Refused n) × (tableLeft d s t ≡ t)
   pub numbers : (t : List ℕ) → first (tableTests d s (length t / 2)) ≡ n
-      → (numbersAnswer d s (length t) ≡ RunNumber.Refused n) × (numbersLeft d s t ≡ t)
+      → (numbersAnswer d s (length t) ≡ RunCount.Refused n) × (numbersLeft d s t ≡ t)
 
 abbrev pub Refusing : Type 0
 Refusing = (d : Device) (s : List ℕ) (n : ℕ) → 0 < n → Unchanged d s n

@@ -7,7 +7,7 @@ use Rattle.layout.specs.declared.Device.{Device}
 use Rattle.segments.specs.Order.{orderOf}
 use Rattle.items.specs.Items.{segments}
 use Rattle.record.specs.Accept.{recordTests}
-use Rattle.room.specs.declared.RunNumber.{RunNumber}
+use Rattle.room.specs.declared.RunCount.{RunCount}
 use Rattle.room.specs.Walking.{meant}
 use Rattle.room.specs.Answers.{tableAnswer, entriesOf}
 
@@ -17,7 +17,7 @@ pub record Checking (d : Device) (s : List ℕ) (n : ℕ) (p : List ℕ) : Type 
   pub order : first (recordTests d s) ≡ 0 → meant s p ≡ orderOf (segments s)
 
 -- the answer for a table of w entries, the number of entries that it fills, and such positions
-pub record Prepared (d : Device) (s : List ℕ) (w : ℕ) (a : RunNumber) (n : ℕ) (p : List ℕ) : Type 0 where
+pub record Prepared (d : Device) (s : List ℕ) (w : ℕ) (a : RunCount) (n : ℕ) (p : List ℕ) : Type 0 where
   pub answer : a ≡ tableAnswer d s w
   pub count : n ≡ entriesOf a
   pub order : first (recordTests d s) ≡ 0 → meant s p ≡ orderOf (segments s)

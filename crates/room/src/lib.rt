@@ -20,7 +20,7 @@ ghost use Rattle.room.specs.Preparing.{Checking, Prepared};
 ghost use Rattle.room.specs.Change.{allocateAnswer, allocateLeft, releaseAnswer, releaseLeft};
 
 // What `count_runs` and the calls that fill a table answer.
-pub enum RunNumber {
+pub enum RunCount {
     Runs(u64),
     Refused(u8),
 }
@@ -60,19 +60,19 @@ fn data_range(d: Device) -> Range
 }
 
 // The number of free runs.
-pub fn count_runs(d: Device, s: &[u8]) -> RunNumber
+pub fn count_runs(d: Device, s: &[u8]) -> RunCount
     ensures { λ r. ⌜ r ≡ runsAnswer d (now (s .entry)) ⌝ }
 {
     let c = record::check_in_order(d, s);
     let n = c.number;
     if n != 0 {
-        return RunNumber::Refused(n);
+        return RunCount::Refused(n);
     }
     let o = c.order;
     let at = o.at;
     let t = items::items_of(s);
     let many = items::count_in(t);
-    RunNumber::Runs(walk::count_gaps(t, &at[..many], data_range(d)))
+    RunCount::Runs(walk::count_gaps(t, &at[..many], data_range(d)))
 }
 
 // Free run number k, counted from 0 and ascending; a run of no sectors at 0 where there is none.
@@ -234,14 +234,14 @@ pub fn release(d: Device, s: &[u8], position: usize, out: &mut [u8]) -> Released
 }
 
 // Writes every free run to a table of numbers, ascending: a start and a length for each. The numbers past them stay.
-pub fn free_run_numbers(d: Device, s: &[u8], table: &mut [u64]) -> RunNumber
+pub fn free_run_numbers(d: Device, s: &[u8], table: &mut [u64]) -> RunCount
     ensures { λ r. ⌜ r ≡ numbersAnswer d (now (s .entry)) (length (now (table .entry))) ⌝ }
     ensures { λ _. ⌜ now (table .exit) ≡ numbersLeft d (now (s .entry)) (now (table .entry)) ⌝ }
 {
     let c = record::check_in_order(d, s);
     let n = c.number;
     if n != 0 {
-        return RunNumber::Refused(n);
+        return RunCount::Refused(n);
     }
     let o = c.order;
     let at = o.at;
@@ -249,43 +249,43 @@ pub fn free_run_numbers(d: Device, s: &[u8], table: &mut [u64]) -> RunNumber
     let many = items::count_in(t);
     let k = walk::count_gaps(t, &at[..many], data_range(d));
     if ((table.len() / 2) as u64) < k {
-        return RunNumber::Refused(refusal::SLICE_SIZE);
+        return RunCount::Refused(refusal::SLICE_SIZE);
     }
     walk::fill_numbers(t, &at[..many], data_range(d), k as usize, table);
-    RunNumber::Runs(k)
+    RunCount::Runs(k)
 }
 
 // What is known before a table is filled: the answer, how many entries are filled, and the order of an accepted record's segments.
 struct Filling {
-    answer: RunNumber,
+    answer: RunCount,
     count: usize,
     at: [u16; items::MOST_SEGMENTS],
 }
 
 // What a call that fills a table of w entries answers, where `number` is that of the record's check and `at` begins with the
 // order of its segments.
-fn table_answer(d: Device, s: &[u8], number: u8, at: &[u16], w: usize) -> RunNumber
+fn table_answer(d: Device, s: &[u8], number: u8, at: &[u16], w: usize) -> RunCount
     requires { ⌜ Checking d (now s) number (now at) ⌝ }
     ensures { λ r. ⌜ r ≡ tableAnswer d (now (s .entry)) w ⌝ }
 {
     if number != 0 {
-        return RunNumber::Refused(number);
+        return RunCount::Refused(number);
     }
     let t = items::items_of(s);
     let k = walk::count_gaps(t, walk::first_of(at, items::count_in(t)), data_range(d));
     if (w as u64) < k {
-        return RunNumber::Refused(refusal::SLICE_SIZE);
+        return RunCount::Refused(refusal::SLICE_SIZE);
     }
-    RunNumber::Runs(k)
+    RunCount::Runs(k)
 }
 
 // The number of entries that an answer fills.
-fn entries_of(a: RunNumber) -> usize
+fn entries_of(a: RunCount) -> usize
     ensures { λ r. ⌜ r ≡ entriesOf a ⌝ }
 {
     match a {
-        RunNumber::Runs(n) => n as usize,
-        RunNumber::Refused(_) => 0,
+        RunCount::Runs(n) => n as usize,
+        RunCount::Refused(_) => 0,
     }
 }
 
@@ -302,7 +302,7 @@ fn prepare(d: Device, s: &[u8], w: usize) -> Filling
 }
 
 // Writes every free run to the table's first entries, ascending; the entries past them stay.
-pub fn free_runs(d: Device, s: &[u8], table: &mut [Run]) -> RunNumber
+pub fn free_runs(d: Device, s: &[u8], table: &mut [Run]) -> RunCount
     ensures { λ r. ⌜ r ≡ tableAnswer d (now (s .entry)) (length (now (table .entry))) ⌝ }
     ensures { λ _. ⌜ now (table .exit) ≡ tableLeft d (now (s .entry)) (now (table .entry)) ⌝ }
 {
@@ -319,7 +319,7 @@ pub fn free_runs_of(
     reserved: u32,
     s: &[u8],
     table: &mut [Run],
-) -> RunNumber
+) -> RunCount
     ensures { λ r. ⌜ r ≡ tableAnswer (record { sectors = sectors; metadata = metadata; reserved = reserved }) (now (s .entry)) (length (now (table .entry))) ⌝ }
     ensures { λ _. ⌜ now (table .exit) ≡ tableLeft (record { sectors = sectors; metadata = metadata; reserved = reserved }) (now (s .entry)) (now (table .entry)) ⌝ }
 {

@@ -2,7 +2,7 @@
 // afterwards. Entry k of a table starts as (7, k). The file stdout beside src/ has what must be printed;
 // samples/runs.py makes it and shares nothing with the library. Assumes what `io` and `libc` do.
 use items::Head;
-use room::RunNumber;
+use room::RunCount;
 use runs::Run;
 use segments::Segment;
 ghost use mathlib.Core.Path.{_≡_};
@@ -13,7 +13,7 @@ const OUT: i32 = 1;
 
 // What was answered, and the table afterwards.
 struct Filled {
-    answer: RunNumber,
+    answer: RunCount,
     table: [Run; 3],
 }
 
@@ -42,10 +42,10 @@ fn run(r: Run) {
 }
 
 // Prints what was answered.
-fn answer(a: RunNumber) {
+fn answer(a: RunCount) {
     match a {
-        RunNumber::Runs(n) => number(n),
-        RunNumber::Refused(n) => {
+        RunCount::Runs(n) => number(n),
+        RunCount::Refused(n) => {
             io::write_all(OUT, b" refused");
             number(n as u64);
         }

@@ -5,7 +5,7 @@ use Rattle.refusal.specs.Tests.{first}
 use Rattle.record.specs.Accept.{recordTests}
 use Rattle.items.specs.Head.{dataRange}
 use Rattle.room.specs.Answers.{runsIn}
-use Rattle.room.specs.declared.RunNumber.the-variants as RunNumber
+use Rattle.room.specs.declared.RunCount.the-variants as RunCount
 use Rattle.runs.specs.declared.Run.{Run}
 use lib.ListN.{length}
 use mathlib.Core.List.{List, _++_}
@@ -23,7 +23,7 @@ returns : tie.Need-returns
 returns c =
     let d : Device = c .before .before .before .args .d in
     let s : List ℕ = c .before .before .before .args .s .now in
-    answer-no (RunNumber.Runs (length (runsIn d s))) RunNumber.Refused (c .before .check-in-order .result .number) (first (recordTests d s)) (number-is d s (c .before .check-in-order .result) (c .before .check-in-order .ensures)) (c .if1 .taken)
+    answer-no (RunCount.Runs (length (runsIn d s))) RunCount.Refused (c .before .check-in-order .result .number) (first (recordTests d s)) (number-is d s (c .before .check-in-order .result) (c .before .check-in-order .ensures)) (c .if1 .taken)
 
 items-of-requires : tie.Need-items-of-requires
 items-of-requires c κs = search needs
@@ -57,8 +57,8 @@ returns-2 c =
     let d : Device = c .before .before .before .before .before .before .before .before .before .before .args .d in
     let s : List ℕ = c .before .before .before .before .before .before .before .before .before .before .args .s .now in
     let w : Ready d s (c .before .before .before .before .before .before .before .before .check-in-order .result) (c .before .before .before .before .items-of .result .now) (c .before .before .before .count-in .result) (c .before .data-range .result) = ready d s (c .before .before .before .before .before .before .before .before .check-in-order .result) (c .before .before .before .before .items-of .result .now) (c .before .before .before .count-in .result) (c .before .data-range .result) (c .before .before .before .before .before .before .before .before .check-in-order .ensures) (c .before .before .before .before .before .before .before .if1 .left) (c .before .before .before .before .items-of .ensures) (c .before .before .before .count-in .ensures) (c .before .data-range .ensures) in
-    ap RunNumber.Runs (c .count-gaps .ensures ∙ ap (λ (z : List Run). length z) (w .runs))
-    ∙ answer-yes (RunNumber.Runs (length (runsIn d s))) RunNumber.Refused 0 (first (recordTests d s)) (sym (w .zero)) refl
+    ap RunCount.Runs (c .count-gaps .ensures ∙ ap (λ (z : List Run). length z) (w .runs))
+    ∙ answer-yes (RunCount.Runs (length (runsIn d s))) RunCount.Refused 0 (first (recordTests d s)) (sym (w .zero)) refl
 
 pub count-runs-spec : {M : Type 1} → statement M
 count-runs-spec =

@@ -5,7 +5,7 @@ use Rattle.refusal.specs.Tests.{first, _or_}
 use Rattle.record.specs.Accept.{recordTests}
 use Rattle.items.specs.Head.{dataRange}
 use Rattle.room.specs.Answers.{runsIn, tableTests}
-use Rattle.room.specs.declared.RunNumber.the-variants as RunNumber
+use Rattle.room.specs.declared.RunCount.the-variants as RunCount
 use Rattle.runs.specs.declared.Run.{Run}
 use Rattle.room.specs.Walking.{walked}
 use Rattle.items.specs.Items.{segmentsIn}

@@ -54,7 +54,7 @@ use Rattle.items.specs.Head.{dataRange}
 use Rattle.items.specs.Items.{segments}
 use Rattle.runs.specs.declared.Run.{Run}
 use Rattle.runs.proofs.Run as R
-use Rattle.room.specs.declared.RunNumber.{RunNumber}
+use Rattle.room.specs.declared.RunCount.{RunCount}
 use Rattle.room.specs.declared.Filling.{Filling}
 use Rattle.room.specs.Walking as Walking
 use Rattle.room.specs.Walking.{meant}
@@ -63,8 +63,8 @@ use Rattle.room.specs.Preparing.{Prepared}
 use Rattle.room.proofs.Tables.{laid}
 use Rattle.room.proofs.Preparing.{Filled, filled}
 use Rattle.room.proofs.Hand.{word, bytes, entries, lentRef, lent, says-both}
-use Rattle.room.proofs.RunNumber as N
-use Rattle.room.proofs.RunNumber.Laws as N′
+use Rattle.room.proofs.RunCount as N
+use Rattle.room.proofs.RunCount.Laws as N′
 use Rattle.room.proofs.Filling as F
 use Rattle.room.proofs.Filling.Laws as F′
 use Rattle.room.proofs.prepare as prepare
@@ -234,7 +234,7 @@ module _ {M : Type 1} (𝓤 : URA M) (H : Heap 𝓤) (A : Atoms 𝓤) (W : Given
         move ! (1 ∷ []) $ split ! $ nothing ! $ move ! (2 ∷ 0 ∷ []) $ fjoin ! $ owned ! usize (Is usize) (uint-makes 𝓤 H A W w64) (f .count) _ (refl, fits) $ fjoin ! $
         owned ! D.the-row (Is D.the-row) (LL.makes D.the-type D′.the-plain 𝓤 H A) d _ is-d $ fjoin ! $ move ! (1 ∷ 0 ∷ []) $ fjoin ! $ move ! (1 ∷ 0 ∷ []) $ fjoin ! $ done !
 
-    exits : (r : RunNumber) (w : Val) (zs : List Run) → Is N.the-row r (w ∷ []) → r ≡ tableAnswer d (s .now) (length ys) → zs ≡ tableLeft d (s .now) ys → length zs ≡ length ys
+    exits : (r : RunCount) (w : Val) (zs : List Run) → Is N.the-row r (w ∷ []) → r ≡ tableAnswer d (s .now) (length ys) → zs ≡ tableLeft d (s .now) ys → length zs ≡ length ys
         → ent 𝓤 (⋆ 𝓤 H A ((‵ (flft κ q) ⊛ (‵ (flft κ′ q′) ⊛ ‵ ftrue)) ∷ ‵ (finally R.the-row γ zs) ∷ ‵ Own ∷ [])) (Post w)
     exits r w zs is e f l =
         qed W ((‵ (flft κ q) ⊛ (‵ (flft κ′ q′) ⊛ ‵ ftrue)) ∷ ‵ (finally R.the-row γ zs) ∷ ‵ Own ∷ []) ∵

@@ -44,11 +44,11 @@ use Rattle.layout.proofs.Device as D
 use Rattle.layout.proofs.Device.Laws as D′
 use Rattle.runs.specs.declared.Run.{Run}
 use Rattle.runs.proofs.Run as R
-use Rattle.room.specs.declared.RunNumber.{RunNumber}
+use Rattle.room.specs.declared.RunCount.{RunCount}
 use Rattle.room.specs.Answers.{tableAnswer, tableLeft}
 use Rattle.room.proofs.Hand.{word, half, bytes, entries, lentRef, lent, says-both}
-use Rattle.room.proofs.RunNumber as N
-use Rattle.room.proofs.RunNumber.Laws as N′
+use Rattle.room.proofs.RunCount as N
+use Rattle.room.proofs.RunCount.Laws as N′
 use Rattle.room.proofs.free_runs as free-runs
 use Rattle.room.proofs.free_runs.Symbol as free-runs-def
 use Rattle.room.proofs.free_runs.Symbol.{name as #room·free-runs}
@@ -131,7 +131,7 @@ module _ {M : Type 1} (𝓤 : URA M) (H : Heap 𝓤) (A : Atoms 𝓤) (W : Given
         nothing ! $ move ! (3 ∷ 0 ∷ []) $ fjoin ! $ move ! (2 ∷ 0 ∷ []) $ fjoin ! $
         owned ! D.the-row (Is D.the-row) (LL.makes D.the-type D′.the-plain 𝓤 H A) d _ is-d $ fjoin ! $ move ! (1 ∷ 0 ∷ []) $ join ! $ frame ! $ done !
 
-    exits : (r : RunNumber) (w : Val) (zs : List Run) → r ≡ tableAnswer d (s .now) (length ys) → zs ≡ tableLeft d (s .now) ys → length zs ≡ length ys
+    exits : (r : RunCount) (w : Val) (zs : List Run) → r ≡ tableAnswer d (s .now) (length ys) → zs ≡ tableLeft d (s .now) ys → length zs ≡ length ys
         → ent 𝓤 (⋆ 𝓤 H A (‵ (N.the-row .own r (w ∷ [])) ∷ (‵ (flft κ q) ⊛ (‵ (flft κ′ q′) ⊛ ‵ ftrue)) ∷ ‵ (finally R.the-row γ zs) ∷ ‵ Own ∷ [])) (Post w)
     exits r w zs e f l =
         qed W (‵ (N.the-row .own r (w ∷ [])) ∷ (‵ (flft κ q) ⊛ (‵ (flft κ′ q′) ⊛ ‵ ftrue)) ∷ ‵ (finally R.the-row γ zs) ∷ ‵ Own ∷ []) ∵
@@ -166,7 +166,7 @@ module _ {M : Type 1} (𝓤 : URA M) (H : Heap 𝓤) (A : Atoms 𝓤) (W : Given
           move ! (22 ∷ 2 ∷ 0 ∷ []) $ use3 W (raw (FreeRuns 𝓤 H A mem run .pre to-runs)) goes-runs $
           -- [what it asks; true; Own; _8; …; _0; …]
           calls-at ! (fmOf 𝓤 H (W .laws) 𝓣) (FreeRuns 𝓤 H A mem run) known-runs to-runs (and-then ! (load ! (from ! (stop !)) (look ! 7 refl)) (and-then ! (load ! (from ! (stop !)) (look ! 11 refl)) (and-then ! (load ! (from ! (stop !)) (look ! 3 refl)) (no-more !)))) (λ w.
-          use1 W (later (some (λ (r : RunNumber). ((‵ (flft κ q) ⊛ (‵ (flft κ′ q′) ⊛ ‵ ftrue)) ⊛ ‵ (N.the-row .own r (w ∷ []))) ⊛ raw (ensured 𝓤 H A free-runs.ended (free-runs.clauses 𝓤 H A mem run) (κ, (κ′, tt)) (d, (s, (table, tt))) tt r)))) (id⊢ 𝓤 _) $ await ! tt $ pick ! (λ r.
+          use1 W (later (some (λ (r : RunCount). ((‵ (flft κ q) ⊛ (‵ (flft κ′ q′) ⊛ ‵ ftrue)) ⊛ ‵ (N.the-row .own r (w ∷ []))) ⊛ raw (ensured 𝓤 H A free-runs.ended (free-runs.clauses 𝓤 H A mem run) (κ, (κ′, tt)) (d, (s, (table, tt))) tt r)))) (id⊢ 𝓤 _) $ await ! tt $ pick ! (λ r.
           split ! $ move ! (1 ∷ []) $ use1 W (some (λ (zs : Unit {0} × (Unit {0} × (List Run × Unit {0}))). ‵ (lasts free-runs.ended (κ, (κ′, tt)) (d, (s, (table, tt))) zs) ⊛ (raw (fact 𝓤 (r ≡ tableAnswer d (s .now) (length ys))) ⊛ raw (fact 𝓤 (zs .1 .1 .0 ≡ tableLeft d (s .now) ys))))) (id⊢ 𝓤 _) $ pick ! (λ zs.
           split ! $ move ! (1 ∷ []) $ split ! $ heard ! (r ≡ tableAnswer d (s .now) (length ys)) (λ e. heard ! (zs .1 .1 .0 ≡ tableLeft d (s .now) ys) (λ f. fsplit ! $ drop ! $ fsplit ! $ drop ! $ fsplit ! $ fsplit ! $ move ! (1 ∷ []) $ feqL ! (λ l.
           -- [the last list; true; the tokens and the result; true; Own; _8; …; _0; …]

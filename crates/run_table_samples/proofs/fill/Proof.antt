@@ -53,11 +53,11 @@ use Rattle.layout.specs.declared.Device.{Device}
 use Rattle.runs.specs.declared.Run.{Run}
 use Rattle.runs.proofs.Run as R
 use Rattle.runs.proofs.Run.Laws as R′
-use Rattle.room.specs.declared.RunNumber.{RunNumber}
+use Rattle.room.specs.declared.RunCount.{RunCount}
 use Rattle.room.specs.Answers.{tableAnswer, tableLeft}
 use Rattle.room.proofs.Hand.{word, half, bytes, lent}
-use Rattle.room.proofs.RunNumber as N
-use Rattle.room.proofs.RunNumber.Laws as N′
+use Rattle.room.proofs.RunCount as N
+use Rattle.room.proofs.RunCount.Laws as N′
 use Rattle.room.proofs.free_runs_of as free-runs-of
 use Rattle.room.proofs.free_runs_of.Symbol as free-runs-of-def
 use Rattle.room.proofs.free_runs_of.Symbol.{name as #room·free-runs-of}
@@ -156,13 +156,13 @@ module _ {M : Type 1} (𝓤 : URA M) (H : Heap 𝓤) (A : Atoms 𝓤) (W : Given
   Lent ν b γ = MutSlice (named 1) (ν ∷ []) R.the-row .own (table b γ) (sliceVal (b, 0) (length ys) ∷ [])
 
   -- the result, at the machine values w and v of its fields
-  abbrev result : RunNumber → List Run → Filled
+  abbrev result : RunCount → List Run → Filled
   result r zs = record { answer = r; table = zs }
 
   abbrev resultVal : Val → Val → Val
   resultVal w v = vstruct (vcons w (vcons v vnil))
 
-  is-result : (r : RunNumber) (zs : List Run) (w v : Val) → Is N.the-row r (w ∷ []) → Is Three zs (v ∷ []) → Is F.the-row (result r zs) (resultVal w v ∷ [])
+  is-result : (r : RunCount) (zs : List Run) (w v : Val) → Is N.the-row r (w ∷ []) → Is Three zs (v ∷ []) → Is F.the-row (result r zs) (resultVal w v ∷ [])
   is-result r zs w v is-r is-t = (
     (w ∷ [], (v ∷ [], tt)),
     (refl, (is-r, ((is-t .0, ((is-t .1 .0 .0, length-map zs (R.the-type .to) ∙ is-t .1 .0 .1), each-field zs (is-t .0) (is-t .1 .1))), tt))),
@@ -184,7 +184,7 @@ module _ {M : Type 1} (𝓤 : URA M) (H : Heap 𝓤) (A : Atoms 𝓤) (W : Given
         -- [what the parameters own; the tokens]
         move ! (1 ∷ []) $ split ! $ split ! $ move ! (2 ∷ 1 ∷ []) $ join ! $ move ! (1 ∷ 0 ∷ []) $ join ! $ join ! $ frame ! $ done !
 
-    exits : (r : RunNumber) (zs : List Run) (w v : Val) → Is N.the-row r (w ∷ []) → Is Three zs (v ∷ []) → r ≡ tableAnswer d (s .now) (length ys) → zs ≡ tableLeft d (s .now) ys
+    exits : (r : RunCount) (zs : List Run) (w v : Val) → Is N.the-row r (w ∷ []) → Is Three zs (v ∷ []) → r ≡ tableAnswer d (s .now) (length ys) → zs ≡ tableLeft d (s .now) ys
         → ent 𝓤 (⋆ 𝓤 H A (‵ (flft κ q) ∷ ‵ Own ∷ [])) (Post (resultVal w v))
     exits r zs w v is-r is-z e f =
         qed W (‵ (flft κ q) ∷ ‵ Own ∷ []) ∵
@@ -226,7 +226,7 @@ module _ {M : Type 1} (𝓤 : URA M) (H : Heap 𝓤) (A : Atoms 𝓤) (W : Given
           move ! (27 ∷ 2 ∷ 4 ∷ 0 ∷ []) $ join ! $ use3 W (raw (FreeRunsOf 𝓤 H A mem′ run .pre (to-runs ν l₆ γ))) (goes-runs ν l₆ γ) $
           -- [what it asks; the lender's part; true; Own; _10; …; _7; …; _5; …; _0; …]
           calls-at ! (fmOf 𝓤 H (W .laws) 𝓣) (FreeRunsOf 𝓤 H A mem′ run) known-runs (to-runs ν l₆ γ) (and-then ! (load ! (from ! (stop !)) (look ! 21 refl)) (and-then ! (load ! (from ! (stop !)) (look ! 19 refl)) (and-then ! (load ! (from ! (stop !)) (look ! 17 refl)) (and-then ! (load ! (from ! (stop !)) (look ! 15 refl)) (and-then ! (load ! (from ! (stop !)) (look ! 6 refl)) (no-more !)))))) (λ w.
-          use1 W (later (some (λ (r : RunNumber). ((‵ (flft κ q) ⊛ (‵ (flft (ν ∷ []) fullShare) ⊛ ‵ ftrue)) ⊛ ‵ (N.the-row .own r (w ∷ []))) ⊛ raw (ensured 𝓤 H A free-runs-of.ended (free-runs-of.clauses 𝓤 H A mem′ run) (κ, (ν ∷ [], tt)) (x, (m, (n, (s, (table l₆ γ, tt))))) tt r)))) (id⊢ 𝓤 _) $ await ! tt $ pick ! (λ r.
+          use1 W (later (some (λ (r : RunCount). ((‵ (flft κ q) ⊛ (‵ (flft (ν ∷ []) fullShare) ⊛ ‵ ftrue)) ⊛ ‵ (N.the-row .own r (w ∷ []))) ⊛ raw (ensured 𝓤 H A free-runs-of.ended (free-runs-of.clauses 𝓤 H A mem′ run) (κ, (ν ∷ [], tt)) (x, (m, (n, (s, (table l₆ γ, tt))))) tt r)))) (id⊢ 𝓤 _) $ await ! tt $ pick ! (λ r.
           split ! $ move ! (1 ∷ []) $ use1 W (some (λ (zs : Unit {0} × (Unit {0} × (Unit {0} × (Unit {0} × (List Run × Unit {0}))))). ‵ (lasts free-runs-of.ended (κ, (ν ∷ [], tt)) (x, (m, (n, (s, (table l₆ γ, tt))))) zs) ⊛ (raw (fact 𝓤 (r ≡ tableAnswer d (s .now) (length ys))) ⊛ raw (fact 𝓤 (zs .1 .1 .1 .1 .0 ≡ tableLeft d (s .now) ys))))) (id⊢ 𝓤 _) $ pick ! (λ zs.
           split ! $ move ! (1 ∷ []) $ split ! $ heard ! (r ≡ tableAnswer d (s .now) (length ys)) (λ f. heard ! (zs .1 .1 .1 .1 .0 ≡ tableLeft d (s .now) ys) (λ g. fsplit ! $ drop ! $ fsplit ! $ drop ! $ fsplit ! $ drop ! $ fsplit ! $ drop ! $ fsplit ! $ fsplit ! $ move ! (1 ∷ []) $ feqL ! (λ l.
           -- [the last list; true; the tokens and the result; the lender's part; true; Own; _10; …]

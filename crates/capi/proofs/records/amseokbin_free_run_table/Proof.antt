@@ -43,11 +43,11 @@ use denote.Triple.Walked.{says, Stays, stay-none, stay-none-slice, gave-slice, w
 use Rattle.refusal.specs.Tests.{first}
 use Rattle.runs.specs.declared.Run.{Run}
 use Rattle.runs.proofs.Run as R
-use Rattle.room.specs.declared.RunNumber.{RunNumber}
+use Rattle.room.specs.declared.RunCount.{RunCount}
 use Rattle.room.specs.Answers.{tableAnswer, tableLeft, runsNumber}
 use Rattle.room.proofs.Hand.{word, half, bytes, entries, lentRef, lent, says-both}
-use Rattle.room.proofs.RunNumber as N
-use Rattle.room.proofs.RunNumber.Laws as N′
+use Rattle.room.proofs.RunCount as N
+use Rattle.room.proofs.RunCount.Laws as N′
 use Rattle.room.proofs.free_runs_of as free-runs-of
 use Rattle.room.proofs.free_runs_of.Symbol as free-runs-of-def
 use Rattle.room.proofs.free_runs_of.Symbol.{name as #room·free-runs-of}
@@ -170,7 +170,7 @@ module _ {M : Type 1} (𝓤 : URA M) (H : Heap 𝓤) (A : Atoms 𝓤) (W : Given
   abbrev gated : ℕ
   gated = cond (eqb (length ks) 1) x 0
 
-  abbrev answer : ℕ → RunNumber
+  abbrev answer : ℕ → RunCount
   answer y = tableAnswer (deviceFrom y m n) (s .now) (length ys)
 
   module _ (x-fits : x < 2 ^ 64) (m-fits : m < 2 ^ 32) (n-fits : n < 2 ^ 32) (is-s : Is (ShrSlice (named 0) κ u8) s (sv ∷ [])) (gn : Room R.the-row (length ys)) (gk : Room u64 (length ks)) where
@@ -196,10 +196,10 @@ module _ {M : Type 1} (𝓤 : URA M) (H : Heap 𝓤) (A : Atoms 𝓤) (W : Given
         owned ! u32 (Is u32) (uint-makes 𝓤 H A W w32) n _ (refl, n-fits) $ fjoin ! $ owned ! u32 (Is u32) (uint-makes 𝓤 H A W w32) m _ (refl, m-fits) $ fjoin ! $ owned ! u64 (Is u64) (uint-makes 𝓤 H A W w64) y _ (refl, y-fits) $ fjoin ! $
         move ! (1 ∷ 0 ∷ []) $ join ! $ frame ! $ done !
 
-    abbrev to-tell : RunNumber → Val → TellRuns 𝓤 H A mem run .Ghost
+    abbrev to-tell : RunCount → Val → TellRuns 𝓤 H A mem run .Ghost
     to-tell r w = (((κ″, tt), (q″, tt), tt, (r, (runs, tt)), (w ∷ [], (kv ∷ [], tt))), tt)
 
-    goes-tell : (r : RunNumber) (w : Val) → ent 𝓤 (⋆ 𝓤 H A ((‵ (flft κ″ q″) ⊛ ‵ ftrue) ∷ ‵ (N.the-row .own r (w ∷ [])) ∷ ‵ Runs ∷ [])) (TellRuns 𝓤 H A mem run .pre (to-tell r w))
+    goes-tell : (r : RunCount) (w : Val) → ent 𝓤 (⋆ 𝓤 H A ((‵ (flft κ″ q″) ⊛ ‵ ftrue) ∷ ‵ (N.the-row .own r (w ∷ [])) ∷ ‵ Runs ∷ [])) (TellRuns 𝓤 H A mem run .pre (to-tell r w))
     goes-tell r w =
         qed W ((‵ (flft κ″ q″) ⊛ ‵ ftrue) ∷ ‵ (N.the-row .own r (w ∷ [])) ∷ ‵ Runs ∷ []) ∵
         nothing ! $ move ! (3 ∷ 0 ∷ []) $ fjoin ! $ move ! (2 ∷ 0 ∷ []) $ fjoin ! $ move ! (1 ∷ 0 ∷ []) $ join ! $ frame ! $ done !
@@ -251,7 +251,7 @@ module _ {M : Type 1} (𝓤 : URA M) (H : Heap 𝓤) (A : Atoms 𝓤) (W : Given
           move ! (2 ∷ 0 ∷ 5 ∷ []) $ use3 W (raw (FreeRunsOf 𝓤 H A mem run .pre (to-runs y))) (goes-runs y (is-y .1)) $
           -- [what it asks; Own; the third token; the array; _13; …]
           calls-at ! (fmOf 𝓤 H (W .laws) 𝓣) (FreeRunsOf 𝓤 H A mem run) known-runs (to-runs y) (and-then ! (load ! (from ! (stop !)) (look ! 16 refl)) (and-then ! (load ! (from ! (stop !)) (look ! 26 refl)) (and-then ! (load ! (from ! (stop !)) (look ! 24 refl)) (and-then ! (load ! (from ! (stop !)) (look ! 22 refl)) (and-then ! (load ! (from ! (stop !)) (look ! 8 refl)) (no-more !)))))) (λ w.
-          use1 W (later (some (λ (r : RunNumber). ((‵ (flft κ q) ⊛ (‵ (flft κ′ q′) ⊛ ‵ ftrue)) ⊛ ‵ (N.the-row .own r (w ∷ []))) ⊛ raw (ensured 𝓤 H A free-runs-of.ended (free-runs-of.clauses 𝓤 H A mem run) (κ, (κ′, tt)) (y, (m, (n, (s, (table, tt))))) tt r)))) (id⊢ 𝓤 _) $ await ! tt $ pick ! (λ r.
+          use1 W (later (some (λ (r : RunCount). ((‵ (flft κ q) ⊛ (‵ (flft κ′ q′) ⊛ ‵ ftrue)) ⊛ ‵ (N.the-row .own r (w ∷ []))) ⊛ raw (ensured 𝓤 H A free-runs-of.ended (free-runs-of.clauses 𝓤 H A mem run) (κ, (κ′, tt)) (y, (m, (n, (s, (table, tt))))) tt r)))) (id⊢ 𝓤 _) $ await ! tt $ pick ! (λ r.
           split ! $ move ! (1 ∷ []) $ use1 W (some (λ (zs : Unit {0} × (Unit {0} × (Unit {0} × (Unit {0} × (List Run × Unit {0}))))). ‵ (lasts free-runs-of.ended (κ, (κ′, tt)) (y, (m, (n, (s, (table, tt))))) zs) ⊛ (raw (fact 𝓤 (r ≡ answer y)) ⊛ raw (fact 𝓤 (zs .1 .1 .1 .1 .0 ≡ tableLeft (deviceFrom y m n) (s .now) ys))))) (id⊢ 𝓤 _) $ pick ! (λ zs.
           split ! $ move ! (1 ∷ []) $ split ! $ heard ! (r ≡ answer y) (λ e. heard ! (zs .1 .1 .1 .1 .0 ≡ tableLeft (deviceFrom y m n) (s .now) ys) (λ f. fsplit ! $ drop ! $ fsplit ! $ drop ! $ fsplit ! $ drop ! $ fsplit ! $ drop ! $ fsplit ! $ fsplit ! $ move ! (1 ∷ []) $ feqL ! (λ l.
           -- [the last list; true; two tokens and the answer; Own; the third token; the array; _13; …]
@@ -274,9 +274,9 @@ module _ {M : Type 1} (𝓤 : URA M) (H : Heap 𝓤) (A : Atoms 𝓤) (W : Given
           returns ! (look ! 32 refl) $ forget ! 32 refl $ forget ! 30 refl $ forget ! 28 refl $ forget ! 26 refl $ forget ! 24 refl $ forget ! 22 refl $ forget ! 20 refl $ forget ! 18 refl $ forget ! 16 refl $ forget ! 14 refl $ forget ! 12 refl $ forget ! 10 refl $ forget ! 8 refl $ forget ! 6 refl $
           move ! (32 ∷ 33 ∷ []) $ free1 ! $ move ! (30 ∷ 31 ∷ []) $ free1 ! $ move ! (28 ∷ 29 ∷ []) $ free1 ! $ move ! (26 ∷ 27 ∷ []) $ free1 ! $ move ! (24 ∷ 25 ∷ []) $ free1 ! $ move ! (22 ∷ 23 ∷ []) $ free1 ! $ move ! (20 ∷ 21 ∷ []) $ free1 ! $ move ! (18 ∷ 19 ∷ []) $ free1 ! $ move ! (16 ∷ 17 ∷ []) $ free1 ! $ move ! (14 ∷ 15 ∷ []) $ free1 ! $ move ! (12 ∷ 13 ∷ []) $ free1 ! $ move ! (10 ∷ 11 ∷ []) $ free1 ! $ move ! (8 ∷ 9 ∷ []) $ free1 ! $ move ! (6 ∷ 7 ∷ []) $ free1 ! $ free0 ! $
           keep ! (0 ∷ 1 ∷ 2 ∷ 3 ∷ 4 ∷ 5 ∷ []) $ by ! (exits c v (zs .1 .1 .1 .1 .0) (ws .1 .0)
-          (e′ ∙ ap (λ (z : RunNumber). numberIf (has ks 1) (runsNumber z)) e ∙ ap (λ (z : ℕ). numberIf (has ks 1) (runsNumber (answer z))) h ∙ gate-number (eqb (length ks) 1) x m n (s .now) (length ys))
+          (e′ ∙ ap (λ (z : RunCount). numberIf (has ks 1) (runsNumber z)) e ∙ ap (λ (z : ℕ). numberIf (has ks 1) (runsNumber (answer z))) h ∙ gate-number (eqb (length ks) 1) x m n (s .now) (length ys))
           (f ∙ ap (λ (z : ℕ). tableLeft (deviceFrom z m n) (s .now) ys) h ∙ gate-table (eqb (length ks) 1) x m n (s .now) ys)
-          (f′ ∙ ap (λ (z : RunNumber). leftIf (has ks 1) (runsLeft z ks) ks) e ∙ ap (λ (z : ℕ). leftIf (has ks 1) (runsLeft (answer z) ks) ks) h ∙ gate-runs (eqb (length ks) 1) x m n (s .now) (length ys) ks)
+          (f′ ∙ ap (λ (z : RunCount). leftIf (has ks 1) (runsLeft z ks) ks) e ∙ ap (λ (z : ℕ). leftIf (has ks 1) (runsLeft (answer z) ks) ks) h ∙ gate-runs (eqb (length ks) 1) x m n (s .now) (length ys) ks)
           l l′)))))))))))))))))))
 
     walk : (𝓣 : Tables 𝓤 H) → Triple 𝓤 (𝓣 .C #sectors-if) (SectorsIf 𝓤 H A mem run) → Triple 𝓤 (𝓣 .C #room·free-runs-of) (FreeRunsOf 𝓤 H A mem run) → Triple 𝓤 (𝓣 .C #tell-runs) (TellRuns 𝓤 H A mem run)
