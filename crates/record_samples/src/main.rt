@@ -10,8 +10,8 @@ use record::Heading;
 use room::Allocation;
 use room::FreeTotal;
 use room::Released;
-use room::RunFound;
 use room::RunCount;
+use room::RunFound;
 use segments::Segment;
 ghost use Prim.Native.Nat.{_≤_};
 
