@@ -1,5 +1,5 @@
 -- Demand 2's second half and what a record is, proved: the names of specs/Demand.antt. Assumes nothing.
-use Prim.Native.Nat.{ℕ, zero, suc, _+_, _-_, _*_, _%_, _^_, _≤_, _<_}
+use Prim.Native.Nat.{ℕ, zero, suc, _+_, _-_, _*_, _/_, _%_, _^_, _≤_, _<_, min}
 use mathlib.Core.Path.{_≡_, refl, sym, ap, _∙_, subst}
 use mathlib.Core.Bool.{Bool, true, false, cond, _&&_}
 use mathlib.Core.Logic.{_⊎_, inl, inr}
@@ -10,8 +10,8 @@ use native.Mathlib.Numerals.{add-one}
 use native.Mathlib.Omega.{arith}
 use borrow.Author.Tests.{le-leb, leb-true, eqb-true, eq-eqb, ne-eqb}
 use lib.Dec.{leb, eqb, lit<, lit≤}
-use lib.ListN.{length, take}
-use lib.Seq.{take-at}
+use lib.ListN.{length, take, drop, length-take, length-drop}
+use lib.Seq.{take-at, drop-at, getD-take, getD-drop}
 use Rattle.endian.specs.Bytes.{toLe, zeros}
 use Rattle.endian.proofs.Tests.{and-left, and-right, and-both}
 use Rattle.refusal.specs.Numbers.{deviceSize, metadataSize, reservedSize, recordLength, recordForm, segmentPlace, segmentClash}
@@ -24,7 +24,7 @@ use Rattle.search.specs.Search.{every, within, one}
 use Rattle.search.proofs.Search.{in-within, below-within, past-within, not-true-false, both, every-zero, every-more}
 use Rattle.segments.specs.declared.Segment.{Segment}
 use Rattle.segments.specs.declared.Range.{Range}
-use Rattle.segments.specs.Segments.{nth, holds, InRange}
+use Rattle.segments.specs.Segments.{none, nth, holds, InRange}
 use Rattle.segments.specs.Clash.{laterOf, earlierOf, clashesAt, apart}
 use Rattle.segments.specs.Sectors.{heldBy, isFree, allocated, freeSectors, Holder}
 use Rattle.segments.specs.Order.{orderOf, Placed}
@@ -36,7 +36,7 @@ use Rattle.segments.proofs.Order.{order-length, in-order}
 use Rattle.items.specs.declared.Head.{Head}
 use Rattle.items.specs.declared.Head.the-variants.{Plain}
 use Rattle.items.specs.Head.{headOf, headBytes, headSize, headRight, allows, dataRange, rangeFor, mostOfAny}
-use Rattle.items.specs.Items.{segments, wellFormed}
+use Rattle.items.specs.Items.{itemsOf, segments, wellFormed}
 use Rattle.items.specs.Making.{segmentBytes, allBytes, recordOf}
 use Rattle.items.proofs.Heads.{kind-small, head-small, right-fits, one-range, plain-right, right-plain, unknown-wrong, kinds-plain, plain-kinds, most-room, room-most}
 use Rattle.items.proofs.Making.{formed-record, record-again}
@@ -50,12 +50,13 @@ use Rattle.record.specs.declared.Counted.the-variants as Counted
 use Rattle.record.specs.declared.Heading.the-variants as Heading
 use Rattle.record.specs.Accept.{rangeAt, allInRange, contentTests, recordTests, checked}
 use Rattle.record.specs.Sectors.{parts}
-use Rattle.record.specs.Answers.{lengthTests, clashNumber, positionTests, foundNumber, countedNumber, headingNumber, handedOn, someRoom}
-use Rattle.record.specs.Demand.{Share, Right, Exactly, ReadAfterMake, Heads, Full, Printed, Means, Meaning, Lowest, Partition, Cases, Sums, Clashing, Ordered, Numbered}
+use Rattle.record.specs.Answers.{lengthTests, clashNumber, positionTests, foundNumber, countedNumber, headingNumber, handedOn, allValues, someRoom, segmentsLeft}
+use Rattle.record.specs.Demand.{Share, Right, Exactly, ReadAfterMake, Heads, Full, Printed, Means, Meaning, Lowest, Partition, Cases, Sums, Clashing, Ordered, Handed, NotHanded, Handing, Numbered}
 use Rattle.record.proofs.Testing.{record-ascending, fails-at}
 use Rattle.record.proofs.Accepted.{Accepted, accepted, ends, laid, ordered, fewer}
 use Rattle.record.proofs.Right.{apart-share, read-head, read-segments, accepted-made, accepted-right, right-empty}
 use Rattle.record.proofs.Change.{right-append}
+use Rattle.record.proofs.Handing.{values-length, values-at, Hands, hands-refused, hands-none, hands-short, hands-some}
 
 pub exactly : Exactly
 exactly d s small b = (forth, back)
@@ -309,6 +310,64 @@ module _ (d : Device) (s : List ℕ) where
 
 pub meaning : Meaning
 meaning = means
+
+-- n segments handed on, by what the call leaves
+module _ (d : Device) (s : List ℕ) (p : ℕ) (t : List ℕ) where
+  handed-none : first (recordTests d s) ≡ 0 → length (segments s) ≤ p → Handed d s p t 0
+  handed-none a l =
+      let h : Hands d s p t (Counted.Segments 0) t = hands-none d s p t 0 (sym a) refl (itemsOf s) (length (segments s)) refl refl l in
+      record {
+        answer = sym (h .0);
+        there = λ i k. absurd (not-suc-le-zero k);
+        room = omega arith;
+        most = inl (omega arith);
+        each = λ i k. absurd (not-suc-le-zero k);
+        past = ap (λ (q : List ℕ). drop 0 q) (sym (h .1));
+      }
+
+  abbrev n : ℕ
+  n = min (length t / 3) (length (segments s) - p)
+
+  all-taken : length (take n (drop p (segments s))) ≡ n
+  all-taken =
+      let x : length (take n (drop p (segments s))) ≡ min n (length (drop p (segments s))) = length-take n (drop p (segments s)) in
+      let y : length (drop p (segments s)) ≡ length (segments s) - p = length-drop p (segments s) in
+      omega arith
+
+  handed-some : first (recordTests d s) ≡ 0 → 3 ≤ length t → Handed d s p t n
+  handed-some a l =
+      let h : Hands d s p t (Counted.Segments n) (allValues (take n (drop p (segments s))) ++ drop (3 * n) t)
+          = hands-some d s p t 0 (sym a) refl (itemsOf s) (length (segments s)) refl refl l n (allValues (take n (drop p (segments s))) ++ drop (3 * n) t) refl refl in
+      let many : length (take n (drop p (segments s))) ≡ n = all-taken in
+      record {
+        answer = sym (h .0);
+        there = λ i k. omega arith;
+        room = omega arith;
+        most = elim (decLe (length (segments s)) (p + n)) [
+          | yes e ↦ inl e
+          | no e ↦ inr (omega arith)
+        ];
+        each = λ i k.
+            ap (λ (q : List ℕ). take 3 (drop (3 * i) q)) (sym (h .1))
+            ∙ (values-at (take n (drop p (segments s))) i (drop (3 * n) t) (let z : i < length (take n (drop p (segments s))) = omega arith in z)
+            ∙ ap (λ (g : Segment). g .kind ∷ g .start ∷ g .sectors ∷ []) (getD-take n (drop p (segments s)) i none k ∙ getD-drop p (segments s) i none));
+        past = ap (λ (q : List ℕ). drop (3 * n) q) (sym (h .1)) ∙ drop-at (allValues (take n (drop p (segments s)))) (drop (3 * n) t) (3 * n) (values-length (take n (drop p (segments s))) ∙ omega arith);
+      }
+
+pub handing : Handing
+handing d s p t = (some, (short, refused))
+  where
+    some : first (recordTests d s) ≡ 0 → (length (segments s) ≤ p) ⊎ (3 ≤ length t) → (n : ℕ) × Handed d s p t n
+    some a (inl l) = (0, handed-none d s p t a l)
+    some a (inr l) = (min (length t / 3) (length (segments s) - p), handed-some d s p t a l)
+    short : first (recordTests d s) ≡ 0 → p < length (segments s) → length t < 3 → NotHanded d s p t 1
+    short a l k =
+        let h : Hands d s p t (Counted.Refused 1) t = hands-short d s p t 0 (sym a) refl (itemsOf s) (length (segments s)) refl refl l k in
+        (sym (h .0), sym (h .1))
+    refused : (n : ℕ) → 0 < n → first (recordTests d s) ≡ n → NotHanded d s p t n
+    refused n l a =
+        let h : Hands d s p t (Counted.Refused n) t = hands-refused d s p t n (sym a) (λ z. omega arith) in
+        (sym (h .0), sym (h .1))
 
 -- the number of an answer that is made of its tests' number
 pub number-of : {A : Type 0} (number : A → ℕ) (value : A) (refused : ℕ → A) → number value ≡ 0 → ((n : ℕ) → number (refused n) ≡ n) → (n : ℕ) → number (cond (eqb n 0) value (refused n)) ≡ n

@@ -1,8 +1,9 @@
 -- Laws of the segments that are handed on in a table of numbers: a turn of the loop, and each answer. Assumes nothing.
-use Prim.Native.Nat.{ℕ, suc, _+_, _-_, _*_, _/_, _≤_, _<_, min}
+use Prim.Native.Nat.{ℕ, zero, suc, _+_, _-_, _*_, _/_, _≤_, _<_, min}
 use mathlib.Core.Path.{_≡_, refl, sym, ap, ap₂, _∙_}
 use mathlib.Core.Bool.{Bool, cond, _||_, or-true}
 use mathlib.Core.List.{List, [], _∷_, _++_}
+use native.Mathlib.Nat.{not-suc-le-zero}
 use native.Mathlib.Numerals.{add-one}
 use native.Mathlib.Omega.{arith}
 use borrow.Author.Tests.{le-leb, lt-leb, eq-eqb, ne-eqb}
@@ -44,6 +45,15 @@ values-length (g ∷ gs) =
     let e : length (allValues gs) ≡ 3 * length gs = values-length gs in
     let f : suc (suc (suc (length (allValues gs)))) ≡ 3 * suc (length gs) = omega arith in
     f
+
+-- the numbers of the segment at i, with any numbers after them all
+pub values-at : (gs : List Segment) (i : ℕ) (rest : List ℕ) → i < length gs → take 3 (drop (3 * i) (allValues gs ++ rest)) ≡ segmentValues (nth gs i)
+unfolding allValues
+values-at [] i rest l = absurd (not-suc-le-zero l)
+values-at (g ∷ gs) zero rest l = refl
+values-at (g ∷ gs) (suc i) rest l =
+    ap (λ (k : ℕ). take 3 (drop k (allValues (g ∷ gs) ++ rest))) (let z : 3 * suc i ≡ suc (suc (suc (3 * i))) = omega arith in z)
+    ∙ values-at gs i rest (omega arith)
 
 -- a table t with the first i of the segments gs at its start
 abbrev pub laid : List Segment → ℕ → List ℕ → List ℕ

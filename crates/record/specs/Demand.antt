@@ -5,7 +5,7 @@ use mathlib.Core.Path.{_≡_}
 use mathlib.Core.Bool.{true, false}
 use mathlib.Core.Logic.{_⊎_}
 use mathlib.Core.List.{List, [], _∷_, _++_}
-use lib.ListN.{length, take}
+use lib.ListN.{length, take, drop}
 use Rattle.endian.specs.Bytes.{Bytes}
 use Rattle.refusal.specs.Tests.{first, Fails}
 use Rattle.layout.specs.declared.Device.{Device}
@@ -22,9 +22,10 @@ use Rattle.items.specs.Items.{segments}
 use Rattle.items.specs.Making.{recordOf}
 use Rattle.order.specs.declared.Clash.the-variants.{Pair, Nothing}
 use Rattle.order.specs.Ordering.{firstClash}
+use Rattle.record.specs.declared.Counted.the-variants as Counted
 use Rattle.record.specs.Accept.{recordTests, checked}
 use Rattle.record.specs.Sectors.{parts}
-use Rattle.record.specs.Answers.{lengthTests, clashAnswer, clashNumber, positionTests, segmentAnswer, foundNumber, countAnswer, countedNumber, headAnswer, headingNumber, someRoom, segmentsAnswer}
+use Rattle.record.specs.Answers.{lengthTests, clashAnswer, clashNumber, positionTests, segmentAnswer, foundNumber, countAnswer, countedNumber, headAnswer, headingNumber, someRoom, segmentsAnswer, segmentsLeft}
 
 -- two positions whose segments share the sector x
 pub record Share (gs : List Segment) (i j x : ℕ) : Type 0 where
@@ -145,6 +146,31 @@ Ordered =
     (d : Device) (s : List ℕ) → first (recordTests d s) ≡ 0
     → (checked (first (recordTests d s)) s .order .ordered ≡ true)
     × Placed (segments s) (take (length (segments s)) (checked (first (recordTests d s)) s .order .at))
+
+-- The n segments from position p on that are handed on to the table t.
+pub record Handed (d : Device) (s : List ℕ) (p : ℕ) (t : List ℕ) (n : ℕ) : Type 0 where
+  pub answer : segmentsAnswer d s p (length t) ≡ Counted.Segments n
+  -- they are there and have room, and none is left or the table has no room for one more
+  pub there : (i : ℕ) → i < n → p + i < length (segments s)
+  pub room : 3 * n ≤ length t
+  pub most : (length (segments s) ≤ p + n) ⊎ (length t < 3 * (n + 1))
+  -- the table begins with the kind, the start and the sectors of each; the numbers past them stay
+  pub each : (i : ℕ) → i < n
+      → take 3 (drop (3 * i) (segmentsLeft d s p t))
+      ≡ nth (segments s) (p + i) .kind ∷ nth (segments s) (p + i) .start ∷ nth (segments s) (p + i) .sectors ∷ []
+  pub past : drop (3 * n) (segmentsLeft d s p t) ≡ drop (3 * n) t
+
+-- a refusal: the number, and the table as it was
+abbrev pub NotHanded : Device → List ℕ → ℕ → List ℕ → ℕ → Type 0
+NotHanded d s p t n = (segmentsAnswer d s p (length t) ≡ Counted.Refused n) × (segmentsLeft d s p t ≡ t)
+
+-- Segments of an accepted record are handed on, but where some are left and the table has no room for one: 1.
+abbrev pub Handing : Type 0
+Handing =
+    (d : Device) (s : List ℕ) (p : ℕ) (t : List ℕ)
+    → (first (recordTests d s) ≡ 0 → (length (segments s) ≤ p) ⊎ (3 ≤ length t) → (n : ℕ) × Handed d s p t n)
+    × ((first (recordTests d s) ≡ 0 → p < length (segments s) → length t < 3 → NotHanded d s p t 1)
+    × ((n : ℕ) → 0 < n → first (recordTests d s) ≡ n → NotHanded d s p t n))
 
 -- What a call answers has the number that its tests give, for every input.
 pub record Numbers (d : Device) (s : List ℕ) (p w : ℕ) : Type 0 where

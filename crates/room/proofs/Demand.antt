@@ -8,12 +8,12 @@ use native.Mathlib.Nat.{le-refl}
 use native.Mathlib.Omega.{arith}
 use borrow.Author.Tests.{le-leb, lt-ltb}
 use lib.Dec.{eqb}
-use lib.ListN.{length, take, drop}
+use lib.ListN.{length, take, drop, List·getD-append}
 use lib.Seq.{take-at, drop-at, split-at}
 use Rattle.endian.specs.Bytes.{splice, Bytes}
 use Rattle.endian.proofs.Parts.{splice-fits}
 use Rattle.refusal.specs.Tests.{first}
-use Rattle.refusal.proofs.Order.{first-zero, first-after, first-all, answer-no}
+use Rattle.refusal.proofs.Order.{first-zero, first-after, first-all, answer-no, answer-yes}
 use Rattle.layout.specs.declared.Device.{Device}
 use Rattle.layout.specs.Limits.{recordLimit}
 use Rattle.layout.specs.Places.{dataStart, dataEnd}
@@ -27,10 +27,11 @@ use Rattle.segments.specs.Order.{pickedAt}
 use Rattle.segments.proofs.Segments.{holds-in, holds-low, holds-high}
 use Rattle.segments.proofs.Sectors.{Laid, held-none, held-more, held-append, held-not, held-once, free-low, free-high, free-held, is-free, held-not-free, free-same}
 use Rattle.runs.specs.declared.Run.{Run}
-use Rattle.runs.specs.Runs.{runsOf, runAt, fitOf, fitting}
+use Rattle.runs.specs.Runs.{noRun, runsOf, runAt, fitOf, fitting}
 use Rattle.runs.specs.Gaps.{gaps}
 use Rattle.runs.specs.Demand.{FreeRun, InRun, LowestFit}
-use Rattle.runs.proofs.Fit.{none-fits}
+use Rattle.runs.proofs.Fit.{none-fits, fitting-no}
+use Rattle.runs.proofs.Fit as Fit
 use Rattle.runs.proofs.Demand.{longest, every-run, ascending, all-free, fit}
 use Rattle.items.specs.Head.{headOf, headSize, dataRange, rangeFor, itemBytes, mostSegments}
 use Rattle.items.specs.Items.{segments}
@@ -52,12 +53,14 @@ use Rattle.room.specs.declared.FreeTotal.the-variants as FreeTotal
 use Rattle.room.specs.declared.Allocation.the-variants as Allocation
 use Rattle.room.specs.declared.Released.the-variants as Released
 use Rattle.room.specs.Tables.{numbersOf}
-use Rattle.room.specs.Answers.{runsIn, runsNumber, runNumber, totalNumber, fitTests, tableTests}
+use Rattle.room.specs.Answers.{runsIn, runsNumber, runNumber, totalNumber, fitTests, tableTests, tableLeft, numbersLeft}
 use Rattle.room.specs.Change.{runsFor, ownTests, allocateTests, allocation, allocateLeft, allocationNumber, given, roomTests, releaseTests, released, releaseLeft, releaseNumber}
-use Rattle.room.specs.Demand.{freeIn, freeFor, Runs, Grantable, Granted, Allocated, Allocates, Freeable, Freed, Releases, Refusing, Numbered}
+use Rattle.room.specs.Demand.{freeIn, freeFor, Runs, Fitting, Tables, Grantable, Granted, Allocated, Allocates, Freeable, Freed, Releases, Refusing, Numbered}
 use Rattle.room.proofs.Finding.{runs-walked, for-any}
 use Rattle.room.proofs.Allowed.{Allowed, allowed, Releasable, releasable}
 use Rattle.room.proofs.Leaving.{release-passed}
+use Rattle.room.proofs.Tables.{numbers-length, numbers-at}
+use Rattle.room.proofs.Calls.{fit-zero, fit-none, fit-some, table-short, table-room}
 
 pub runs : Runs
 runs d s h =
@@ -67,6 +70,58 @@ runs d s h =
       every = every-run (freeIn d s) (dataEnd d);
       all = λ x f. all-free (freeIn d s) (dataEnd d) x (free-high (dataRange d) (segments s) x f) f;
       between = runs-walked d s (accepted d s h) ∙ ap (λ (p : List ℕ). gaps (dataStart d) (dataEnd d) (pickedAt (segments s) p)) (sym (order-taken d s h));
+    }
+
+-- REFUSED: the number, and what was lent as it was
+refuses : {A : Type 0} (value : A) (number : ℕ → A) (t n : ℕ) → t ≡ n → 0 < n → cond (eqb t 0) value (number t) ≡ number n
+refuses value number t n e l = sym (answer-no value number n t (sym e) (λ z. let q : n ≡ 0 = z in let m : 0 < n = l in absurd (omega arith)))
+
+not-false-true : (b : Bool) → (b ≡ false → ⊥) → b ≡ true
+not-false-true true h = refl
+not-false-true false h = absurd (h refl)
+
+pub fitting-run : Fitting
+fitting-run d s m z = (
+  λ l. sym (answer-no (RunFound.At (fitOf m (runsIn d s))) RunFound.Refused 18 (first (recordTests d s ++ fitTests (runsIn d s) m)) (fit-zero d s (runsIn d s) m z l) (λ q. omega arith)),
+  (λ k o l h. (fitOf m (runsIn d s), (
+    sym (answer-yes (RunFound.At (fitOf m (runsIn d s))) RunFound.Refused 0 (first (recordTests d s ++ fitTests (runsIn d s) m)) (fit-some d s (runsIn d s) m (fitOf m (runsIn d s)) z o refl (some k o l h)) refl),
+    fit (freeIn d s) (dataEnd d) m o .0 (long k o l h),
+  )),
+  λ o h. sym (answer-no (RunFound.At (fitOf m (runsIn d s))) RunFound.Refused 20 (first (recordTests d s ++ fitTests (runsIn d s) m)) (fit-none d s (runsIn d s) m (fitOf m (runsIn d s)) z o refl (ap (λ (r : Run). r .sectors) (Fit.fit-none m (runsIn d s) (fit (freeIn d s) (dataEnd d) m o .1 .1 h)))) (λ q. omega arith))),
+)
+  where
+    long : (k : ℕ) → 1 ≤ m → k < length (runsIn d s) → m ≤ runAt (runsIn d s) k .sectors → fitting m (runsIn d s) ≡ true
+    long k o l h =
+        not-false-true (fitting m (runsIn d s)) (λ e. let q : runAt (runsIn d s) k .sectors < m = none-fits m (runsIn d s) e k l in absurd (omega arith))
+    some : (k : ℕ) → 1 ≤ m → k < length (runsIn d s) → m ≤ runAt (runsIn d s) k .sectors → fitOf m (runsIn d s) .sectors ≡ 0 → ⊥
+    some k o l h e = both (fitting m (runsIn d s)) (long k o l h) (fitting-no m (runsIn d s) o e)
+
+-- THE TABLES
+pub tables : Tables
+tables d s z =
+    record {
+      table = λ t l.
+          let o : 0 ≡ first (tableTests d s (length t)) = table-room d s (length t) z l in
+          let e : tableLeft d s t ≡ runsIn d s ++ drop (length (runsIn d s)) t = sym (answer-yes (runsIn d s ++ drop (length (runsIn d s)) t) (λ (x : ℕ). t) 0 (first (tableTests d s (length t))) o refl) in
+          record {
+            answer = sym (answer-yes (RunCount.Runs (length (runsIn d s))) RunCount.Refused 0 (first (tableTests d s (length t))) o refl);
+            each = λ k h. ap (λ (q : List Run). runAt q k) e ∙ List·getD-append (runsIn d s) (drop (length (runsIn d s)) t) noRun k h;
+            past = ap (λ (q : List Run). drop (length (runsIn d s)) q) e ∙ drop-at (runsIn d s) (drop (length (runsIn d s)) t) (length (runsIn d s)) refl;
+          };
+      table-small = λ t l.
+          let o : first (tableTests d s (length t)) ≡ 1 = sym (table-short d s (length t) z l) in
+          (refuses (RunCount.Runs (length (runsIn d s))) RunCount.Refused (first (tableTests d s (length t))) 1 o (omega arith), refuses (runsIn d s ++ drop (length (runsIn d s)) t) (λ (x : ℕ). t) (first (tableTests d s (length t))) 1 o (omega arith));
+      numbers = λ t l.
+          let o : 0 ≡ first (tableTests d s (length t / 2)) = table-room d s (length t / 2) z (let v : length (runsIn d s) ≤ length t / 2 = omega arith in v) in
+          let e : numbersLeft d s t ≡ numbersOf (runsIn d s) ++ drop (2 * length (runsIn d s)) t = sym (answer-yes (numbersOf (runsIn d s) ++ drop (2 * length (runsIn d s)) t) (λ (x : ℕ). t) 0 (first (tableTests d s (length t / 2))) o refl) in
+          record {
+            answer = sym (answer-yes (RunCount.Runs (length (runsIn d s))) RunCount.Refused 0 (first (tableTests d s (length t / 2))) o refl);
+            each = λ k h. ap (λ (q : List ℕ). take 2 (drop (2 * k) q)) e ∙ numbers-at (runsIn d s) k (drop (2 * length (runsIn d s)) t) h;
+            past = ap (λ (q : List ℕ). drop (2 * length (runsIn d s)) q) e ∙ drop-at (numbersOf (runsIn d s)) (drop (2 * length (runsIn d s)) t) (2 * length (runsIn d s)) (numbers-length (runsIn d s));
+          };
+      numbers-small = λ t l.
+          let o : first (tableTests d s (length t / 2)) ≡ 1 = sym (table-short d s (length t / 2) z (let v : length t / 2 < length (runsIn d s) = omega arith in v)) in
+          (refuses (RunCount.Runs (length (runsIn d s))) RunCount.Refused (first (tableTests d s (length t / 2))) 1 o (omega arith), refuses (numbersOf (runsIn d s) ++ drop (2 * length (runsIn d s)) t) (λ (x : ℕ). t) (first (tableTests d s (length t / 2))) 1 o (omega arith));
     }
 
 -- EXACTLY WHEN AN ALLOCATION IS NOT REFUSED
@@ -361,10 +416,6 @@ module _ (d : Device) (s : List ℕ) (p : ℕ) (out : List ℕ) (small : d .sect
 
 pub releases : Releases
 releases = released-all
-
--- REFUSED: the number, and what was lent as it was
-refuses : {A : Type 0} (value : A) (number : ℕ → A) (t n : ℕ) → t ≡ n → 0 < n → cond (eqb t 0) value (number t) ≡ number n
-refuses value number t n e l = sym (answer-no value number n t (sym e) (λ z. let q : n ≡ 0 = z in let m : 0 < n = l in absurd (omega arith)))
 
 pub refusing : Refusing
 refusing d s n l =

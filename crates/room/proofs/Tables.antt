@@ -54,6 +54,14 @@ numbers-sectors [] i = refl
 numbers-sectors (r ∷ rs) zero = refl
 numbers-sectors (r ∷ rs) (suc i) = ap (λ (k : ℕ). getD (numbersOf (r ∷ rs)) (suc k) 0) (twice i) ∙ numbers-sectors rs i
 
+-- the two of run i, with any numbers after them all
+pub numbers-at : (rs : List Run) (i : ℕ) (rest : List ℕ) → i < length rs → take 2 (drop (2 * i) (numbersOf rs ++ rest)) ≡ runAt rs i .start ∷ runAt rs i .sectors ∷ []
+unfolding numbersOf
+numbers-at [] i rest l = absurd (not-suc-le-zero l)
+numbers-at (r ∷ rs) zero rest l = refl
+numbers-at (r ∷ rs) (suc i) rest l =
+    ap (λ (k : ℕ). take 2 (drop k (numbersOf (r ∷ rs) ++ rest))) (twice i) ∙ numbers-at rs i rest (le-of-suc-le-suc l)
+
 pub numbers-first : (rs : List Run) (i : ℕ) → take (2 * i) (numbersOf rs) ≡ numbersOf (take i rs)
 unfolding numbersOf
 numbers-first [] zero = refl

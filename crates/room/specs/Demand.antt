@@ -23,6 +23,7 @@ use Rattle.items.specs.Items.{segments}
 use Rattle.items.specs.Making.{recordOf}
 use Rattle.record.specs.Accept.{recordTests, checked}
 use Rattle.room.specs.declared.RunCount.the-variants as RunCount
+use Rattle.room.specs.declared.RunFound.the-variants as RunFound
 use Rattle.room.specs.declared.Allocation.the-variants as Allocation
 use Rattle.room.specs.declared.Released.the-variants as Released
 use Rattle.room.specs.Answers.{runsIn, runsAnswer, runsNumber, runAnswer, runNumber, totalAnswer, totalNumber, fitTests, fitAnswer, tableTests, tableAnswer, tableLeft, numbersAnswer, numbersLeft}
@@ -49,6 +50,38 @@ pub record Free (d : Device) (s : List ℕ) : Type 0 where
 
 abbrev pub Runs : Type 0
 Runs = (d : Device) (s : List ℕ) → first (recordTests d s) ≡ 0 → Free d s
+
+-- The first fit of m sectors in an accepted record: 18 for none asked for; the run of lowest start where one is long enough; otherwise 20.
+abbrev pub Fitting : Type 0
+Fitting =
+    (d : Device) (s : List ℕ) (m : ℕ) → first (recordTests d s) ≡ 0
+    → (m < 1 → fitAnswer d s m ≡ RunFound.Refused 18)
+    × (((k : ℕ) → 1 ≤ m → k < length (runsIn d s) → m ≤ runAt (runsIn d s) k .sectors
+        → (r : Run) × ((fitAnswer d s m ≡ RunFound.At r) × LowestFit (runsIn d s) m r))
+    × (1 ≤ m → ((k : ℕ) → k < length (runsIn d s) → runAt (runsIn d s) k .sectors < m) → fitAnswer d s m ≡ RunFound.Refused 20))
+
+-- A table t with the free runs: every entry is the run of its number, and the entries past the runs stay.
+pub record Tabled (d : Device) (s : List ℕ) (t : List Run) : Type 0 where
+  pub answer : tableAnswer d s (length t) ≡ RunCount.Runs (length (runsIn d s))
+  pub each : (k : ℕ) → k < length (runsIn d s) → runAt (tableLeft d s t) k ≡ runAt (runsIn d s) k
+  pub past : drop (length (runsIn d s)) (tableLeft d s t) ≡ drop (length (runsIn d s)) t
+
+-- The same as numbers, the start and the sectors of each.
+pub record Listed (d : Device) (s : List ℕ) (t : List ℕ) : Type 0 where
+  pub answer : numbersAnswer d s (length t) ≡ RunCount.Runs (length (runsIn d s))
+  pub each : (k : ℕ) → k < length (runsIn d s)
+      → take 2 (drop (2 * k) (numbersLeft d s t)) ≡ runAt (runsIn d s) k .start ∷ runAt (runsIn d s) k .sectors ∷ []
+  pub past : drop (2 * length (runsIn d s)) (numbersLeft d s t) ≡ drop (2 * length (runsIn d s)) t
+
+-- The tables of an accepted record are filled exactly where they have room; otherwise 1, and every entry as it was.
+pub record Filling (d : Device) (s : List ℕ) : Type 0 where
+  pub table : (t : List Run) → length (runsIn d s) ≤ length t → Tabled d s t
+  pub table-small : (t : List Run) → length t < length (runsIn d s) → (tableAnswer d s (length t) ≡ RunCount.Refused 1) × (tableLeft d s t ≡ t)
+  pub numbers : (t : List ℕ) → 2 * length (runsIn d s) ≤ length t → Listed d s t
+  pub numbers-small : (t : List ℕ) → length t < 2 * length (runsIn d s) → (numbersAnswer d s (length t) ≡ RunCount.Refused 1) × (numbersLeft d s t ≡ t)
+
+abbrev pub Tables : Type 0
+Tables = (d : Device) (s : List ℕ) → first (recordTests d s) ≡ 0 → Filling d s
 
 -- What an allocation of m sectors for kind k in an accepted record needs, with w bytes lent: a kind that the head allows, a sector
 -- at least, room for one more segment in the record, a free run that is long enough, room for the new record.
