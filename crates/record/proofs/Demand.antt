@@ -337,7 +337,7 @@ module _ (d : Device) (s : List ℕ) (p : ℕ) (t : List ℕ) where
   handed-some : first (recordTests d s) ≡ 0 → 3 ≤ length t → Handed d s p t n
   handed-some a l =
       let h : Hands d s p t (Counted.Segments n) (allValues (take n (drop p (segments s))) ++ drop (3 * n) t)
-          = hands-some d s p t 0 (sym a) refl (itemsOf s) (length (segments s)) refl refl l n (allValues (take n (drop p (segments s))) ++ drop (3 * n) t) refl refl in
+      = hands-some d s p t 0 (sym a) refl (itemsOf s) (length (segments s)) refl refl l n (allValues (take n (drop p (segments s))) ++ drop (3 * n) t) refl refl in
       let many : length (take n (drop p (segments s))) ≡ n = all-taken in
       record {
         answer = sym (h .0);
@@ -360,10 +360,12 @@ handing d s p t = (some, (short, refused))
     some : first (recordTests d s) ≡ 0 → (length (segments s) ≤ p) ⊎ (3 ≤ length t) → (n : ℕ) × Handed d s p t n
     some a (inl l) = (0, handed-none d s p t a l)
     some a (inr l) = (min (length t / 3) (length (segments s) - p), handed-some d s p t a l)
+
     short : first (recordTests d s) ≡ 0 → p < length (segments s) → length t < 3 → NotHanded d s p t 1
     short a l k =
         let h : Hands d s p t (Counted.Refused 1) t = hands-short d s p t 0 (sym a) refl (itemsOf s) (length (segments s)) refl refl l k in
         (sym (h .0), sym (h .1))
+
     refused : (n : ℕ) → 0 < n → first (recordTests d s) ≡ n → NotHanded d s p t n
     refused n l a =
         let h : Hands d s p t (Counted.Refused n) t = hands-refused d s p t n (sym a) (λ z. omega arith) in

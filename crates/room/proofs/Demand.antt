@@ -83,16 +83,22 @@ not-false-true false h = absurd (h refl)
 pub fitting-run : Fitting
 fitting-run d s m z = (
   λ l. sym (answer-no (RunFound.At (fitOf m (runsIn d s))) RunFound.Refused 18 (first (recordTests d s ++ fitTests (runsIn d s) m)) (fit-zero d s (runsIn d s) m z l) (λ q. omega arith)),
-  (λ k o l h. (fitOf m (runsIn d s), (
-    sym (answer-yes (RunFound.At (fitOf m (runsIn d s))) RunFound.Refused 0 (first (recordTests d s ++ fitTests (runsIn d s) m)) (fit-some d s (runsIn d s) m (fitOf m (runsIn d s)) z o refl (some k o l h)) refl),
-    fit (freeIn d s) (dataEnd d) m o .0 (long k o l h),
-  )),
-  λ o h. sym (answer-no (RunFound.At (fitOf m (runsIn d s))) RunFound.Refused 20 (first (recordTests d s ++ fitTests (runsIn d s) m)) (fit-none d s (runsIn d s) m (fitOf m (runsIn d s)) z o refl (ap (λ (r : Run). r .sectors) (Fit.fit-none m (runsIn d s) (fit (freeIn d s) (dataEnd d) m o .1 .1 h)))) (λ q. omega arith))),
+  (
+    λ k o l h. (
+      fitOf m (runsIn d s),
+      (
+        sym (answer-yes (RunFound.At (fitOf m (runsIn d s))) RunFound.Refused 0 (first (recordTests d s ++ fitTests (runsIn d s) m)) (fit-some d s (runsIn d s) m (fitOf m (runsIn d s)) z o refl (some k o l h)) refl),
+        fit (freeIn d s) (dataEnd d) m o .0 (long k o l h),
+      ),
+    ),
+    λ o h. sym (answer-no (RunFound.At (fitOf m (runsIn d s))) RunFound.Refused 20 (first (recordTests d s ++ fitTests (runsIn d s) m)) (fit-none d s (runsIn d s) m (fitOf m (runsIn d s)) z o refl (ap (λ (r : Run). r .sectors) (Fit.fit-none m (runsIn d s) (fit (freeIn d s) (dataEnd d) m o .1 .1 h)))) (λ q. omega arith)),
+  ),
 )
   where
     long : (k : ℕ) → 1 ≤ m → k < length (runsIn d s) → m ≤ runAt (runsIn d s) k .sectors → fitting m (runsIn d s) ≡ true
     long k o l h =
         not-false-true (fitting m (runsIn d s)) (λ e. let q : runAt (runsIn d s) k .sectors < m = none-fits m (runsIn d s) e k l in absurd (omega arith))
+
     some : (k : ℕ) → 1 ≤ m → k < length (runsIn d s) → m ≤ runAt (runsIn d s) k .sectors → fitOf m (runsIn d s) .sectors ≡ 0 → ⊥
     some k o l h e = both (fitting m (runsIn d s)) (long k o l h) (fitting-no m (runsIn d s) o e)
 

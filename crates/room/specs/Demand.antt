@@ -57,7 +57,7 @@ Fitting =
     (d : Device) (s : List ℕ) (m : ℕ) → first (recordTests d s) ≡ 0
     → (m < 1 → fitAnswer d s m ≡ RunFound.Refused 18)
     × (((k : ℕ) → 1 ≤ m → k < length (runsIn d s) → m ≤ runAt (runsIn d s) k .sectors
-        → (r : Run) × ((fitAnswer d s m ≡ RunFound.At r) × LowestFit (runsIn d s) m r))
+    → (r : Run) × ((fitAnswer d s m ≡ RunFound.At r) × LowestFit (runsIn d s) m r))
     × (1 ≤ m → ((k : ℕ) → k < length (runsIn d s) → runAt (runsIn d s) k .sectors < m) → fitAnswer d s m ≡ RunFound.Refused 20))
 
 -- A table t with the free runs: every entry is the run of its number, and the entries past the runs stay.
