@@ -29,7 +29,7 @@ use Rattle.items.proofs.Heads.{HeadFits, plain-right, right-fits}
 use Rattle.items.proofs.Making.{AllFit, length-record, head-record, segments-record, formed-record}
 use Rattle.record.specs.Accept.{allInRange, recordTests}
 use Rattle.record.proofs.Accepted.{accepted}
-use Rattle.record.proofs.Demand.{counted}
+use Rattle.record.proofs.Demand.{sums}
 use Rattle.room.specs.Answers as Answers
 use Rattle.room.specs.Walking.{walked}
 use Rattle.room.proofs.Finding.{runs-walked}
@@ -125,7 +125,7 @@ nine-runs =
 pub nine-total : freeSectors (dataRange device) (segments nine) ≡ 2092906
 unfolding allocated
 nine-total =
-    let t : allocated (segments nine) + freeSectors (dataRange device) (segments nine) + 2 * (8 + 2040 + 0) ≡ 2097152 = counted device nine nine-accepted in
+    let t : allocated (segments nine) + freeSectors (dataRange device) (segments nine) + 2 * (8 + 2040 + 0) ≡ 2097152 = sums device nine nine-accepted in
     let a : allocated (segments nine) ≡ 150 = ap allocated nine-segments in
     omega arith
 
