@@ -10,7 +10,8 @@
  *
  * Answers. Most calls answer a refusal number: 0 where the call did what it says, else 1 to 23 (amseokbin_refusal below).
  * A refused call changes nothing that it was lent. Where a call has more to say it writes it into lent memory: numbers into an
- * array of 64-bit numbers, whose length must be the one named here (otherwise 1), bytes into a slice.
+ * array of 64-bit numbers, whose length must be the one named here (otherwise 1), bytes into a slice, free runs into a table of
+ * them.
  *
  * A copy is 20,480 bytes: the 8 sectors of a header, the first 16 sectors of area a, the first 16 of area b, read from the
  * places that amseokbin_places gives. A sector is 512 bytes. A record has 1 to 8,192 bytes. UUIDs are 32 bytes of ASCII hex.
