@@ -1,5 +1,5 @@
 -- What it means that a record is accepted, both ways, and what follows for its segments. Assumes nothing.
-use Prim.Native.Nat.{ℕ, _+_, _-_, _*_, _/_, _%_, _≤_, _<_}
+use Prim.Native.Nat.{ℕ, zero, suc, _+_, _-_, _*_, _/_, _%_, _≤_, _<_}
 use mathlib.Core.Path.{_≡_, refl, sym, ap, subst, _∙_}
 use mathlib.Core.Bool.{Bool, true, false, _&&_}
 use mathlib.Core.List.{List, _++_}
@@ -25,7 +25,7 @@ use Rattle.segments.proofs.Order.{laid-orderly}
 use Rattle.items.specs.declared.Head.{Head}
 use Rattle.items.specs.Head.{headOf, headSize, headRight, dataRange, rangeFor, itemBytes, mostSegments, mostOfAny}
 use Rattle.items.specs.Items.{segments, wellFormed}
-use Rattle.items.proofs.Heads.{one-range, most-most}
+use Rattle.items.proofs.Heads.{one-range, most-most, room-most}
 use Rattle.items.proofs.Items.{Formed, formed, formed-back}
 use Rattle.record.specs.Accept.{rangeAt, allInRange, recordTests}
 use Rattle.record.proofs.Testing.{record-ascending}
@@ -80,13 +80,18 @@ ends d a b c =
     let r : d .reserved ≤ 65536 = leb-true (d .reserved) 65536 c in
     (omega arith, omega arith)
 
+-- segments that fit into a record are no more than its head has room for
+in-limit : (h : Head) (n : ℕ) → headSize h + itemBytes * n ≤ recordLimit → n ≤ mostSegments h
+in-limit h zero l = omega arith
+in-limit h (suc n) l = room-most h n (omega arith)
+
 -- a well-formed record has no more segments than its head has room for, and no more than any record
 pub few-of : (d : Device) (s : List ℕ) → lengthAllowed (length s) ≡ true → wellFormed d s ≡ true → length (segments s) ≤ mostSegments (headOf s)
-unfolding mostSegments lengthAllowed
+unfolding lengthAllowed
 few-of d s b w =
     let f : length s ≡ headSize (headOf s) + itemBytes * length (segments s) = formed d s w .bytes in
     let l : length s ≤ recordLimit = leb-true (length s) recordLimit (and-right (leb 1 (length s)) (leb (length s) recordLimit) b) in
-    omega arith
+    in-limit (headOf s) (length (segments s)) (omega arith)
 
 pub fewer-of : (d : Device) (s : List ℕ) → lengthAllowed (length s) ≡ true → wellFormed d s ≡ true → length (segments s) ≤ mostOfAny
 fewer-of d s b w =

@@ -5,7 +5,7 @@ use mathlib.Core.Bool.{Bool, true, cond}
 use mathlib.Core.Logic.{_⊎_, inl, inr}
 use mathlib.Core.List.{List, [], _∷_, _++_}
 use native.Mathlib.Decide.{decLt}
-use native.Mathlib.Nat.{eq-or-lt-of-le, div-add-mod'}
+use native.Mathlib.Nat.{eq-or-lt-of-le}
 use native.Mathlib.Omega.{arith}
 use borrow.Author.Tests.{lt-ltb, le-ltb}
 use lib.Dec.{ltb}
@@ -17,7 +17,7 @@ use Rattle.segments.specs.declared.Segment.{Segment}
 use Rattle.segments.specs.Segments.{none, nth, holds, InRange}
 use Rattle.items.specs.declared.Head.{Head}
 use Rattle.items.specs.Head.{headSize, allows, rangeFor, itemBytes, mostSegments}
-use Rattle.items.proofs.Heads.{head-small}
+use Rattle.items.proofs.Heads.{most-room}
 use Rattle.record.specs.Demand.{Share, Right}
 
 -- every position of the longer list is an old one or the last
@@ -45,11 +45,9 @@ module _ (d : Device) (h : Head) (gs : List Segment) (g : Segment) where
 
   pub right-append : Right d h gs → length gs < mostSegments h → allows h (g .kind) ≡ true → InRange (rangeFor d h (g .kind)) g
       → ((i x : ℕ) → i < length gs → holds (nth gs i) x ≡ true → holds g x ≡ true → ⊥) → Right d h (gs ++ (g ∷ []))
-  unfolding mostSegments
   right-append r room kind range free =
       let m : length (gs ++ (g ∷ [])) ≡ length gs + 1 = more in
-      let l : (recordLimit - headSize h) / 20 * 20 ≤ recordLimit - headSize h = omega (arith, div-add-mod' (recordLimit - headSize h) 20) in
-      let k : headSize h + 20 ≤ recordLimit = head-small h in
+      let q : headSize h + itemBytes * (length gs + 1) ≤ recordLimit = most-room h (length gs) room in
       record {
         size = r .size;
         metadata = r .metadata;
