@@ -1,12 +1,11 @@
--- A list cut into fields of given widths, and fields joined. Assumes nothing.
+-- A list cut into fields of given widths, and fields joined.
 use Prim.Native.Nat.{ℕ, _+_}
 use mathlib.Core.Path.{_≡_, refl, sym, ap, ap₂, _∙_}
-use mathlib.Core.List.{List, [], _∷_, _++_, append-assoc, map}
+use mathlib.Core.List.{List, [], _∷_, _++_, append-assoc, map, flatten}
 use lib.ListN.{length, take, length-append}
 use lib.Seq.{take-at, drop-at}
 use Rattle.endian.specs.Bytes.{window}
 use Rattle.endian.proofs.Parts.{window-append}
-use Rattle.block.specs.Writing.{join}
 
 -- the parts of b from place `at` on, each with its width
 abbrev pub cuts : List ℕ → ℕ → List ℕ → List (List ℕ)
@@ -25,16 +24,16 @@ unfolding window
 part pre f rest at e = ap (take (length f)) (drop-at pre (f ++ rest) at e) ∙ take-at f rest (length f) refl
 
 -- cutting what was joined
-pub cuts-join : (fs : List (List ℕ)) (pre : List ℕ) (at : ℕ) → length pre ≡ at → cuts (pre ++ join fs) at (map length fs) ≡ fs
-unfolding join
+pub cuts-join : (fs : List (List ℕ)) (pre : List ℕ) (at : ℕ) → length pre ≡ at → cuts (pre ++ flatten fs) at (map length fs) ≡ fs
+unfolding flatten
 cuts-join [] pre at e = refl
 cuts-join (f ∷ fs) pre at e =
-    cons (part pre f (join fs) at e)
-    (ap (λ (b : List ℕ). cuts b (at + length f) (map length fs)) (sym (append-assoc pre f (join fs)))
+    cons (part pre f (flatten fs) at e)
+    (ap (λ (b : List ℕ). cuts b (at + length f) (map length fs)) (sym (append-assoc pre f (flatten fs)))
     ∙ cuts-join fs (pre ++ f) (at + length f) (length-append pre f ∙ ap (λ (n : ℕ). n + length f) e))
 
 -- joining what was cut
-pub join-cuts : (b : List ℕ) (ws : List ℕ) (at : ℕ) → join (cuts b at ws) ≡ window b at (sum ws)
-unfolding join window
+pub join-cuts : (b : List ℕ) (ws : List ℕ) (at : ℕ) → flatten (cuts b at ws) ≡ window b at (sum ws)
+unfolding flatten window
 join-cuts b [] at = refl
 join-cuts b (w ∷ ws) at = ap (λ (l : List ℕ). window b at w ++ l) (join-cuts b ws (at + w)) ∙ sym (window-append b at w (sum ws))

@@ -1,4 +1,4 @@
--- Demand 2, first half, proved. Assumes nothing.
+-- Demand 2, first half, proved.
 use Prim.Native.Nat.{ℕ, _≤_, _<_}
 use mathlib.Core.Logic.{inl, inr}
 use mathlib.Core.Path.{_≡_, refl, sym, ap, _∙_}
@@ -16,7 +16,7 @@ use Rattle.endian.proofs.Tests.{and-both}
 use Rattle.block.specs.declared.BlockFields.{BlockFields}
 use Rattle.block.specs.declared.Reading.{Reading}
 use Rattle.block.specs.declared.Verdict.the-variants as Verdict
-use Rattle.block.specs.Block.{poolOf, uuidOf, fieldsOf, readTests, reading, refusedReading}
+use Rattle.block.specs.Block.{poolOf, blockdevOf, fieldsOf, readTests, reading, refusedReading}
 use Rattle.block.specs.Writing.{writeTests}
 use Rattle.block.specs.Entry.{laterThan}
 use Rattle.block.proofs.Times.{Before, NotAfter, later-facts, not-later-facts}
@@ -64,15 +64,15 @@ lowest b n e = elim (ℕ-discrete (first (readTests b)) 0) [ yes z ↦ absurd (n
 pub write-after-read : WriteAfterRead
 write-after-read b out bytes h n =
     let t : AllHold (readTests b) = first-zero 0 (readTests b) (ascending b) (no-refusal b h) in
-    let z : first (writeTests out (poolOf b) (uuidOf b) (fieldsOf b)) ≡ 0 =
-    first-all (writeTests out (poolOf b) (uuidOf b) (fieldsOf b)) (
-      and-both (eqb (length out) 512) (eqb (length (poolOf b)) 32 && eqb (length (uuidOf b)) 32) (eq-eqb (length out) 512 n)
-          (and-both (eqb (length (poolOf b)) 32) (eqb (length (uuidOf b)) 32)
+    let z : first (writeTests out (poolOf b) (blockdevOf b) (fieldsOf b)) ≡ 0 =
+    first-all (writeTests out (poolOf b) (blockdevOf b) (fieldsOf b)) (
+      and-both (eqb (length out) 512) (eqb (length (poolOf b)) 32 && eqb (length (blockdevOf b)) 32) (eq-eqb (length out) 512 n)
+          (and-both (eqb (length (poolOf b)) 32) (eqb (length (blockdevOf b)) 32)
           (eq-eqb (length (poolOf b)) 32 (length-window-fits b 32 32 (rw (h .size) (lit≤ tt))))
-          (eq-eqb (length (uuidOf b)) 32 (length-window-fits b 64 32 (rw (h .size) (lit≤ tt))))),
+          (eq-eqb (length (blockdevOf b)) 32 (length-window-fits b 64 32 (rw (h .size) (lit≤ tt))))),
       (t .1 .1 .1 .0, t .1 .1 .1 .1 .1),
     ) in
-    (z, sym (written-accepted out (poolOf b) (uuidOf b) (fieldsOf b) z) ∙ write-back b bytes h)
+    (z, sym (written-accepted out (poolOf b) (blockdevOf b) (fieldsOf b) z) ∙ write-back b bytes h)
 
 pub read-after-write : ReadAfterWrite
 read-after-write out p u f s fa fb z =

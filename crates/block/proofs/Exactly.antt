@@ -1,5 +1,4 @@
 -- A block is accepted exactly when it obeys the table and the limits, and a refusal is the lowest number that applies.
--- Assumes nothing.
 use Prim.Native.Nat.{ℕ, _+_, _%_, _≤_}
 use mathlib.Core.Path.{_≡_, refl, sym, ap, ap₂, _∙_}
 use mathlib.Core.Bool.{Bool, true, false, not, _&&_, _||_, true≢false}
@@ -9,7 +8,7 @@ use native.Mathlib.Omega.{arith}
 use borrow.Author.Tests.{leb-true, le-leb, eqb-true, eq-eqb, not-true}
 use lib.Dec.{leb, eqb}
 use lib.ListN.{length, getD}
-use Rattle.endian.specs.Bytes.{window, all, zeros}
+use Rattle.endian.specs.Bytes.{window, allPass, zeros}
 use Rattle.endian.proofs.Parts.{length-window-fits}
 use Rattle.endian.proofs.Tests.{and-left, and-right, and-both, same-equal, equal-same, all-at, all-of, all-zeros, zeros-all}
 use Rattle.checksum.specs.Crc as Crc
@@ -20,7 +19,7 @@ use Rattle.layout.proofs.Laws.{metadata-facts, metadata-test, length-facts, len
 use Rattle.block.specs.declared.Entry.{Entry}
 use Rattle.block.specs.declared.Entry.the-variants.{Unused, Used}
 use Rattle.block.specs.Entry.{sameTime, entryAllowed, differentTimes, entriesAllowed}
-use Rattle.block.specs.Block.{signatureBytes, number, poolOf, uuidOf, entryAt, isHex, allZero, zeroFields, readTests}
+use Rattle.block.specs.Block.{signatureBytes, number, poolOf, blockdevOf, entryAt, isHex, allZero, zeroFields, readTests}
 use Rattle.block.specs.Accepted.{Hex, Within, Apart, Accepted}
 use Rattle.block.proofs.Readings.{ascending}
 
@@ -87,7 +86,7 @@ zero-facts b at n l h = all-zeros (window b at n) h ∙ ap zeros (length-window-
 
 pub zero-test : (s : List ℕ) (n : ℕ) → s ≡ zeros n → allZero s ≡ true
 unfolding allZero
-zero-test s n e = ap (all (λ (x : ℕ). eqb x 0)) e ∙ zeros-all n
+zero-test s n e = ap (allPass (λ (x : ℕ). eqb x 0)) e ∙ zeros-all n
 
 -- a block that no test refuses obeys the table and the limits
 pub obeys : (b : List ℕ) → first (readTests b) ≡ 0 → Accepted b
@@ -99,7 +98,7 @@ obeys b e =
     and-right (allZero (window b 28 4)) (allZero (window b 116 12) && (allZero (window b 148 12) && allZero (window b 168 344))) z in
     let z3 : allZero (window b 148 12) && allZero (window b 168 344) ≡ true =
     and-right (allZero (window b 116 12)) (allZero (window b 148 12) && allZero (window b 168 344)) z2 in
-    let h : all isHex (poolOf b) && all isHex (uuidOf b) ≡ true = t .1 .1 .1 .1 .1 .0 in
+    let h : allPass isHex (poolOf b) && allPass isHex (blockdevOf b) ≡ true = t .1 .1 .1 .1 .1 .0 in
     let m : (number b 160 4 % 2 ≡ 0) × (2040 ≤ number b 160 4) × (number b 160 4 ≤ 16384) = metadata-facts (number b 160 4) (t .1 .1 .1 .1 .1 .1 .0) in
     let w : entriesAllowed (entryAt b 96) (entryAt b 128) ≡ true = t .1 .1 .1 .1 .1 .1 .1 .1 .0 in
     let w2 : entryAllowed (entryAt b 128) && differentTimes (entryAt b 96) (entryAt b 128) ≡ true =
@@ -112,8 +111,8 @@ obeys b e =
       flags =
           zero-facts b 28 4 (omega arith)
           (and-left (allZero (window b 28 4)) (allZero (window b 116 12) && (allZero (window b 148 12) && allZero (window b 168 344))) z);
-      pool = λ i k. hex-facts (getD (poolOf b) i 0) (all-at isHex (poolOf b) (and-left (all isHex (poolOf b)) (all isHex (uuidOf b)) h) i k);
-      device = λ i k. hex-facts (getD (uuidOf b) i 0) (all-at isHex (uuidOf b) (and-right (all isHex (poolOf b)) (all isHex (uuidOf b)) h) i k);
+      pool = λ i k. hex-facts (getD (poolOf b) i 0) (all-at isHex (poolOf b) (and-left (allPass isHex (poolOf b)) (allPass isHex (blockdevOf b)) h) i k);
+      device = λ i k. hex-facts (getD (blockdevOf b) i 0) (all-at isHex (blockdevOf b) (and-right (allPass isHex (poolOf b)) (allPass isHex (blockdevOf b)) h) i k);
       entry-a =
           within-facts (entryAt b 96)
           (and-left (entryAllowed (entryAt b 96)) (entryAllowed (entryAt b 128) && differentTimes (entryAt b 96) (entryAt b 128)) w);
@@ -146,9 +145,9 @@ no-refusal b h =
                   (and-both (allZero (window b 116 12)) (allZero (window b 148 12) && allZero (window b 168 344)) (zero-test (window b 116 12) 12 (h .zero-116))
                   (and-both (allZero (window b 148 12)) (allZero (window b 168 344)) (zero-test (window b 148 12) 12 (h .zero-148)) (zero-test (window b 168 344) 344 (h .zero-168)))),
               (
-                and-both (all isHex (poolOf b)) (all isHex (uuidOf b))
+                and-both (allPass isHex (poolOf b)) (allPass isHex (blockdevOf b))
                     (all-of isHex (poolOf b) (λ i k. hex-test (getD (poolOf b) i 0) (h .pool i k)))
-                    (all-of isHex (uuidOf b) (λ i k. hex-test (getD (uuidOf b) i 0) (h .device i k))),
+                    (all-of isHex (blockdevOf b) (λ i k. hex-test (getD (blockdevOf b) i 0) (h .device i k))),
                 (
                   metadata-test (number b 160 4) (h .metadata-even) (h .metadata-least) (h .metadata-most),
                   (

@@ -1,4 +1,4 @@
--- What reading a block answers, from its number. Assumes nothing.
+-- What reading a block answers, from its number.
 use Prim.Native.Nat.{ℕ}
 use mathlib.Core.Path.{_≡_, refl}
 use mathlib.Core.List.{List}

@@ -1,8 +1,8 @@
--- Writing what was read gives the same bytes; reading what was written gives the same fields. Assumes nothing.
+-- Writing what was read gives the same bytes; reading what was written gives the same fields.
 use Prim.Native.Nat.{ℕ, _+_, _^_, _≤_, _<_}
 use mathlib.Core.Path.{_≡_, refl, sym, ap, ap₂, subst, _∙_}
 use mathlib.Core.Bool.{Bool, true, false, cond, _&&_}
-use mathlib.Core.List.{List, [], _∷_, _++_, map}
+use mathlib.Core.List.{List, [], _∷_, _++_, map, flatten}
 use native.Mathlib.Omega.{arith}
 use borrow.Author.Tests.{eqb-true, eq-eqb, ne-eqb, leb-true}
 use lib.Dec.{leb, eqb, lit<, lit≤}
@@ -23,10 +23,10 @@ use Rattle.block.specs.declared.BlockFields.{BlockFields}
 use Rattle.block.specs.declared.Entry.{Entry}
 use Rattle.block.specs.declared.Entry.the-variants.{Unused, Used}
 use Rattle.block.specs.Entry.{entryOf, entryAllowed, differentTimes}
-use Rattle.block.specs.Block.{signatureBytes, number, poolOf, uuidOf, entryAt, fieldsOf, allZero, limitTests, readTests, reading}
+use Rattle.block.specs.Block.{signatureBytes, number, poolOf, blockdevOf, entryAt, fieldsOf, allZero, limitTests, readTests, reading}
 use Rattle.block.specs.declared.Verdict.the-variants.{Accepted}
 use Rattle.block.specs.Accepted as Obeying
-use Rattle.block.specs.Writing.{holdingOf, join, bodyFields, blockOf}
+use Rattle.block.specs.Writing.{holdingOf, bodyFields, blockOf}
 use Rattle.block.specs.Demand.{EntryFits}
 use Rattle.block.proofs.Written.{length-signature, length-body, length-blockOf}
 use Rattle.refusal.proofs.Order.{first-all}
@@ -64,7 +64,7 @@ module _ (b : List ℕ) (bytes : Bytes b) (h : Obeying.Accepted b) where
       let k : length (window b at n) ≡ n = length-window-fits b at n (rw (h .size) l) in
       ap (λ (m : ℕ). toLe m (number b at n)) (sym k) ∙ toLe-le (window b at n) (bytes-window b at n bytes)
 
-  same-body : bodyFields (poolOf b) (uuidOf b) (fieldsOf b) ≡ cuts b 4 bodyWidths
+  same-body : bodyFields (poolOf b) (blockdevOf b) (fieldsOf b) ≡ cuts b 4 bodyWidths
   same-body =
       cons (sym (h .signature))
       (cons (back 20 8 (lit≤ tt))
@@ -84,10 +84,10 @@ module _ (b : List ℕ) (bytes : Bytes b) (h : Obeying.Accepted b) where
       (cons (back 160 4 (lit≤ tt)) (cons (back 164 4 (lit≤ tt)) (cons (sym (h .zero-168)) refl)))))))))))))))))
 
   -- writing what was read
-  pub write-back : blockOf (poolOf b) (uuidOf b) (fieldsOf b) ≡ b
+  pub write-back : blockOf (poolOf b) (blockdevOf b) (fieldsOf b) ≡ b
   unfolding blockOf
   write-back =
-      let body : join (bodyFields (poolOf b) (uuidOf b) (fieldsOf b)) ≡ window b 4 508 = ap join same-body ∙ join-cuts b bodyWidths 4 in
+      let body : flatten (bodyFields (poolOf b) (blockdevOf b) (fieldsOf b)) ≡ window b 4 508 = ap flatten same-body ∙ join-cuts b bodyWidths 4 in
       ap₂ _++_ (ap (λ (x : List ℕ). toLe 4 (checksum x)) body ∙ (ap (toLe 4) (sym (h .checksum)) ∙ back 0 4 (lit≤ tt))) body
       ∙ (sym (window-append b 0 4 508) ∙ window-rest b 0 512 (rw (h .size) (lit≤ tt)))
 
@@ -116,7 +116,7 @@ entry-fits (Used w) h k =
 
 module _ (p u : List ℕ) (f : BlockFields) (hp : length p ≡ 32) (hu : length u ≡ 32) where
   -- the block's fields have the table's widths
-  widths : map length (toLe 4 (checksum (join (bodyFields p u f))) ∷ bodyFields p u f) ≡ 4 ∷ bodyWidths
+  widths : map length (toLe 4 (checksum (flatten (bodyFields p u f))) ∷ bodyFields p u f) ≡ 4 ∷ bodyWidths
   widths =
       cons (length-toLe 4 _)
       (cons length-signature
@@ -136,28 +136,28 @@ module _ (p u : List ℕ) (f : BlockFields) (hp : length p ≡ 32) (hu : length 
       (cons (length-zeros 12) (cons (length-toLe 4 _) (cons (length-toLe 4 _) (cons (length-zeros 344) refl))))))))))))))))))
 
   -- and are where the table has them
-  laid-out : cuts (blockOf p u f) 0 (4 ∷ bodyWidths) ≡ toLe 4 (checksum (join (bodyFields p u f))) ∷ bodyFields p u f
-  unfolding blockOf join
+  laid-out : cuts (blockOf p u f) 0 (4 ∷ bodyWidths) ≡ toLe 4 (checksum (flatten (bodyFields p u f))) ∷ bodyFields p u f
+  unfolding blockOf flatten
   laid-out =
       ap (cuts (blockOf p u f) 0) (sym widths)
-      ∙ cuts-join (toLe 4 (checksum (join (bodyFields p u f))) ∷ bodyFields p u f) [] 0 refl
+      ∙ cuts-join (toLe 4 (checksum (flatten (bodyFields p u f))) ∷ bodyFields p u f) [] 0 refl
 
   -- the k-th field, counted from 0
-  field : (k : ℕ) → getD (cuts (blockOf p u f) 0 (4 ∷ bodyWidths)) k [] ≡ getD (toLe 4 (checksum (join (bodyFields p u f))) ∷ bodyFields p u f) k []
+  field : (k : ℕ) → getD (cuts (blockOf p u f) 0 (4 ∷ bodyWidths)) k [] ≡ getD (toLe 4 (checksum (flatten (bodyFields p u f))) ∷ bodyFields p u f) k []
   field k = ap (λ (l : List (List ℕ)). getD l k []) laid-out
 
-  covered : window (blockOf p u f) 4 508 ≡ join (bodyFields p u f)
+  covered : window (blockOf p u f) 4 508 ≡ flatten (bodyFields p u f)
   unfolding blockOf window
   covered =
-      ap (take 508) (drop-at (toLe 4 (checksum (join (bodyFields p u f)))) (join (bodyFields p u f)) 4 (length-toLe 4 _))
-      ∙ take-all 508 (join (bodyFields p u f)) (le-of-eq (length-body p u f hp hu))
+      ap (take 508) (drop-at (toLe 4 (checksum (flatten (bodyFields p u f)))) (flatten (bodyFields p u f)) 4 (length-toLe 4 _))
+      ∙ take-all 508 (flatten (bodyFields p u f)) (le-of-eq (length-body p u f hp hu))
 
   number-of : (at n v : ℕ) → v < 256 ^ n → window (blockOf p u f) at n ≡ toLe n v → number (blockOf p u f) at n ≡ v
   number-of at n v h e = ap le e ∙ le-toLe n v h
 
   checksum-of : number (blockOf p u f) 0 4 ≡ checksum (window (blockOf p u f) 4 508)
   checksum-of =
-      number-of 0 4 (checksum (join (bodyFields p u f))) (checksum-below (join (bodyFields p u f))) (field 0) ∙ ap checksum (sym covered)
+      number-of 0 4 (checksum (flatten (bodyFields p u f))) (checksum-below (flatten (bodyFields p u f))) (field 0) ∙ ap checksum (sym covered)
 
   module _ (s : f .device .sectors < 2 ^ 64) (fa : EntryFits (f .a)) (fb : EntryFits (f .b)) (t : AllHold (limitTests p u f)) where
     allowed-a : entryAllowed (f .a) ≡ true
@@ -209,7 +209,7 @@ module _ (p u : List ℕ) (f : BlockFields) (hp : length p ≡ 32) (hu : length 
                   (and-both (allZero (window (blockOf p u f) 116 12)) _ (zero-test (window (blockOf p u f) 116 12) 12 (field 10))
                   (and-both (allZero (window (blockOf p u f) 148 12)) (allZero (window (blockOf p u f) 168 344))
                   (zero-test (window (blockOf p u f) 148 12) 12 (field 15)) (zero-test (window (blockOf p u f) 168 344) 344 (field 18)))),
-              subst (λ (x : List ℕ). AllHold (limitTests x (uuidOf (blockOf p u f)) (fieldsOf (blockOf p u f)))) (sym (field 4))
+              subst (λ (x : List ℕ). AllHold (limitTests x (blockdevOf (blockOf p u f)) (fieldsOf (blockOf p u f)))) (sym (field 4))
                   (subst (λ (y : List ℕ). AllHold (limitTests p y (fieldsOf (blockOf p u f)))) (sym (field 5))
                   (subst (λ (g : BlockFields). AllHold (limitTests p u g)) (sym read-fields) t)),
             ),
@@ -219,7 +219,7 @@ module _ (p u : List ℕ) (f : BlockFields) (hp : length p ≡ 32) (hu : length 
     )
 
     -- reading what was written
-    pub read-back : sizeAllowed (f .device .sectors) ≡ true → reading (blockOf p u f) ≡ record { verdict = Accepted f; pool = p; device = u }
+    pub read-back : sizeAllowed (f .device .sectors) ≡ true → reading (blockOf p u f) ≡ record { verdict = Accepted f; pool = p; blockdev = u }
     read-back h =
         sym (accepted-reading (blockOf p u f) (first-all (readTests (blockOf p u f)) (read-tests h)))
         ∙ rw (read-fields, field 4, field 5)

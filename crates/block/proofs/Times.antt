@@ -1,4 +1,4 @@
--- The order of times, as callers cite it. Assumes nothing.
+-- The order of times, as callers cite it.
 use Prim.Native.Nat.{_≤_, _<_}
 use mathlib.Core.Path.{_≡_, refl, sym, ap, ap₂, _∙_}
 use mathlib.Core.Bool.{Bool, true, false, _&&_, _||_, true≢false}

@@ -1,8 +1,8 @@
--- Laws of a block that is written: what is stored field by field is the table's bytes. Assumes nothing.
+-- Laws of a block that is written: what is stored field by field is the table's bytes.
 use Prim.Native.Nat.{ℕ, _+_, _-_, _<_}
 use mathlib.Core.Path.{_≡_, refl, sym, ap, ap₂, _∙_}
 use mathlib.Core.Bool.{true, _&&_}
-use mathlib.Core.List.{List, [], _++_, append-assoc, append-nil}
+use mathlib.Core.List.{List, [], _++_, append-assoc, append-nil, flatten}
 use native.Mathlib.Omega.{arith}
 use borrow.Author.Tests.{eqb-true}
 use lib.Dec.{eqb, lit<}
@@ -18,7 +18,7 @@ use Rattle.refusal.proofs.Order.{first-zero, answer-no, answer-yes}
 use Rattle.block.specs.declared.Holding.{Holding}
 use Rattle.block.specs.declared.BlockFields.{BlockFields}
 use Rattle.block.specs.Block.{signatureBytes}
-use Rattle.block.specs.Writing.{holdingOf, join, bodyFields, blockOf, sealed, writeTests, written}
+use Rattle.block.specs.Writing.{holdingOf, bodyFields, blockOf, sealed, writeTests, written}
 use Rattle.block.specs.Laid.{entryLaid, bodyLaid}
 
 pub length-entryLaid : (s : List ℕ) (at : ℕ) (h : Holding) → length (entryLaid s at h) ≡ length s
@@ -74,8 +74,8 @@ length-signature = refl
 
 module _ (p u : List ℕ) (f : BlockFields) (hp : length p ≡ 32) (hu : length u ≡ 32) where
   -- what is stored field by field is four zeros and the table's bytes
-  pub laid-body : bodyLaid 512 p u f ≡ zeros 4 ++ join (bodyFields p u f)
-  unfolding bodyLaid entryLaid join
+  pub laid-body : bodyLaid 512 p u f ≡ zeros 4 ++ flatten (bodyFields p u f)
+  unfolding bodyLaid entryLaid flatten
   laid-body =
       let start : Begun (zeros 512) [] 0 512 = record { is = refl; long = refl } in
       let names : Begun _ _ 96 416 =
@@ -99,23 +99,23 @@ module _ (p u : List ℕ) (f : BlockFields) (hp : length p ≡ 32) (hu : length 
       (next (toLe 4 (f .device .metadata)) 4 348 (length-toLe 4 _) refl second-entry) in
       all-fields .is ∙ simp (append-assoc, append-nil)
 
-  pub length-body : length (join (bodyFields p u f)) ≡ 508
+  pub length-body : length (flatten (bodyFields p u f)) ≡ 508
   length-body =
-      let e : length (bodyLaid 512 p u f) ≡ 4 + length (join (bodyFields p u f)) =
-      ap length laid-body ∙ (length-append (zeros 4) (join (bodyFields p u f)) ∙ ap (λ (n : ℕ). n + length (join (bodyFields p u f))) (length-zeros 4)) in
+      let e : length (bodyLaid 512 p u f) ≡ 4 + length (flatten (bodyFields p u f)) =
+      ap length laid-body ∙ (length-append (zeros 4) (flatten (bodyFields p u f)) ∙ ap (λ (n : ℕ). n + length (flatten (bodyFields p u f))) (length-zeros 4)) in
       let n : length (bodyLaid 512 p u f) ≡ 512 = length-bodyLaid 512 p u f in
       omega arith
 
   -- with its checksum it is the block
   pub sealed-body : sealed (bodyLaid 512 p u f) ≡ blockOf p u f
   unfolding blockOf
-  sealed-body = ap sealed laid-body ∙ sealed-of (zeros 4) (join (bodyFields p u f)) (length-zeros 4) length-body
+  sealed-body = ap sealed laid-body ∙ sealed-of (zeros 4) (flatten (bodyFields p u f)) (length-zeros 4) length-body
 
 pub length-blockOf : (p u : List ℕ) (f : BlockFields) → length p ≡ 32 → length u ≡ 32 → length (blockOf p u f) ≡ 512
 unfolding blockOf
 length-blockOf p u f hp hu =
-    length-append (toLe 4 (checksum (join (bodyFields p u f)))) (join (bodyFields p u f))
-    ∙ ap₂ _+_ (length-toLe 4 (checksum (join (bodyFields p u f)))) (length-body p u f hp hu)
+    length-append (toLe 4 (checksum (flatten (bodyFields p u f)))) (flatten (bodyFields p u f))
+    ∙ ap₂ _+_ (length-toLe 4 (checksum (flatten (bodyFields p u f)))) (length-body p u f hp hu)
 
 -- what a writer leaves, from its number
 pub written-refused : (out p u : List ℕ) (f : BlockFields) (n : ℕ) → n ≡ first (writeTests out p u f) → (n ≡ 0 → ⊥) → out ≡ written out p u f

@@ -1,5 +1,5 @@
 -- Document 01's 'accepted' signature block, as a plain conjunction read off its table and limits, with no order of tests.
--- The theorem `exactly` of `proofs/Demand.antt` says that reading accepts these blocks and no others. Assumes nothing.
+-- The theorem `exactly` of `proofs/Demand.antt` says that reading accepts these blocks and no others.
 use Prim.Native.Nat.{ℕ, _%_, _≤_, _<_}
 use mathlib.Core.Path.{_≡_}
 use mathlib.Core.Logic.{_⊎_}
@@ -10,7 +10,7 @@ use Rattle.checksum.specs.Crc as Crc
 use Rattle.layout.specs.Limits.{recordLimit}
 use Rattle.block.specs.declared.Entry.{Entry}
 use Rattle.block.specs.declared.Entry.the-variants.{Unused, Used}
-use Rattle.block.specs.Block.{signatureBytes, number, poolOf, uuidOf, entryAt}
+use Rattle.block.specs.Block.{signatureBytes, number, poolOf, blockdevOf, entryAt}
 
 -- hex is 0-9 and a-f only
 abbrev pub Hex : ℕ → Type 0
@@ -38,7 +38,7 @@ pub record Accepted (b : List ℕ) : Type 0 where
   pub sectors : 2097152 ≤ number b 20 8
   pub flags : window b 28 4 ≡ zeros 4
   pub pool : HexBytes (poolOf b)
-  pub device : HexBytes (uuidOf b)
+  pub device : HexBytes (blockdevOf b)
   pub entry-a : Within (entryAt b 96)
   pub zero-116 : window b 116 12 ≡ zeros 12
   pub entry-b : Within (entryAt b 128)

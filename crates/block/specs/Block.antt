@@ -1,13 +1,13 @@
--- The signature block, read: document 01's table, limits and refusals 1 to 9. Assumes nothing.
+-- The signature block, read: document 01's table, limits and refusals 1 to 9.
 use Prim.Native.Nat.{ℕ, _+_}
 use mathlib.Core.Bool.{Bool, cond, _&&_, _||_}
 use mathlib.Core.List.{List, [], _∷_}
 use lib.Dec.{leb, eqb}
 use lib.ListN.{length}
-use Rattle.endian.specs.Bytes.{le, window, same, all, zeros}
+use Rattle.endian.specs.Bytes.{le, window, same, allPass, zeros}
 use Rattle.checksum.specs.Crc.{checksum}
-use Rattle.refusal.specs.Numbers.{sliceSize, signature, blockChecksum, deviceSize, notZero, uuid, metadataSize, reservedSize, areaEntry}
-use Rattle.refusal.specs.Tests.{Test, _or_, first}
+use Rattle.refusal.specs.Numbers.{sliceSize, signature, blockChecksum, deviceSize, notZero, uuidByte, metadataSize, reservedSize, areaEntry}
+use Rattle.refusal.specs.Tests.{Test, _elseRefuse_, first}
 use Rattle.layout.specs.declared.Device.{Device}
 use Rattle.layout.specs.Limits.{sizeAllowed, metadataAllowed, reservedAllowed}
 use Rattle.block.specs.declared.Entry.{Entry}
@@ -34,8 +34,8 @@ abbrev pub poolOf : List ℕ → List ℕ
 poolOf b = window b 32 32
 
 -- offset 64, 32 bytes: block device UUID
-abbrev pub uuidOf : List ℕ → List ℕ
-uuidOf b = window b 64 32
+abbrev pub blockdevOf : List ℕ → List ℕ
+blockdevOf b = window b 64 32
 
 -- 8, 4, 4, 4 bytes: seconds, nanoseconds, used bytes, CRC32 of the used bytes
 abbrev pub entryAt : List ℕ → ℕ → Entry
@@ -54,7 +54,7 @@ isZero x = eqb x 0
 
 -- all bytes are zero
 unfoldable pub allZero : List ℕ → Bool
-allZero s = all isZero s
+allZero s = allPass isZero s
 
 -- flags, offset 28, 4 bytes; zero fields at 116, 12 bytes, at 148, 12 bytes, and at 168, 344 bytes
 abbrev pub zeroFields : List ℕ → Bool
@@ -67,28 +67,28 @@ isHex x = (leb 48 x && leb x 57) || (leb 97 x && leb x 102)
 -- the tests that a block's fields and UUIDs meet when read and when written, 6 to 9
 abbrev pub limitTests : List ℕ → List ℕ → BlockFields → List Test
 limitTests p u f =
-    (all isHex p && all isHex u or uuid)
-    ∷ (metadataAllowed (f .device .metadata) or metadataSize)
-    ∷ (reservedAllowed (f .device .reserved) or reservedSize)
-    ∷ (entriesAllowed (f .a) (f .b) or areaEntry)
+    (allPass isHex p && allPass isHex u elseRefuse uuidByte)
+    ∷ (metadataAllowed (f .device .metadata) elseRefuse metadataSize)
+    ∷ (reservedAllowed (f .device .reserved) elseRefuse reservedSize)
+    ∷ (entriesAllowed (f .a) (f .b) elseRefuse areaEntry)
     ∷ []
 
 -- the tests of a block that is read, 1 to 9
 abbrev pub readTests : List ℕ → List Test
 readTests b =
-    (eqb (length b) 512 or sliceSize)
-    ∷ (same (window b 4 16) signatureBytes or signature)
-    ∷ (checksumRight b or blockChecksum)
-    ∷ (sizeAllowed (number b 20 8) or deviceSize)
-    ∷ (zeroFields b or notZero)
-    ∷ limitTests (poolOf b) (uuidOf b) (fieldsOf b)
+    (eqb (length b) 512 elseRefuse sliceSize)
+    ∷ (same (window b 4 16) signatureBytes elseRefuse signature)
+    ∷ (checksumRight b elseRefuse blockChecksum)
+    ∷ (sizeAllowed (number b 20 8) elseRefuse deviceSize)
+    ∷ (zeroFields b elseRefuse notZero)
+    ∷ limitTests (poolOf b) (blockdevOf b) (fieldsOf b)
 
 -- a refusal: its number, zero in every other field
 abbrev pub refusedReading : ℕ → Reading
-refusedReading n = record { verdict = Refused n; pool = zeros 32; device = zeros 32 }
+refusedReading n = record { verdict = Refused n; pool = zeros 32; blockdev = zeros 32 }
 
 abbrev pub acceptedReading : List ℕ → Reading
-acceptedReading b = record { verdict = Accepted (fieldsOf b); pool = poolOf b; device = uuidOf b }
+acceptedReading b = record { verdict = Accepted (fieldsOf b); pool = poolOf b; blockdev = blockdevOf b }
 
 -- what `read` answers: the lowest of 1 to 9 that applies, or the block's fields
 unfoldable pub reading : List ℕ → Reading

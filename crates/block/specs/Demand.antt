@@ -1,5 +1,4 @@
 -- Demand 2, first half, as statements about what `read` and `write` answer. `proofs/Demand.antt` proves them.
--- Assumes nothing.
 use Prim.Native.Nat.{ℕ, _+_, _*_, _^_, _≤_, _<_}
 use mathlib.Core.Path.{_≡_}
 use mathlib.Core.Bool.{true}
@@ -13,7 +12,7 @@ use Rattle.block.specs.declared.Entry.the-variants.{Unused, Used}
 use Rattle.block.specs.declared.BlockFields.{BlockFields}
 use Rattle.block.specs.declared.Verdict.the-variants as Verdict
 use Rattle.block.specs.Entry.{laterThan}
-use Rattle.block.specs.Block.{poolOf, uuidOf, fieldsOf, readTests, reading, acceptedReading, refusedReading}
+use Rattle.block.specs.Block.{poolOf, blockdevOf, fieldsOf, readTests, reading, acceptedReading, refusedReading}
 use Rattle.block.specs.Accepted.{Accepted}
 use Rattle.block.specs.Writing.{writeTests, written}
 
@@ -34,7 +33,7 @@ Lowest =
 abbrev pub WriteAfterRead : Type 0
 WriteAfterRead =
     (b out : List ℕ) → Bytes b → Accepted b → length out ≡ 512
-    → (first (writeTests out (poolOf b) (uuidOf b) (fieldsOf b)) ≡ 0) × (written out (poolOf b) (uuidOf b) (fieldsOf b) ≡ b)
+    → (first (writeTests out (poolOf b) (blockdevOf b) (fieldsOf b)) ≡ 0) × (written out (poolOf b) (blockdevOf b) (fieldsOf b) ≡ b)
 
 -- numbers as the machine's types have them, where no limit of document 01 is narrower
 abbrev pub EntryFits : Entry → Type 0
@@ -46,7 +45,7 @@ abbrev pub ReadAfterWrite : Type 0
 ReadAfterWrite =
     (out p u : List ℕ) (f : BlockFields) → f .device .sectors < 2 ^ 64 → EntryFits (f .a) → EntryFits (f .b)
     → first (writeTests out p u f) ≡ 0
-    → reading (written out p u f) ≡ record { verdict = Verdict.Accepted f; pool = p; device = u }
+    → reading (written out p u f) ≡ record { verdict = Verdict.Accepted f; pool = p; blockdev = u }
 
 -- a time in nanoseconds
 abbrev pub nanosecondsIn : Time → ℕ

@@ -1,5 +1,5 @@
 -- The block's bytes as the writer stores them: each field at its offset, into zeros. Only private functions' contracts
--- cite this; law `laid-body` says that it is `Writing.bodyFields` joined. Assumes nothing.
+-- cite this; law `laid-body` says that it is `Writing.bodyFields` joined.
 use Prim.Native.Nat.{ℕ, _+_}
 use mathlib.Core.List.{List}
 use Rattle.endian.specs.Bytes.{toLe, splice, zeros}

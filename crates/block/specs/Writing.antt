@@ -1,13 +1,13 @@
--- The signature block, written: document 01's table in its order, and the refusals of a writer. Assumes nothing.
+-- The signature block, written: document 01's table in its order, and the refusals of a writer.
 use Prim.Native.Nat.{ℕ}
 use mathlib.Core.Bool.{Bool, cond, _&&_}
-use mathlib.Core.List.{List, [], _∷_, _++_}
+use mathlib.Core.List.{List, [], _∷_, _++_, flatten}
 use lib.Dec.{eqb}
 use lib.ListN.{length}
 use Rattle.endian.specs.Bytes.{toLe, window, splice, zeros}
 use Rattle.checksum.specs.Crc.{checksum}
 use Rattle.refusal.specs.Numbers.{sliceSize, deviceSize}
-use Rattle.refusal.specs.Tests.{Test, _or_, first}
+use Rattle.refusal.specs.Tests.{Test, _elseRefuse_, first}
 use Rattle.layout.specs.Limits.{sizeAllowed}
 use Rattle.block.specs.declared.Holding.{Holding}
 use Rattle.block.specs.declared.Entry.{Entry}
@@ -19,11 +19,6 @@ use Rattle.block.specs.Block.{signatureBytes, limitTests}
 abbrev pub holdingOf : Entry → Holding
 holdingOf Unused = record { seconds = 0; nanoseconds = 0; bytes = 0; checksum = 0 }
 holdingOf (Used h) = h
-
--- lists one after the other
-unfoldable pub join : List (List ℕ) → List ℕ
-join [] = []
-join (x ∷ xs) = x ++ join xs
 
 -- bytes 4 to 511, field by field, as the table has them
 abbrev pub bodyFields : List ℕ → List ℕ → BlockFields → List (List ℕ)
@@ -50,7 +45,7 @@ bodyFields p u f =
 
 -- the block: the CRC32 of bytes 4 to 511, then those bytes
 unfoldable pub blockOf : List ℕ → List ℕ → BlockFields → List ℕ
-blockOf p u f = toLe 4 (checksum (join (bodyFields p u f))) ++ join (bodyFields p u f)
+blockOf p u f = toLe 4 (checksum (flatten (bodyFields p u f))) ++ flatten (bodyFields p u f)
 
 -- a block with its CRC32 anew
 unfoldable pub sealed : List ℕ → List ℕ
@@ -59,8 +54,8 @@ sealed b = splice b 0 (toLe 4 (checksum (window b 4 508)))
 -- the tests of a writer: what a reader would refuse, 1, 4, 6 to 9
 abbrev pub writeTests : List ℕ → List ℕ → List ℕ → BlockFields → List Test
 writeTests out p u f =
-    (eqb (length out) 512 && (eqb (length p) 32 && eqb (length u) 32) or sliceSize)
-    ∷ (sizeAllowed (f .device .sectors) or deviceSize)
+    (eqb (length out) 512 && (eqb (length p) 32 && eqb (length u) 32) elseRefuse sliceSize)
+    ∷ (sizeAllowed (f .device .sectors) elseRefuse deviceSize)
     ∷ limitTests p u f
 
 -- what a writer leaves: the block, or what was there

@@ -1,11 +1,11 @@
 // The signature block: 512 bytes that say how large the device is, whose it is, and what its metadata areas hold.
-// Read from any slice, and written from its fields. Assumes nothing.
+// Read from any slice, and written from its fields.
 ghost use mathlib.Core.Path.{_≡_};
 ghost use Prim.Native.Nat.{_+_, _≤_};
 ghost use lib.ListN.{length};
-ghost use Rattle.endian.specs.Bytes.{window, same, all};
+ghost use Rattle.endian.specs.Bytes.{window, same, allPass};
 ghost use Rattle.refusal.specs.Tests.{first};
-ghost use Rattle.block.specs.Block.{isHex, allZero, zeroFields, checksumRight, signatureBytes, poolOf, uuidOf, entryAt, fieldsOf, limitTests, readTests, reading};
+ghost use Rattle.block.specs.Block.{isHex, allZero, zeroFields, checksumRight, signatureBytes, poolOf, blockdevOf, entryAt, fieldsOf, limitTests, readTests, reading};
 ghost use Rattle.block.specs.Writing.{holdingOf, sealed, writeTests, written};
 ghost use Rattle.block.specs.Laid.{entryLaid, bodyLaid};
 ghost use Rattle.block.specs.Entry.{laterThan, sameTime, entryOf, entryAllowed, differentTimes, entriesAllowed};
@@ -48,7 +48,7 @@ pub enum Verdict {
 pub struct Reading {
     pub verdict: Verdict,
     pub pool: [u8; 32],
-    pub device: [u8; 32],
+    pub blockdev: [u8; 32],
 }
 
 // Whether t is later than u: by seconds, then nanoseconds.
@@ -129,7 +129,7 @@ fn is_hex(x: u8) -> bool
 
 // Whether all bytes of s are such digits.
 pub fn all_hex(s: &[u8]) -> bool
-    ensures { λ r. ⌜ r ≡ all isHex (now (s .entry)) ⌝ }
+    ensures { λ r. ⌜ r ≡ allPass isHex (now (s .entry)) ⌝ }
 {
     let mut hex = true;
     let mut i = 0;
@@ -219,12 +219,12 @@ pub fn fields(s: &[u8]) -> BlockFields
 }
 
 // The number of the first limit, 6 to 9, that UUIDs and fields break; 0 where they break none.
-fn limit_refusal(pool: &[u8], uuid: &[u8], f: BlockFields) -> u8
-    ensures { λ r. ⌜ r ≡ first (limitTests (now (pool .entry)) (now (uuid .entry)) f) ⌝ }
+fn limit_refusal(pool: &[u8], blockdev: &[u8], f: BlockFields) -> u8
+    ensures { λ r. ⌜ r ≡ first (limitTests (now (pool .entry)) (now (blockdev .entry)) f) ⌝ }
 {
-    let hex = all_hex(pool) & all_hex(uuid);
+    let hex = all_hex(pool) & all_hex(blockdev);
     if !hex {
-        return refusal::UUID;
+        return refusal::UUID_BYTE;
     }
     let d = f.device;
     if !layout::metadata_allowed(d.metadata) {
@@ -269,7 +269,7 @@ fn read_refusal(s: &[u8]) -> u8
 }
 
 // The 32 bytes of s.
-fn uuid(s: &[u8]) -> [u8; 32]
+fn uuid_bytes(s: &[u8]) -> [u8; 32]
     requires { ⌜ length (now s) ≡ 32 ⌝ }
     ensures { λ r. ⌜ r ≡ now (s .entry) ⌝ }
 {
@@ -287,13 +287,13 @@ pub fn read(s: &[u8]) -> Reading
         return Reading {
             verdict: Verdict::Refused(n),
             pool: [0u8; 32],
-            device: [0u8; 32],
+            blockdev: [0u8; 32],
         };
     }
     Reading {
         verdict: Verdict::Accepted(fields(s)),
-        pool: uuid(endian::window(s, 32, 32)),
-        device: uuid(endian::window(s, 64, 32)),
+        pool: uuid_bytes(endian::window(s, 32, 32)),
+        blockdev: uuid_bytes(endian::window(s, 64, 32)),
     }
 }
 
@@ -325,8 +325,8 @@ fn put_entry(out: &mut [u8], at: usize, e: Entry)
 }
 
 // Stores the block's fields into zeros, all but the checksum.
-fn put_fields(out: &mut [u8], pool: &[u8], uuid: &[u8], f: BlockFields)
-    ensures { λ _. ⌜ now (out .exit) ≡ bodyLaid (length (now (out .entry))) (now (pool .entry)) (now (uuid .entry)) f ⌝ }
+fn put_fields(out: &mut [u8], pool: &[u8], blockdev: &[u8], f: BlockFields)
+    ensures { λ _. ⌜ now (out .exit) ≡ bodyLaid (length (now (out .entry))) (now (pool .entry)) (now (blockdev .entry)) f ⌝ }
 {
     let bytes = [
         0x21u8,
@@ -353,7 +353,7 @@ fn put_fields(out: &mut [u8], pool: &[u8], uuid: &[u8], f: BlockFields)
     endian::put(out, 4, &bytes);
     endian::write_u64(out, 20, d.sectors);
     endian::put(out, 32, pool);
-    endian::put(out, 64, uuid);
+    endian::put(out, 64, blockdev);
     put_entry(out, 96, a);
     put_entry(out, 128, b);
     endian::write_u32(out, 160, d.metadata);
@@ -369,10 +369,10 @@ pub fn seal(b: &mut [u8])
 }
 
 // The number of the first test, 1, 4, 6 to 9, that fails; 0 where all hold.
-fn write_refusal(out: &[u8], pool: &[u8], uuid: &[u8], f: BlockFields) -> u8
-    ensures { λ r. ⌜ r ≡ first (writeTests (now (out .entry)) (now (pool .entry)) (now (uuid .entry)) f) ⌝ }
+fn write_refusal(out: &[u8], pool: &[u8], blockdev: &[u8], f: BlockFields) -> u8
+    ensures { λ r. ⌜ r ≡ first (writeTests (now (out .entry)) (now (pool .entry)) (now (blockdev .entry)) f) ⌝ }
 {
-    let whole = (out.len() == 512) & ((pool.len() == 32) & (uuid.len() == 32));
+    let whole = (out.len() == 512) & ((pool.len() == 32) & (blockdev.len() == 32));
     if !whole {
         return refusal::SLICE_SIZE;
     }
@@ -380,20 +380,20 @@ fn write_refusal(out: &[u8], pool: &[u8], uuid: &[u8], f: BlockFields) -> u8
     if !layout::size_allowed(d.sectors) {
         return refusal::DEVICE_SIZE;
     }
-    limit_refusal(pool, uuid, f)
+    limit_refusal(pool, blockdev, f)
 }
 
 // Writes a signature block with these fields into out and answers 0, or changes nothing and answers the number of what a
 // reader would refuse.
-pub fn write(out: &mut [u8], pool: &[u8], uuid: &[u8], f: BlockFields) -> u8
-    ensures { λ r. ⌜ r ≡ first (writeTests (now (out .entry)) (now (pool .entry)) (now (uuid .entry)) f) ⌝ }
-    ensures { λ _. ⌜ now (out .exit) ≡ written (now (out .entry)) (now (pool .entry)) (now (uuid .entry)) f ⌝ }
+pub fn write(out: &mut [u8], pool: &[u8], blockdev: &[u8], f: BlockFields) -> u8
+    ensures { λ r. ⌜ r ≡ first (writeTests (now (out .entry)) (now (pool .entry)) (now (blockdev .entry)) f) ⌝ }
+    ensures { λ _. ⌜ now (out .exit) ≡ written (now (out .entry)) (now (pool .entry)) (now (blockdev .entry)) f ⌝ }
 {
-    let n = write_refusal(out, pool, uuid, f);
+    let n = write_refusal(out, pool, blockdev, f);
     if n != 0 {
         return n;
     }
-    put_fields(out, pool, uuid, f);
+    put_fields(out, pool, blockdev, f);
     seal(out);
     0
 }

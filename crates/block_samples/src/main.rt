@@ -11,8 +11,8 @@ use block::Entry;
 use block::Holding;
 use block::Verdict;
 use layout::Device;
-use layout::Placement;
-use layout::Places;
+use layout::Located;
+use layout::DeviceMap;
 use refusal::Subject;
 
 const IN: i32 = 0;
@@ -62,14 +62,14 @@ fn device(d: Device) {
 }
 
 // Whether a block that is written from these fields, over bytes 0xEE, is s.
-fn same_again(s: &[u8], pool: &[u8], uuid: &[u8], f: BlockFields) -> bool {
+fn same_again(s: &[u8], pool: &[u8], blockdev: &[u8], f: BlockFields) -> bool {
     let mut out = [0xEEu8; 512];
-    let n = block::write(&mut out, pool, uuid, f);
+    let n = block::write(&mut out, pool, blockdev, f);
     (n == 0) & endian::same(s, &out)
 }
 
 // Prints the line of an accepted block.
-fn accepted(s: &[u8], pool: &[u8], uuid: &[u8], f: BlockFields) {
+fn accepted(s: &[u8], pool: &[u8], blockdev: &[u8], f: BlockFields) {
     let d = f.device;
     let a = f.a;
     let b = f.b;
@@ -78,10 +78,10 @@ fn accepted(s: &[u8], pool: &[u8], uuid: &[u8], f: BlockFields) {
     say(b" ");
     say(pool);
     say(b" ");
-    say(uuid);
+    say(blockdev);
     entry(a);
     entry(b);
-    if same_again(s, pool, uuid, f) {
+    if same_again(s, pool, blockdev, f) {
         say(b" same\n");
     } else {
         say(b" DIFFERENT\n");
@@ -99,10 +99,10 @@ fn refused(n: u8) {
 fn judge(s: &[u8]) {
     let r = block::read(s);
     let pool = r.pool;
-    let uuid = r.device;
+    let blockdev = r.blockdev;
     let v = r.verdict;
     match v {
-        Verdict::Accepted(f) => accepted(s, &pool, &uuid, f),
+        Verdict::Accepted(f) => accepted(s, &pool, &blockdev, f),
         Verdict::Refused(n) => refused(n),
     }
 }
@@ -146,7 +146,7 @@ fn samples() {
 }
 
 // Prints the first sectors of a copy's parts.
-fn copy(c: layout::Copy) {
+fn copy(c: layout::CopyMap) {
     number(c.header);
     number(c.block);
     number(c.a);
@@ -155,7 +155,7 @@ fn copy(c: layout::Copy) {
 }
 
 // Prints both copies' places and the data range.
-fn located(p: Places) {
+fn print_map(p: Places) {
     let front = p.front;
     let back = p.back;
     say(b"front");
@@ -180,8 +180,8 @@ fn places(sectors: u64, metadata: u32, reserved: u32) {
     say(b" ");
     let p = layout::locate(d);
     match p {
-        Placement::At(q) => located(q),
-        Placement::Refused(n) => refused(n),
+        Located::At(q) => print_map(q),
+        Located::Refused(n) => refused(n),
     }
 }
 

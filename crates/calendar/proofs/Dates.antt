@@ -1,5 +1,4 @@
 -- Where a day falls, as the function that finds its date has it: results as variables, each with what its call promised.
--- Assumes nothing.
 use Prim.Native.Nat.{ℕ, _/_, _%_, _≤_, _<_}
 use mathlib.Core.Path.{_≡_, ap, _∙_}
 use mathlib.Core.Bool.{Bool, true, false, cond, _||_}

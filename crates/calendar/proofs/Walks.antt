@@ -1,4 +1,4 @@
--- Laws of the walk over years or months. Assumes nothing.
+-- Laws of the walk over years or months.
 use Prim.Native.Nat.{ℕ, zero, suc, _+_, _-_, _≤_, _<_}
 use mathlib.Core.Path.{_≡_, refl, sym, ap, ap₂, _∙_}
 use mathlib.Core.Bool.{Bool, true, false, cond}

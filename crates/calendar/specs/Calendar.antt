@@ -1,5 +1,4 @@
 -- The date of a number of seconds since 1970-01-01 00:00:00 UTC, by the Gregorian calendar. A day has 86,400 seconds.
--- Assumes nothing.
 use Prim.Native.Nat.{ℕ, zero, suc, _+_, _-_, _/_, _%_}
 use mathlib.Core.Bool.{Bool, cond, not, _&&_, _||_}
 use lib.Dec.{ltb, eqb}

@@ -1,5 +1,5 @@
 -- What a date means: the day number of a civil date, that a date is found for each second and each date found, and some
--- dates by themselves. `proofs/Demand.antt` proves it. Assumes nothing.
+-- dates by themselves. `proofs/Demand.antt` proves it.
 use Prim.Native.Nat.{ℕ, _+_, _-_, _*_, _≤_, _<_}
 use mathlib.Core.Path.{_≡_}
 use mathlib.Core.List.{[], _∷_, map}

@@ -1,5 +1,5 @@
 // Seconds since 1970-01-01 00:00:00 UTC as a date of the Gregorian calendar, up to the year 9999.
-// Every public call is total. Assumes nothing.
+// Every public call is total.
 ghost use mathlib.Core.Path.{_≡_};
 ghost use Prim.Native.Nat.{_<_};
 ghost use Rattle.calendar.specs.Calendar.{allDays, leap, yearLength, monthLength, walk, dateOf};

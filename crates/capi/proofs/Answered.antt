@@ -1,4 +1,4 @@
--- The numbers of a found record and of a block, as they are stored. Assumes nothing.
+-- The numbers of a found record and of a block, as they are stored.
 use Prim.Native.Nat.{ℕ}
 use mathlib.Core.Path.{_≡_, refl, sym, ap, ap₂, _∙_}
 use mathlib.Core.Bool.{Bool, true, false, cond, not, _&&_}
@@ -19,7 +19,7 @@ use Rattle.block.specs.declared.Verdict.{Verdict}
 use Rattle.block.specs.Block.{readTests, acceptedReading, refusedReading, reading}
 use Rattle.block.specs.Writing.{holdingOf, writeTests, written}
 use Rattle.block.proofs.Readings.{accepted-length}
-use Rattle.discovery.specs.declared.Record.{Record}
+use Rattle.discovery.specs.declared.Finding.{Finding}
 use Rattle.discovery.specs.declared.Other.{Other}
 use Rattle.discovery.specs.declared.Answer.{Answer}
 use Rattle.discovery.specs.declared.Answer.the-variants as Answer
@@ -35,7 +35,7 @@ use Rattle.capi.proofs.Told.{sized, sized-left, whole}
 six : (a b c d e f x y z : ℕ) → x ≡ a → y ≡ b → z ≡ f → _≡_ {A = List ℕ} (x ∷ y ∷ c ∷ d ∷ e ∷ z ∷ []) (a ∷ b ∷ c ∷ d ∷ e ∷ f ∷ [])
 six a b c d e f x y z ex ey ez = rw (ex, ey, ez)
 
-pub found-told : (a : Answer) (s : List ℕ) → length s ≡ 6 → (q : Record) (o : Other) → a ≡ Answer.Found q o
+pub found-told : (a : Answer) (s : List ℕ) → length s ≡ 6 → (q : Finding) (o : Other) → a ≡ Answer.Found q o
     → (x y z : ℕ) → x ≡ sideNumber (q .side) → y ≡ areaNumber (q .area) → z ≡ otherNumber o
     → (w : List ℕ) → w ≡ replaced s (x ∷ y ∷ q .bytes ∷ q .seconds ∷ q .nanoseconds ∷ z ∷ [])
     → (0 ≡ answerNumber a) × (w ≡ answerLeft a s)
@@ -69,25 +69,25 @@ block-numbers x s l h k eh ek w ew = ew ∙ (whole s (numbersBy x h k) l ∙ ap�
 
 -- a block's numbers and UUIDs
 module _ (b s p u : List ℕ) (t : Bool) (h : not t ≡ false) (r : Reading) (e : r ≡ reading b) (v : Verdict) (g : r .verdict ≡ v) where
-  pub block-told : (n : ℕ) (s' p' u' : List ℕ) → n ≡ numberOf v → s' ≡ verdictLeft v s → p' ≡ uuidLeft v (r .pool) p → u' ≡ uuidLeft v (r .device) u
+  pub block-told : (n : ℕ) (s' p' u' : List ℕ) → n ≡ numberOf v → s' ≡ verdictLeft v s → p' ≡ uuidLeft v (r .pool) p → u' ≡ uuidLeft v (r .blockdev) u
       → (n ≡ numberIf t (numberOf (reading b .verdict)))
       × ((s' ≡ leftIf t (verdictLeft (reading b .verdict) s) s)
       × ((p' ≡ leftIf t (uuidLeft (reading b .verdict) (reading b .pool) p) p)
-      × (u' ≡ leftIf t (uuidLeft (reading b .verdict) (reading b .device) u) u)))
+      × (u' ≡ leftIf t (uuidLeft (reading b .verdict) (reading b .blockdev) u) u)))
   block-told n s' p' u' en es ep eu = (
     sized t h n _ (en ∙ (ap numberOf (sym g) ∙ ap (λ (z : Reading). numberOf (z .verdict)) e)),
     (
       sized-left t h s' _ s (es ∙ (ap (λ (z : Verdict). verdictLeft z s) (sym g) ∙ ap (λ (z : Reading). verdictLeft (z .verdict) s) e)),
       (
         sized-left t h p' _ p (ep ∙ (ap (λ (z : Verdict). uuidLeft z (r .pool) p) (sym g) ∙ ap (λ (z : Reading). uuidLeft (z .verdict) (z .pool) p) e)),
-        sized-left t h u' _ u (eu ∙ (ap (λ (z : Verdict). uuidLeft z (r .device) u) (sym g) ∙ ap (λ (z : Reading). uuidLeft (z .verdict) (z .device) u) e)),
+        sized-left t h u' _ u (eu ∙ (ap (λ (z : Verdict). uuidLeft z (r .blockdev) u) (sym g) ∙ ap (λ (z : Reading). uuidLeft (z .verdict) (z .blockdev) u) e)),
       ),
     ),
   )
 
 -- each UUID of a reading has 32 bytes
 abbrev Long : Reading → Type 0
-Long r = (length (r .pool) ≡ 32) × (length (r .device) ≡ 32)
+Long r = (length (r .pool) ≡ 32) × (length (r .blockdev) ≡ 32)
 
 reading-long : (b : List ℕ) → Long (reading b)
 unfolding reading
@@ -113,11 +113,11 @@ module _ (b s p u : List ℕ) (h : not (has s 11 && (has p 32 && has u 32)) ≡ 
       ∙ splice-whole p (r .pool)
       (ap (λ (z : Reading). length (z .pool)) e ∙ (reading-long b .0 ∙ sym (eqb-true (length p) 32 (and-left (has p 32) _ (and-right (has s 11) _ right)))))
 
-  pub device-filled : (w : List ℕ) → w ≡ splice u 0 (r .device) → w ≡ r .device
+  pub device-filled : (w : List ℕ) → w ≡ splice u 0 (r .blockdev) → w ≡ r .blockdev
   device-filled w ew =
       ew
-      ∙ splice-whole u (r .device)
-      (ap (λ (z : Reading). length (z .device)) e ∙ (reading-long b .1 ∙ sym (eqb-true (length u) 32 (and-right (has p 32) _ (and-right (has s 11) _ right)))))
+      ∙ splice-whole u (r .blockdev)
+      (ap (λ (z : Reading). length (z .blockdev)) e ∙ (reading-long b .1 ∙ sym (eqb-true (length u) 32 (and-right (has p 32) _ (and-right (has s 11) _ right)))))
 
 -- a block written of two entries
 pub block-written : (o p u : List ℕ) (d : Device) (a b x y : Entry) → x ≡ a → y ≡ b → (n : ℕ) (w : List ℕ)

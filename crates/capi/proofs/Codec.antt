@@ -1,8 +1,8 @@
--- A plan whose numbers fit is read back as itself. Assumes nothing.
+-- A plan whose numbers fit is read back as itself.
 use Prim.Native.Nat.{ℕ, _^_, _<_}
 use mathlib.Core.Path.{_≡_, refl, ap, _∙_}
 use mathlib.Core.Bool.{Bool, true, cond}
-use mathlib.Core.List.{List, [], _∷_, map}
+use mathlib.Core.List.{List, [], _∷_, map, flatten}
 use lib.Dec.{eqb}
 use lib.ListN.{length, getD}
 use Rattle.endian.specs.Bytes.{toLe, window, zeros}
@@ -16,7 +16,7 @@ use Rattle.block.specs.declared.Entry.{Entry}
 use Rattle.block.specs.declared.BlockFields.{BlockFields}
 use Rattle.block.specs.Entry.{entryOf}
 use Rattle.block.specs.Block.{number}
-use Rattle.block.specs.Writing.{holdingOf, join}
+use Rattle.block.specs.Writing.{holdingOf}
 use Rattle.block.proofs.Cuts.{cons}
 use Rattle.block.proofs.RoundTrip.{entry-back, entry-fits}
 use Rattle.update.specs.declared.Part.{Part}
@@ -49,10 +49,10 @@ unfolding encodedEntry decodedEntry
 entry-decoded e h =
     let n : (holdingOf e .seconds < 2 ^ 64) × (holdingOf e .nanoseconds < 2 ^ 32) × (holdingOf e .bytes < 2 ^ 32) × (holdingOf e .checksum < 2 ^ 32) =
     entry-fits e (h .0) (h .1) in
-    let s : number (join (entryParts e)) 0 8 ≡ holdingOf e .seconds = number-back _ 0 8 _ (n .0) (field (entryParts e) entryWidths (entry-widths e) 0) in
-    let m : number (join (entryParts e)) 8 4 ≡ holdingOf e .nanoseconds = number-back _ 8 4 _ (n .1) (field (entryParts e) entryWidths (entry-widths e) 1) in
-    let u : number (join (entryParts e)) 12 4 ≡ holdingOf e .bytes = number-back _ 12 4 _ (n .2) (field (entryParts e) entryWidths (entry-widths e) 2) in
-    let c : number (join (entryParts e)) 16 4 ≡ holdingOf e .checksum = number-back _ 16 4 _ (n .3) (field (entryParts e) entryWidths (entry-widths e) 3) in
+    let s : number (flatten (entryParts e)) 0 8 ≡ holdingOf e .seconds = number-back _ 0 8 _ (n .0) (field (entryParts e) entryWidths (entry-widths e) 0) in
+    let m : number (flatten (entryParts e)) 8 4 ≡ holdingOf e .nanoseconds = number-back _ 8 4 _ (n .1) (field (entryParts e) entryWidths (entry-widths e) 1) in
+    let u : number (flatten (entryParts e)) 12 4 ≡ holdingOf e .bytes = number-back _ 12 4 _ (n .2) (field (entryParts e) entryWidths (entry-widths e) 2) in
+    let c : number (flatten (entryParts e)) 16 4 ≡ holdingOf e .checksum = number-back _ 16 4 _ (n .3) (field (entryParts e) entryWidths (entry-widths e) 3) in
     (λ i. entryOf (s i) (m i) (u i) (c i)) ∙ entry-back e (h .0)
 
 -- a block's numbers
@@ -72,12 +72,12 @@ fields-long g = long-join (fieldParts g) fieldWidths (field-widths g)
 pub fields-decoded : (g : BlockFields) → FieldsFit g → decodedFields (encodedFields g) ≡ g
 unfolding encodedFields decodedFields
 fields-decoded g h =
-    let s : number (join (fieldParts g)) 0 8 ≡ g .device .sectors = number-back _ 0 8 _ (h .0) (field (fieldParts g) fieldWidths (field-widths g) 0) in
-    let l : number (join (fieldParts g)) 8 4 ≡ g .device .metadata = number-back _ 8 4 _ (h .1) (field (fieldParts g) fieldWidths (field-widths g) 1) in
-    let r : number (join (fieldParts g)) 12 4 ≡ g .device .reserved = number-back _ 12 4 _ (h .2) (field (fieldParts g) fieldWidths (field-widths g) 2) in
-    let a : decodedEntry (window (join (fieldParts g)) 16 20) ≡ g .a =
+    let s : number (flatten (fieldParts g)) 0 8 ≡ g .device .sectors = number-back _ 0 8 _ (h .0) (field (fieldParts g) fieldWidths (field-widths g) 0) in
+    let l : number (flatten (fieldParts g)) 8 4 ≡ g .device .metadata = number-back _ 8 4 _ (h .1) (field (fieldParts g) fieldWidths (field-widths g) 1) in
+    let r : number (flatten (fieldParts g)) 12 4 ≡ g .device .reserved = number-back _ 12 4 _ (h .2) (field (fieldParts g) fieldWidths (field-widths g) 2) in
+    let a : decodedEntry (window (flatten (fieldParts g)) 16 20) ≡ g .a =
     ap decodedEntry (field (fieldParts g) fieldWidths (field-widths g) 3) ∙ entry-decoded (g .a) (h .3) in
-    let b : decodedEntry (window (join (fieldParts g)) 36 20) ≡ g .b =
+    let b : decodedEntry (window (flatten (fieldParts g)) 36 20) ≡ g .b =
     ap decodedEntry (field (fieldParts g) fieldWidths (field-widths g) 4) ∙ entry-decoded (g .b) (h .4) in
     λ i. record { device = record { sectors = s i; metadata = l i; reserved = r i }; a = a i; b = b i }
 
@@ -98,9 +98,9 @@ part-long p = long-join (partParts p) partWidths (part-widths p)
 pub part-decoded : (p : Part) → PartFit p → decodedPart (encodedPart p) ≡ p
 unfolding encodedPart decodedPart
 part-decoded p h =
-    let a : number (join (partParts p)) 0 8 ≡ p .area = number-back _ 0 8 _ (h .0) (field (partParts p) partWidths (part-widths p) 0) in
-    let b : number (join (partParts p)) 8 8 ≡ p .block = number-back _ 8 8 _ (h .1) (field (partParts p) partWidths (part-widths p) 1) in
-    let g : decodedFields (window (join (partParts p)) 16 56) ≡ p .fields =
+    let a : number (flatten (partParts p)) 0 8 ≡ p .area = number-back _ 0 8 _ (h .0) (field (partParts p) partWidths (part-widths p) 0) in
+    let b : number (flatten (partParts p)) 8 8 ≡ p .block = number-back _ 8 8 _ (h .1) (field (partParts p) partWidths (part-widths p) 1) in
+    let g : decodedFields (window (flatten (partParts p)) 16 56) ≡ p .fields =
     ap decodedFields (field (partParts p) partWidths (part-widths p) 2) ∙ fields-decoded (p .fields) (h .2) in
     λ i. record { area = a i; block = b i; fields = g i }
 
@@ -121,10 +121,10 @@ plan-long p = long-join (planParts p) planWidths (plan-widths p)
 pub plan-decoded : (p : Plan) → PlanFit p → decodedPlan (encodedPlan p) ≡ p
 unfolding encodedPlan decodedPlan
 plan-decoded p h =
-    let k : number (join (planParts p)) 0 4 ≡ p .sectors = number-back _ 0 4 _ (h .0) (field (planParts p) planWidths (plan-widths p) 0) in
-    let f : decodedPart (window (join (planParts p)) 4 72) ≡ p .front =
+    let k : number (flatten (planParts p)) 0 4 ≡ p .sectors = number-back _ 0 4 _ (h .0) (field (planParts p) planWidths (plan-widths p) 0) in
+    let f : decodedPart (window (flatten (planParts p)) 4 72) ≡ p .front =
     ap decodedPart (field (planParts p) planWidths (plan-widths p) 1) ∙ part-decoded (p .front) (h .1) in
-    let b : decodedPart (window (join (planParts p)) 76 72) ≡ p .back =
+    let b : decodedPart (window (flatten (planParts p)) 76 72) ≡ p .back =
     ap decodedPart (field (planParts p) planWidths (plan-widths p) 2) ∙ part-decoded (p .back) (h .2) in
     λ i. record { sectors = k i; front = f i; back = b i }
 
@@ -147,8 +147,8 @@ last-decoded : (x : Last) → LastFit x → decodedLast (lastNumber x) (encodedL
 unfolding encodedLast decodedLast
 last-decoded Last.Absent h = refl
 last-decoded (Last.Blank n g) h =
-    let s : number (join (blankParts n g)) 0 8 ≡ n = number-back _ 0 8 _ (h .0) (field (blankParts n g) blankWidths (blank-widths n g) 0) in
-    let f : decodedFields (window (join (blankParts n g)) 8 56) ≡ g =
+    let s : number (flatten (blankParts n g)) 0 8 ≡ n = number-back _ 0 8 _ (h .0) (field (blankParts n g) blankWidths (blank-widths n g) 0) in
+    let f : decodedFields (window (flatten (blankParts n g)) 8 56) ≡ g =
     ap decodedFields (field (blankParts n g) blankWidths (blank-widths n g) 1) ∙ fields-decoded g (h .1) in
     λ i. Last.Blank (s i) (f i)
 
@@ -181,21 +181,21 @@ area-back A = refl
 area-back B = refl
 
 rewrite-decoded : (p : Rewrite) → RewriteFit p → decodedRewrite (encodedRewrite p) ≡ p
-unfolding encodedRewrite decodedRewrite join
+unfolding encodedRewrite decodedRewrite flatten
 rewrite-decoded p h =
-    let n : number (join (rewriteParts p)) 4 4 ≡ p .bytes = number-back _ 4 4 _ (h .0) (field (rewriteParts p) rewriteWidths (rewrite-widths p) 1) in
-    let k : number (join (rewriteParts p)) 8 4 ≡ p .sectors = number-back _ 8 4 _ (h .1) (field (rewriteParts p) rewriteWidths (rewrite-widths p) 2) in
-    let e : decodedFields (window (join (rewriteParts p)) 12 56) ≡ p .empty =
+    let n : number (flatten (rewriteParts p)) 4 4 ≡ p .bytes = number-back _ 4 4 _ (h .0) (field (rewriteParts p) rewriteWidths (rewrite-widths p) 1) in
+    let k : number (flatten (rewriteParts p)) 8 4 ≡ p .sectors = number-back _ 8 4 _ (h .1) (field (rewriteParts p) rewriteWidths (rewrite-widths p) 2) in
+    let e : decodedFields (window (flatten (rewriteParts p)) 12 56) ≡ p .empty =
     ap decodedFields (field (rewriteParts p) rewriteWidths (rewrite-widths p) 3) ∙ fields-decoded (p .empty) (h .2) in
-    let q : decodedPart (window (join (rewriteParts p)) 68 72) ≡ p .part =
+    let q : decodedPart (window (flatten (rewriteParts p)) 68 72) ≡ p .part =
     ap decodedPart (field (rewriteParts p) rewriteWidths (rewrite-widths p) 4) ∙ part-decoded (p .part) (h .3) in
-    let l : decodedLast (lastNumber (p .last)) (window (join (rewriteParts p)) 140 64) ≡ p .last =
+    let l : decodedLast (lastNumber (p .last)) (window (flatten (rewriteParts p)) 140 64) ≡ p .last =
     ap (decodedLast (lastNumber (p .last))) (field (rewriteParts p) rewriteWidths (rewrite-widths p) 5) ∙ last-decoded (p .last) (h .4) in
     λ i. record { kept = side-back (p .kept) i; area = area-back (p .area) i; bytes = n i; sectors = k i; empty = e i; part = q i; last = l i }
 
 -- a mend's plan
 first-byte : (p : Rewrite) → eqb (getD (encodedRewrite p) 0 0) 1 ≡ true
-unfolding encodedRewrite join
+unfolding encodedRewrite flatten
 first-byte p = refl
 
 pub mend-decoded : (p : Rewrite) → RewriteFit p → decodedMend (encodedRewrite p) ≡ Mending.Needed p

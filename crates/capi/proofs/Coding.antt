@@ -1,4 +1,4 @@
--- What the code that writes and reads plans makes, by the results of its calls. Assumes nothing.
+-- What the code that writes and reads plans makes, by the results of its calls.
 use Prim.Native.Nat.{ℕ}
 use mathlib.Core.Path.{_≡_, refl, sym, ap, _∙_}
 use mathlib.Core.Bool.{Bool, cond}

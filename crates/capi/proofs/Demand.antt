@@ -1,4 +1,4 @@
--- The C calls on plans give the stores of the libraries' claims. Assumes nothing.
+-- The C calls on plans give the stores of the libraries' claims.
 use Prim.Native.Nat.{ℕ}
 use mathlib.Core.Path.{_≡_, sym, ap, _∙_}
 use mathlib.Core.Bool.{Bool, true, _&&_}
@@ -9,11 +9,11 @@ use Rattle.endian.proofs.Tests.{and-both}
 use Rattle.layout.specs.declared.Device.{Device}
 use Rattle.layout.specs.declared.Side.the-variants.{Front, Back}
 use Rattle.block.specs.declared.Time.{Time}
-use Rattle.discovery.specs.declared.Record.{Record}
+use Rattle.discovery.specs.declared.Finding.{Finding}
 use Rattle.discovery.specs.declared.Other.{Other}
 use Rattle.discovery.specs.declared.Answer.the-variants.{Found}
 use Rattle.discovery.specs.Discovery.{discovery}
-use Rattle.device.specs.Device.{Sectors, copyFrom}
+use Rattle.crash.specs.Crash.{Sectors, copyFrom}
 use Rattle.update.specs.declared.Plan.{Plan}
 use Rattle.update.specs.declared.Planned.{Planned}
 use Rattle.update.specs.declared.Planned.the-variants as Planned
@@ -99,7 +99,7 @@ giving v d t r s st n =
       ),
     )
 
-module _ (f b s : List ℕ) (q : Record) (o : Other) (e : discovery f b ≡ Found q o) (n : length s ≡ 204) where
+module _ (f b s : List ℕ) (q : Finding) (o : Other) (e : discovery f b ≡ Found q o) (n : length s ≡ 204) where
   mend-left : mendPlanLeft f b s ≡ encodedMend (Mend.mending f b) s
   mend-left = sym (chosen (encodedMend (Mend.mending f b) s) s (length s) 204 n)
 

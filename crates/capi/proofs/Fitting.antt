@@ -1,4 +1,4 @@
--- The plans that the libraries work out have numbers that fit their widths, and entries within the limits. Assumes nothing.
+-- The plans that the libraries work out have numbers that fit their widths, and entries within the limits.
 use Prim.Native.Nat.{ℕ, _^_, _≤_, _<_}
 use mathlib.Core.Path.{_≡_, refl, sym, ap, subst}
 use mathlib.Core.Bool.{Bool, true, false, cond}
@@ -20,7 +20,7 @@ use Rattle.block.specs.declared.Time.{Time}
 use Rattle.block.specs.declared.Entry.{Entry}
 use Rattle.block.specs.declared.Entry.the-variants.{Unused, Used}
 use Rattle.block.specs.Block.{deviceOf, fieldsOf, readTests}
-use Rattle.discovery.specs.declared.Record.{Record}
+use Rattle.discovery.specs.declared.Finding.{Finding}
 use Rattle.discovery.specs.declared.Other.{Other}
 use Rattle.discovery.specs.declared.Answer.{Answer}
 use Rattle.discovery.specs.declared.Answer.the-variants as Answer
@@ -88,7 +88,7 @@ module _ (f b : List ℕ) (t : Time) (r : List ℕ) (e : updateNumber f b t r �
       (sectors-fit (length r) l, part-fit Front f (s .accepted Front), part-fit Back b (s .accepted Back))
 
 -- a mend of copies in which a record was found
-module _ (f b : List ℕ) (q : Record) (o : Other) (e : discovery f b ≡ Answer.Found q o) where
+module _ (f b : List ℕ) (q : Finding) (o : Other) (e : discovery f b ≡ Answer.Found q o) where
   abbrev c : List ℕ
   c = copyOn (q .side) f b
 

@@ -1,4 +1,4 @@
--- Sizes tested first, an answer's number, and numbers stored into a lent array. Assumes nothing.
+-- Sizes tested first, an answer's number, and numbers stored into a lent array.
 use Prim.Native.Nat.{ℕ}
 use mathlib.Core.Path.{_≡_, sym, ap, _∙_}
 use mathlib.Core.Bool.{Bool, true, false, cond, not, _&&_}

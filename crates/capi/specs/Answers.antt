@@ -1,14 +1,14 @@
 -- The libraries' answers as C has them: the number stands in the library, and the values go into a lent array, which a refusal
--- leaves as it was. Each by the cases of its enum. Assumes nothing.
+-- leaves as it was. Each by the cases of its enum.
 use Prim.Native.Nat.{ℕ}
 use mathlib.Core.Bool.{Bool, true, false}
 use mathlib.Core.List.{List}
 use Rattle.layout.specs.declared.Device.{Device}
 use Rattle.layout.specs.declared.Area.{Area}
 use Rattle.layout.specs.declared.Area.the-variants.{A, B}
-use Rattle.layout.specs.declared.Placement.{Placement}
-use Rattle.layout.specs.declared.Placement.the-variants as Placement
-use Rattle.layout.specs.Answers.{placementValues}
+use Rattle.layout.specs.declared.Located.{Located}
+use Rattle.layout.specs.declared.Located.the-variants as Located
+use Rattle.layout.specs.Answers.{locatedValues}
 use Rattle.block.specs.declared.Time.{Time}
 use Rattle.block.specs.declared.Entry.{Entry}
 use Rattle.block.specs.declared.BlockFields.{BlockFields}
@@ -23,16 +23,16 @@ use Rattle.record.specs.declared.Found.the-variants as Found
 use Rattle.record.specs.declared.Counted.{Counted}
 use Rattle.record.specs.declared.Counted.the-variants as Counted
 use Rattle.record.specs.Answers.{foundValues, countedValues}
-use Rattle.room.specs.declared.RunCount.{RunCount}
-use Rattle.room.specs.declared.RunCount.the-variants as RunCount
-use Rattle.room.specs.declared.FreeTotal.{FreeTotal}
-use Rattle.room.specs.declared.FreeTotal.the-variants as FreeTotal
-use Rattle.room.specs.Answers.{runsValues, totalValues}
-use Rattle.room.specs.declared.Allocation.{Allocation}
-use Rattle.room.specs.declared.Allocation.the-variants as Allocation
-use Rattle.room.specs.declared.Released.{Released}
-use Rattle.room.specs.declared.Released.the-variants as Released
-use Rattle.room.specs.Change.{allocationValues, releaseValues}
+use Rattle.allocation.specs.declared.RunCount.{RunCount}
+use Rattle.allocation.specs.declared.RunCount.the-variants as RunCount
+use Rattle.allocation.specs.declared.FreeTotal.{FreeTotal}
+use Rattle.allocation.specs.declared.FreeTotal.the-variants as FreeTotal
+use Rattle.allocation.specs.Answers.{runsValues, totalValues}
+use Rattle.allocation.specs.declared.Allocation.{Allocation}
+use Rattle.allocation.specs.declared.Allocation.the-variants as Allocation
+use Rattle.allocation.specs.declared.Released.{Released}
+use Rattle.allocation.specs.declared.Released.the-variants as Released
+use Rattle.allocation.specs.Change.{allocationValues, releaseValues}
 
 -- device numbers, a time and a block's numbers from C's arguments
 abbrev pub deviceFrom : ℕ → ℕ → ℕ → Device
@@ -59,9 +59,9 @@ abbrev pub uuidLeft : Verdict → List ℕ → List ℕ → List ℕ
 uuidLeft (Verdict.Accepted x) u s = u
 uuidLeft (Verdict.Refused n) u s = s
 
-abbrev pub placementLeft : Placement → List ℕ → List ℕ
-placementLeft (Placement.At p) s = placementValues (Placement.At p)
-placementLeft (Placement.Refused n) s = s
+abbrev pub locatedLeft : Located → List ℕ → List ℕ
+locatedLeft (Located.At p) s = locatedValues (Located.At p)
+locatedLeft (Located.Refused n) s = s
 
 abbrev pub answerLeft : Answer → List ℕ → List ℕ
 answerLeft (Answer.Found q o) s = answerValues (Answer.Found q o)

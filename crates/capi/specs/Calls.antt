@@ -1,4 +1,4 @@
--- What the calls on plans answer and leave. Assumes nothing.
+-- What the calls on plans answer and leave.
 use Prim.Native.Nat.{ℕ}
 use mathlib.Core.Bool.{Bool, cond, _&&_}
 use mathlib.Core.List.{List}

@@ -1,6 +1,6 @@
 -- What the C calls on plans give, from the libraries' claims: `proofs/Demand.antt` proves `ReadBack`, `Fitting`, `Giving` and
 -- `Mending`. The slices are lent with their sizes: a plan of 148 or 204 bytes, 512 bytes for a store, one number for its
--- sector. Assumes nothing.
+-- sector.
 use Prim.Native.Nat.{ℕ, suc, _^_, _≤_, _<_}
 use mathlib.Core.Path.{_≡_}
 use mathlib.Core.List.{List, [], _∷_}
@@ -10,12 +10,12 @@ use Rattle.refusal.specs.Numbers.{noStore}
 use Rattle.layout.specs.declared.Device.{Device}
 use Rattle.layout.specs.declared.Side.the-variants.{Front, Back}
 use Rattle.block.specs.declared.Time.{Time}
-use Rattle.device.specs.Device.{Sectors, stores, storeIn, groupStart, copyFrom}
+use Rattle.crash.specs.Crash.{Sectors, stores, storeIn, groupStart, copyFrom}
 use Rattle.update.specs.declared.Plan.{Plan}
 use Rattle.update.specs.Update.{updateNumber}
 use Rattle.update.specs.Plan.{planOf}
 use Rattle.update.specs.Demand.{Start, groupsOn}
-use Rattle.discovery.specs.declared.Record.{Record}
+use Rattle.discovery.specs.declared.Finding.{Finding}
 use Rattle.discovery.specs.declared.Other.{Other}
 use Rattle.discovery.specs.declared.Answer.the-variants.{Found}
 use Rattle.discovery.specs.Discovery.{discovery, copyOn}
@@ -37,7 +37,7 @@ ReadBack =
 abbrev pub Fitting : Type 0
 Fitting =
     ((f b : List ℕ) (t : Time) (r : List ℕ) → updateNumber f b t r ≡ 0 → t .seconds < 2 ^ 64 → PlanFit (planOf f b t r))
-    × ((f b : List ℕ) (q : Record) (o : Other) → discovery f b ≡ Found q o → RewriteFit (rewriteOf (copyOn (q .side) f b) q))
+    × ((f b : List ℕ) (q : Finding) (o : Other) → discovery f b ≡ Found q o → RewriteFit (rewriteOf (copyOn (q .side) f b) q))
 
 -- the bytes that an update's plan has after the call
 abbrev pub updatePlan : Device → Sectors → Time → List ℕ → List ℕ → List ℕ
@@ -65,7 +65,7 @@ Giving =
 -- there is none.
 abbrev pub Mending : Type 0
 Mending =
-    (f b s : List ℕ) (q : Record) (o : Other) → discovery f b ≡ Found q o → length s ≡ 204
+    (f b s : List ℕ) (q : Finding) (o : Other) → discovery f b ≡ Found q o → length s ≡ 204
     → (mendPlanNumber f b s ≡ 0)
     × ((mendCount (mendPlanLeft f b s) ≡ length (stores (mendGroups f b)))
     × (((g i : ℕ) → g < 4 → groupStart (mendGroups f b) g ≤ i → i < groupStart (mendGroups f b) (suc g) → mendGroup (mendPlanLeft f b s) i ≡ g)

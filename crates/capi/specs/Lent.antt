@@ -1,4 +1,4 @@
--- Memory that a C caller lends: arrays of numbers of a fixed size, and what is left in them. Assumes nothing.
+-- Memory that a C caller lends: arrays of numbers of a fixed size, and what is left in them.
 use Prim.Native.Nat.{ℕ}
 use mathlib.Core.Bool.{Bool, cond}
 use mathlib.Core.List.{List}

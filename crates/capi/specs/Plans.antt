@@ -1,9 +1,9 @@
 -- Plans as bytes, which a C caller keeps between its calls. Numbers are little-endian; every reading is total: any bytes are read
--- as some plan. An entry of four zeros is unused. Assumes nothing.
+-- as some plan. An entry of four zeros is unused.
 use Prim.Native.Nat.{ℕ, _^_, _<_}
 use mathlib.Core.Path.{_≡_}
 use mathlib.Core.Bool.{true, cond}
-use mathlib.Core.List.{List, [], _∷_}
+use mathlib.Core.List.{List, [], _∷_, flatten}
 use lib.Dec.{eqb}
 use lib.ListN.{getD}
 use Rattle.endian.specs.Bytes.{toLe, window, zeros}
@@ -15,7 +15,7 @@ use Rattle.block.specs.declared.Entry.{Entry}
 use Rattle.block.specs.declared.BlockFields.{BlockFields}
 use Rattle.block.specs.Entry.{entryOf, entryAllowed}
 use Rattle.block.specs.Block.{number}
-use Rattle.block.specs.Writing.{holdingOf, join}
+use Rattle.block.specs.Writing.{holdingOf}
 use Rattle.block.specs.Demand.{EntryFits}
 use Rattle.update.specs.declared.Part.{Part}
 use Rattle.update.specs.declared.Plan.{Plan}
@@ -29,7 +29,7 @@ use Rattle.layout.specs.Answers.{sideNumber, areaNumber}
 -- an entry, 20 bytes: seconds, nanoseconds, used bytes, CRC
 unfoldable pub encodedEntry : Entry → List ℕ
 encodedEntry e =
-    join (toLe 8 (holdingOf e .seconds) ∷ toLe 4 (holdingOf e .nanoseconds) ∷ toLe 4 (holdingOf e .bytes) ∷ toLe 4 (holdingOf e .checksum) ∷ [])
+    flatten (toLe 8 (holdingOf e .seconds) ∷ toLe 4 (holdingOf e .nanoseconds) ∷ toLe 4 (holdingOf e .bytes) ∷ toLe 4 (holdingOf e .checksum) ∷ [])
 
 unfoldable pub decodedEntry : List ℕ → Entry
 decodedEntry s = entryOf (number s 0 8) (number s 8 4) (number s 12 4) (number s 16 4)
@@ -37,7 +37,7 @@ decodedEntry s = entryOf (number s 0 8) (number s 8 4) (number s 12 4) (number s
 -- a block's numbers, 56 bytes: S, L, R, entry a, entry b
 unfoldable pub encodedFields : BlockFields → List ℕ
 encodedFields g =
-    join
+    flatten
     (toLe 8 (g .device .sectors) ∷ toLe 4 (g .device .metadata) ∷ toLe 4 (g .device .reserved) ∷ encodedEntry (g .a) ∷ encodedEntry (g .b) ∷ [])
 
 unfoldable pub decodedFields : List ℕ → BlockFields
@@ -50,14 +50,14 @@ decodedFields s =
 
 -- one side of an update, 72 bytes: the area's sector, the block's, the block's numbers
 unfoldable pub encodedPart : Part → List ℕ
-encodedPart p = join (toLe 8 (p .area) ∷ toLe 8 (p .block) ∷ encodedFields (p .fields) ∷ [])
+encodedPart p = flatten (toLe 8 (p .area) ∷ toLe 8 (p .block) ∷ encodedFields (p .fields) ∷ [])
 
 unfoldable pub decodedPart : List ℕ → Part
 decodedPart s = record { area = number s 0 8; block = number s 8 8; fields = decodedFields (window s 16 56) }
 
 -- an update's plan, 148 bytes: the record's sectors, the front, the back
 unfoldable pub encodedPlan : Plan → List ℕ
-encodedPlan p = join (toLe 4 (p .sectors) ∷ encodedPart (p .front) ∷ encodedPart (p .back) ∷ [])
+encodedPlan p = flatten (toLe 4 (p .sectors) ∷ encodedPart (p .front) ∷ encodedPart (p .back) ∷ [])
 
 unfoldable pub decodedPlan : List ℕ → Plan
 decodedPlan s = record { sectors = number s 0 4; front = decodedPart (window s 4 72); back = decodedPart (window s 76 72) }
@@ -65,7 +65,7 @@ decodedPlan s = record { sectors = number s 0 4; front = decodedPart (window s 4
 -- a mend's last store, 64 bytes: its sector, the block's numbers; zeros where there is none
 unfoldable pub encodedLast : Last → List ℕ
 encodedLast Last.Absent = zeros 64
-encodedLast (Last.Blank n g) = join (toLe 8 n ∷ encodedFields g ∷ [])
+encodedLast (Last.Blank n g) = flatten (toLe 8 n ∷ encodedFields g ∷ [])
 
 -- 0 where there is none
 abbrev pub lastNumber : Last → ℕ
@@ -79,7 +79,7 @@ decodedLast k s = cond (eqb k 0) Last.Absent (Last.Blank (number s 0 8) (decoded
 -- and sectors; the empty block's numbers, the part, the last store
 unfoldable pub encodedRewrite : Rewrite → List ℕ
 encodedRewrite p =
-    join
+    flatten
     ((1 ∷ sideNumber (p .kept) ∷ areaNumber (p .area) ∷ lastNumber (p .last) ∷ [])
     ∷ toLe 4 (p .bytes)
     ∷ toLe 4 (p .sectors)

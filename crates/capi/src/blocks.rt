@@ -1,22 +1,22 @@
-// Signature blocks and places, as C has them. Assumes nothing.
+// Signature blocks and places, as C has them.
 ghost use mathlib.Core.Path.{_≡_};
 ghost use mathlib.Core.Bool.{_&&_};
 ghost use lib.ListN.{length};
 ghost use Rattle.refusal.specs.Tests.{first};
-ghost use Rattle.layout.specs.Places.{placement};
+ghost use Rattle.layout.specs.Places.{located};
 ghost use Rattle.block.specs.Block.{reading};
 ghost use Rattle.block.specs.Entry.{entryOf};
 ghost use Rattle.block.specs.Writing.{writeTests, written};
 ghost use Rattle.discovery.specs.Discovery.{numberOf};
 ghost use Rattle.capi.specs.Lent.{has, numberIf, leftIf};
-ghost use Rattle.capi.specs.Answers.{deviceFrom, fieldsFrom, verdictLeft, uuidLeft, placementLeft};
+ghost use Rattle.capi.specs.Answers.{deviceFrom, fieldsFrom, verdictLeft, uuidLeft, locatedLeft};
 ghost use Rattle.block.specs.Answers.{blockNumbers};
-ghost use Rattle.layout.specs.Answers.{placementNumber};
+ghost use Rattle.layout.specs.Answers.{locatedNumber};
 use crate::lent;
 use block::BlockFields;
 use block::Verdict;
 use layout::Device;
-use layout::Placement;
+use layout::Located;
 
 // An accepted block's numbers, into an array of eleven.
 fn tell_block(x: BlockFields, numbers: &mut [u64])
@@ -55,7 +55,7 @@ pub extern "C" fn amseokbin_block_read(
     ensures { λ n. ⌜ n ≡ numberIf (has (now (numbers .entry)) 11 && (has (now (pool .entry)) 32 && has (now (device .entry)) 32)) (numberOf (reading (now (block .entry)) .verdict)) ⌝ }
     ensures { λ _. ⌜ now (numbers .exit) ≡ leftIf (has (now (numbers .entry)) 11 && (has (now (pool .entry)) 32 && has (now (device .entry)) 32)) (verdictLeft (reading (now (block .entry)) .verdict) (now (numbers .entry))) (now (numbers .entry)) ⌝ }
     ensures { λ _. ⌜ now (pool .exit) ≡ leftIf (has (now (numbers .entry)) 11 && (has (now (pool .entry)) 32 && has (now (device .entry)) 32)) (uuidLeft (reading (now (block .entry)) .verdict) (reading (now (block .entry)) .pool) (now (pool .entry))) (now (pool .entry)) ⌝ }
-    ensures { λ _. ⌜ now (device .exit) ≡ leftIf (has (now (numbers .entry)) 11 && (has (now (pool .entry)) 32 && has (now (device .entry)) 32)) (uuidLeft (reading (now (block .entry)) .verdict) (reading (now (block .entry)) .device) (now (device .entry))) (now (device .entry)) ⌝ }
+    ensures { λ _. ⌜ now (device .exit) ≡ leftIf (has (now (numbers .entry)) 11 && (has (now (pool .entry)) 32 && has (now (device .entry)) 32)) (uuidLeft (reading (now (block .entry)) .verdict) (reading (now (block .entry)) .blockdev) (now (device .entry))) (now (device .entry)) ⌝ }
 {
     let sized = (numbers.len() == 11) & ((pool.len() == 32) & (device.len() == 32));
     if !sized {
@@ -64,7 +64,7 @@ pub extern "C" fn amseokbin_block_read(
     let r = block::read(block);
     let verdict = r.verdict;
     let p = r.pool;
-    let u = r.device;
+    let u = r.blockdev;
     match verdict {
         Verdict::Refused(n) => n,
         Verdict::Accepted(x) => {
@@ -120,8 +120,8 @@ pub extern "C" fn amseokbin_places(
     reserved: u32,
     places: &mut [u64],
 ) -> u8
-    ensures { λ n. ⌜ n ≡ numberIf (has (now (places .entry)) 12) (placementNumber (placement (deviceFrom sectors metadata reserved))) ⌝ }
-    ensures { λ _. ⌜ now (places .exit) ≡ leftIf (has (now (places .entry)) 12) (placementLeft (placement (deviceFrom sectors metadata reserved)) (now (places .entry))) (now (places .entry)) ⌝ }
+    ensures { λ n. ⌜ n ≡ numberIf (has (now (places .entry)) 12) (locatedNumber (located (deviceFrom sectors metadata reserved))) ⌝ }
+    ensures { λ _. ⌜ now (places .exit) ≡ leftIf (has (now (places .entry)) 12) (locatedLeft (located (deviceFrom sectors metadata reserved)) (now (places .entry))) (now (places .entry)) ⌝ }
 {
     let sized = places.len() == 12;
     if !sized {
@@ -134,8 +134,8 @@ pub extern "C" fn amseokbin_places(
     };
     let p = layout::locate(d);
     match p {
-        Placement::Refused(n) => n,
-        Placement::At(at) => {
+        Located::Refused(n) => n,
+        Located::At(at) => {
             let f = at.front;
             let b = at.back;
             let v = [

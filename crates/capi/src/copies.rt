@@ -1,4 +1,4 @@
-// The two copies, as C has them: discovery, reading, laying, formatting. Assumes nothing.
+// The two copies, as C has them: discovery, reading, laying, formatting.
 ghost use mathlib.Core.Path.{_≡_};
 ghost use lib.ListN.{length};
 ghost use Rattle.refusal.specs.Tests.{first};

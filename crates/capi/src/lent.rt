@@ -1,4 +1,4 @@
-// Memory that a C caller lends. Assumes nothing.
+// Memory that a C caller lends.
 ghost use mathlib.Core.Path.{_≡_};
 ghost use Rattle.capi.specs.Lent.{replaced};
 

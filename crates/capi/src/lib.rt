@@ -1,5 +1,5 @@
 // What C calls: include/amseokbin.h, function by function. Each takes C's numbers and slices, calls a library, and gives its
-// answer as a refusal number and as numbers in lent arrays. Assumes nothing.
+// answer as a refusal number and as numbers in lent arrays.
 mod blocks;
 mod copies;
 mod lent;

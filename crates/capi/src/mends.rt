@@ -1,4 +1,4 @@
-// Mends, as C has them: a plan in bytes, and its stores. Assumes nothing.
+// Mends, as C has them: a plan in bytes, and its stores.
 ghost use mathlib.Core.Path.{_≡_};
 ghost use Rattle.capi.specs.Calls.{mendPlanNumber, mendPlanLeft, mendCount, mendGroup, mendStoreNumber, mendStoreBytes, mendStoreSector};
 use crate::lent;

@@ -1,4 +1,4 @@
-// Plans as bytes, for a C caller to keep: written, and read back. Any bytes are read as some plan. Assumes nothing.
+// Plans as bytes, for a C caller to keep: written, and read back. Any bytes are read as some plan.
 ghost use mathlib.Core.Path.{_≡_};
 ghost use lib.ListN.{getD};
 ghost use Rattle.layout.specs.Answers.{sideNumber, areaNumber};

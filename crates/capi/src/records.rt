@@ -1,4 +1,4 @@
-// Records and free room, as C has them. Assumes nothing.
+// Records and free room, as C has them.
 ghost use mathlib.Core.Path.{_≡_};
 ghost use mathlib.Core.List.{[], _∷_};
 ghost use mathlib.Core.Bool.{cond};
@@ -11,8 +11,8 @@ ghost use Rattle.items.specs.Items.{segments};
 ghost use Rattle.items.specs.Making.{beginTests, begun, unless};
 ghost use Rattle.record.specs.Accept.{recordTests};
 ghost use Rattle.record.specs.Answers.{segmentAnswer, foundNumber, segmentsAnswer, segmentsLeft, countedNumber};
-ghost use Rattle.room.specs.Answers.{totalAnswer, totalNumber, tableAnswer, tableLeft, numbersAnswer, numbersLeft, runsNumber};
-ghost use Rattle.room.specs.Change.{allocateAnswer, allocateLeft, releaseAnswer, releaseLeft, allocationNumber, releaseNumber};
+ghost use Rattle.allocation.specs.Answers.{totalAnswer, totalNumber, tableAnswer, tableLeft, numbersAnswer, numbersLeft, runsNumber};
+ghost use Rattle.allocation.specs.Change.{allocateAnswer, allocateLeft, releaseAnswer, releaseLeft, allocationNumber, releaseNumber};
 ghost use Rattle.capi.specs.Lent.{has, numberIf, leftIf};
 ghost use Rattle.capi.specs.Answers.{deviceFrom, segmentLeft, handedLeft, totalLeft, runsLeft, allocationLeft, releaseNumbers};
 use crate::lent;
@@ -20,10 +20,10 @@ use items::Head;
 use layout::Device;
 use record::Counted;
 use record::Found;
-use room::Allocation;
-use room::FreeTotal;
-use room::Released;
-use room::RunCount;
+use allocation::Allocation;
+use allocation::FreeTotal;
+use allocation::Released;
+use allocation::RunCount;
 use runs::Run;
 
 // Checks a record on a device.
@@ -176,7 +176,7 @@ pub extern "C" fn amseokbin_free_total(
         metadata,
         reserved,
     };
-    let a = room::free_total(d, content);
+    let a = allocation::free_total(d, content);
     match a {
         FreeTotal::Refused(n) => n,
         FreeTotal::Sectors(k) => {
@@ -210,7 +210,7 @@ pub extern "C" fn amseokbin_free_runs(
         metadata,
         reserved,
     };
-    let a = room::free_run_numbers(d, content, table);
+    let a = allocation::free_run_numbers(d, content, table);
     match a {
         RunCount::Refused(n) => n,
         RunCount::Runs(k) => {
@@ -265,7 +265,7 @@ pub extern "C" fn amseokbin_free_run_table(
     ensures { λ _. ⌜ now (runs .exit) ≡ leftIf (has (now (runs .entry)) 1) (runsLeft (tableAnswer (deviceFrom sectors metadata reserved) (now (content .entry)) (length (now (table .entry)))) (now (runs .entry))) (now (runs .entry)) ⌝ }
 {
     let size = sectors_if(sectors, runs.len());
-    let a = room::free_runs_of(size, metadata, reserved, content, table);
+    let a = allocation::free_runs_of(size, metadata, reserved, content, table);
     tell_runs(a, runs)
 }
 
@@ -294,7 +294,7 @@ pub extern "C" fn amseokbin_allocate(
         metadata,
         reserved,
     };
-    let a = room::allocate(d, content, kind, wanted, changed);
+    let a = allocation::allocate(d, content, kind, wanted, changed);
     match a {
         Allocation::Refused(n) => n,
         Allocation::Placed(start, len) => {
@@ -329,7 +329,7 @@ pub extern "C" fn amseokbin_release(
         metadata,
         reserved,
     };
-    let a = room::release(d, content, position as usize, changed);
+    let a = allocation::release(d, content, position as usize, changed);
     match a {
         Released::Refused(n) => n,
         Released::Length(len) => {

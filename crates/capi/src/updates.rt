@@ -1,4 +1,4 @@
-// Updates, as C has them: a plan in bytes, and its stores. Assumes nothing.
+// Updates, as C has them: a plan in bytes, and its stores.
 ghost use mathlib.Core.Path.{_≡_};
 ghost use Rattle.update.specs.Update.{updateNumber};
 ghost use Rattle.capi.specs.Calls.{updatePlanNumber, updatePlanLeft, updateCount, updateGroup, updateStoreNumber, updateStoreBytes, updateStoreSector};

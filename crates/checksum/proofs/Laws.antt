@@ -1,4 +1,4 @@
--- The laws that callers cite: the checksum in pieces, and its width. Assumes nothing.
+-- The laws that callers cite: the checksum in pieces, and its width.
 use Prim.Native.Nat.{ℕ, suc, _+_, _*_, _%_, _^_, _≤_, _<_}
 use mathlib.Core.Path.{_≡_, refl, sym, ap, _∙_}
 use mathlib.Core.List.{List, [], _∷_, _++_}

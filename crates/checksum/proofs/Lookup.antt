@@ -1,4 +1,4 @@
--- From single bits to table lookup, four bits at a time. Assumes nothing.
+-- From single bits to table lookup, four bits at a time.
 use Prim.Native.Nat.{ℕ, zero, suc, _+_, _*_, _/_, _%_, _^_, _≤_, _<_}
 use mathlib.Core.Path.{_≡_, refl, sym, ap, ap₂, _∙_}
 use mathlib.Core.List.{List, [], _∷_, _++_, map}

@@ -1,4 +1,4 @@
--- Laws of the register's shifts. Of the polynomial they use only that it is 32 bits wide. Assumes nothing.
+-- Laws of the register's shifts. Of the polynomial they use only that it is 32 bits wide.
 use Prim.Native.Nat.{ℕ, zero, suc, _+_, _*_, _/_, _%_, _^_, _<_}
 use mathlib.Core.Path.{_≡_, refl, sym, ap, ap₂, _∙_}
 use mathlib.Core.Bool.{Bool, true, false, cond}

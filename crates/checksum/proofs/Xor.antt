@@ -1,4 +1,4 @@
--- Exclusive or is associative, and works on the lowest bit and the others apart. Assumes nothing.
+-- Exclusive or is associative, and works on the lowest bit and the others apart.
 use Prim.Native.Nat.{ℕ, zero, suc, _+_, _*_, _/_, _%_, _<_}
 use mathlib.Core.Path.{_≡_, refl, sym, ap, ap₂, _∙_}
 use native.Mathlib.Nat.{mod-lt, not-suc-le-zero, le-of-suc-le-suc}

@@ -1,5 +1,5 @@
 -- Document 01's CRC32: the reflected form, its register 32 bits wide, begun with all ones, its result inverted.
--- Bit by bit, as a textbook has it. Assumes nothing.
+-- Bit by bit, as a textbook has it.
 use Prim.Native.Nat.{ℕ, zero, suc, _/_, _%_}
 use mathlib.Core.Bool.{cond}
 use mathlib.Core.List.{List, [], _∷_}

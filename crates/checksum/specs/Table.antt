@@ -1,6 +1,6 @@
 -- The lookup table of the checksum. `far`: row i has, for each byte, the register that is left of it once it has gone
 -- with 8 * (i + 4) bits behind it. `near`: the same for each half of a byte, with 4 * i bits behind it.
--- Private functions ask it of the table that they are lent. Assumes nothing.
+-- Private functions ask it of the table that they are lent.
 use Prim.Native.Nat.{ℕ, _+_, _*_, _<_}
 use mathlib.Core.Path.{_≡_}
 use mathlib.Core.List.{List}

@@ -1,5 +1,5 @@
 // The checksum's lookup table: four rows of 256 entries, for a byte with 32 bits and more behind it, then eight rows of
-// 16, for half a byte. The entries follow from the polynomial; the proof computes each of them. Assumes nothing.
+// 16, for half a byte. The entries follow from the polynomial; the proof computes each of them.
 ghost use Rattle.checksum.specs.Table.{Table};
 
 // The table, row after row.

@@ -1,4 +1,4 @@
--- A signed number that is not negative is an unsigned one, whatever its width. Assumes nothing.
+-- A signed number that is not negative is an unsigned one, whatever its width.
 use Prim.Native.Nat.{ℕ, _^_, _<_}
 use mathlib.Core.Path.{_≡_, sym, ap, subst, _∙_}
 use mathlib.Core.Bool.{Bool, false, true≢false}

@@ -13,8 +13,8 @@ use crate::stores;
 use crate::stores::Work;
 use block::Time;
 use discovery::Answer;
-use room::Allocation;
-use room::Released;
+use allocation::Allocation;
+use allocation::Released;
 use segments::Segment;
 use text::Text;
 use update::Planned;
@@ -169,7 +169,7 @@ fn allocate_in(
     r: &[u8],
 ) -> u8 {
     let mut out = [0u8; copies::RECORD];
-    let a = room::allocate(look.device, r, kind, sectors, &mut out);
+    let a = allocation::allocate(look.device, r, kind, sectors, &mut out);
     match a {
         Allocation::Refused(n) => facts::refuse(path, n),
         Allocation::Placed(start, len) => {
@@ -206,7 +206,7 @@ fn release_in(
     r: &[u8],
 ) -> u8 {
     let mut out = [0u8; copies::RECORD];
-    let a = room::release(look.device, r, position as usize, &mut out);
+    let a = allocation::release(look.device, r, position as usize, &mut out);
     match a {
         Released::Refused(n) => facts::refuse(path, n),
         Released::Length(len) => {

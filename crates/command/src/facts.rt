@@ -13,7 +13,7 @@ use block::Verdict;
 use calendar::Dated;
 use discovery::Answer;
 use discovery::Other;
-use discovery::Record;
+use discovery::Finding;
 use layout::Area;
 use layout::Side;
 use record::Counted;
@@ -53,7 +53,7 @@ pub(crate) fn time_of(h: Holding) -> Time {
 }
 
 // The time of a found record.
-pub(crate) fn record_time(r: Record) -> Time {
+pub(crate) fn record_time(r: Finding) -> Time {
     Time {
         seconds: r.seconds,
         nanoseconds: r.nanoseconds,
@@ -262,7 +262,7 @@ pub(crate) fn block_unread(front_marks: &[u8], back_marks: &[u8]) -> bool {
 }
 
 // The line for a record that may not be the newest.
-fn perhaps(r: Record, o: Other, unread: bool) -> Text {
+fn perhaps(r: Finding, o: Other, unread: bool) -> Text {
     let side = r.side;
     let area = r.area;
     let place = add_area(add_side(Text::new().add(b"perhaps "), side).add(b" "), area);
@@ -302,7 +302,7 @@ fn print_block(ok: bool, r: Reading) -> bool {
     };
     let d = x.device;
     let pool = r.pool;
-    let uuid = r.device;
+    let uuid = r.blockdev;
     let p = print_uuid(ok, b"pool ", pool);
     let a = print_uuid(p, b"device ", uuid);
     let sizes = Text::new()

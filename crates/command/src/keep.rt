@@ -207,8 +207,8 @@ fn same_pool(r: Reading, q: Reading) -> bool {
     };
     let a = r.pool;
     let b = q.pool;
-    let c = r.device;
-    let d = q.device;
+    let c = r.blockdev;
+    let d = q.blockdev;
     endian::same(&a, &b) & endian::same(&c, &d)
 }
 

@@ -1,4 +1,4 @@
-// What each refusal number means, and what to do then: one table, for every word. Assumes nothing.
+// What each refusal number means, and what to do then: one table, for every word.
 use text::Text;
 
 // A text with the number of a refusal and its sentence.

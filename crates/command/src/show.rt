@@ -9,9 +9,9 @@ use crate::sentences;
 use block::Reading;
 use discovery::Answer;
 use discovery::Other;
-use discovery::Record;
-use room::FreeTotal;
-use room::RunCount;
+use discovery::Finding;
+use allocation::FreeTotal;
+use allocation::RunCount;
 use runs::Run;
 use text::Text;
 
@@ -20,7 +20,7 @@ const RUNS: usize = 2 * (copies::RECORD / items::ITEM_BYTES + 1);
 
 // What is known of the record that is shown.
 pub(crate) struct Shown {
-    pub found: Record,
+    pub found: Finding,
     pub other: Other,
     pub step: bool,
     pub unread: bool,
@@ -35,7 +35,7 @@ fn add_yes(t: Text, yes: bool) -> Text {
 
 // The number of free runs of an accepted record, and of its free sectors; 0 of any other.
 fn run_count(look: Look, r: &[u8]) -> u64 {
-    let n = room::count_runs(look.device, r);
+    let n = allocation::count_runs(look.device, r);
     match n {
         RunCount::Runs(k) => k,
         RunCount::Refused(_) => 0,
@@ -43,7 +43,7 @@ fn run_count(look: Look, r: &[u8]) -> u64 {
 }
 
 fn free_sectors(look: Look, r: &[u8]) -> u64 {
-    let n = room::free_total(look.device, r);
+    let n = allocation::free_total(look.device, r);
     match n {
         FreeTotal::Sectors(k) => k,
         FreeTotal::Refused(_) => 0,
@@ -148,7 +148,7 @@ fn row(t: Text, start: u64, sectors: u64) -> Text {
 // The lines of all free runs: one more than segments at the most.
 fn runs(before: bool, plain: bool, look: Look, r: &[u8]) -> bool {
     let mut table = [0u64; RUNS];
-    room::free_run_numbers(look.device, r, &mut table);
+    allocation::free_run_numbers(look.device, r, &mut table);
     run_lines(before, plain, run_count(look, r), &table)
 }
 
@@ -185,7 +185,7 @@ fn difference(a: u64, b: u64) -> u64 {
 // Prints UUIDs.
 fn uuids(ok: bool, first: &[u8], second: &[u8], q: Reading) -> bool {
     let pool = q.pool;
-    let uuid = q.device;
+    let uuid = q.blockdev;
     facts::print_uuid(facts::print_uuid(ok, first, pool), second, uuid)
 }
 

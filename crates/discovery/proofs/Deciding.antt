@@ -1,4 +1,4 @@
--- What two copies give, by what reading their blocks answered. Assumes nothing.
+-- What two copies give, by what reading their blocks answered.
 use Prim.Native.Nat.{ℕ}
 use mathlib.Core.Path.{_≡_, refl, sym, ap, ap₂, _∙_}
 use mathlib.Core.Bool.{Bool, true, false, cond, _&&_}

@@ -1,4 +1,4 @@
--- The record that discovery names is whole, and none whole is later. Assumes nothing.
+-- The record that discovery names is whole, and none whole is later.
 use Prim.Native.Nat.{ℕ}
 use mathlib.Core.Path.{_≡_, refl, sym, ap, ap₂, subst, _∙_}
 use mathlib.Core.Bool.{Bool, true, false, cond, _&&_, true≢false}
@@ -21,7 +21,7 @@ use Rattle.block.specs.Writing.{holdingOf}
 use Rattle.block.proofs.Times.{never-later, later-asym, not-later-trans, same-not-later}
 use Rattle.discovery.specs.declared.Present.{Present}
 use Rattle.discovery.specs.declared.Present.the-variants.{Nothing, At}
-use Rattle.discovery.specs.declared.Record.{Record}
+use Rattle.discovery.specs.declared.Finding.{Finding}
 use Rattle.discovery.specs.declared.Other.{Other}
 use Rattle.discovery.specs.declared.Other.the-variants.{Both, One}
 use Rattle.discovery.specs.declared.Answer.{Answer}
@@ -120,10 +120,10 @@ module _ (c : List ℕ) (f : BlockFields) where
   present-nothing = none-from (newest f)
 
 -- an answer is one of the two, and says one record
-pub refused-found : (r : Record) (o : Other) (n : ℕ) → Refused n ≡ Found r o → ⊥
+pub refused-found : (r : Finding) (o : Other) (n : ℕ) → Refused n ≡ Found r o → ⊥
 refused-found r o n e = let z : _≡_ {A = ℕ} 0 1 = cc in omega arith
 
-pub found-same : (r : Record) (o : Other) (q : Record) (p : Other) → Found q p ≡ Found r o → q ≡ r
+pub found-same : (r : Finding) (o : Other) (q : Finding) (p : Other) → Found q p ≡ Found r o → q ≡ r
 found-same r o q p e = cc
 
 refused-accepted : (c : List ℕ) (n : ℕ) (e : BlockFields) → readingIn c .verdict ≡ Verdict.Refused n → readingIn c .verdict ≡ Verdict.Accepted e → ⊥
@@ -149,11 +149,11 @@ carried c g u k h a l n e z q w =
     not-later-trans (timeOf (holdingOf (entryIn e z))) (timeOf k) (timeOf h)
     (ap (λ (j : BlockFields). laterThan (timeOf (holdingOf (entryIn j z))) (timeOf k)) (sym i) ∙ l .latest z (ap (λ (j : BlockFields). whole c j z) i ∙ w)) n
 
-module _ (f b : List ℕ) (r : Record) (o : Other) where
+module _ (f b : List ℕ) (r : Finding) (o : Other) where
   -- a copy's present record, no whole area of the other copy later, is the newest
   build : (s : Side) (g : BlockFields) (x : Area) (h : Holding) → readingIn (copyOn s f b) .verdict ≡ Verdict.Accepted g → Latest (copyOn s f b) g x h
       → NoneLater (copyOn (otherSide s) f b) h → recordAt s x h ≡ r → Newest f b r
-  build s g x h a l n d = subst (λ (z : Record). Newest f b z) d
+  build s g x h a l n d = subst (λ (z : Finding). Newest f b z) d
       (record {
         fields = g;
         accepted = a;
@@ -220,7 +220,7 @@ module _ (f b : List ℕ) (r : Record) (o : Other) where
       go false k = absurd (refused-found r o identity (sym (ap (λ (t : Bool). cond t (togetherOf f b (present f x) (present b y)) (Refused identity)) k) ∙ e))
 
 -- what discovery finds is whole, and no whole record is later
-pub newest-found : (f b : List ℕ) (r : Record) (o : Other) → discovery f b ≡ Found r o → Newest f b r
+pub newest-found : (f b : List ℕ) (r : Finding) (o : Other) → discovery f b ≡ Found r o → Newest f b r
 unfolding discovery
 newest-found f b r o e = go (sized f b) refl
   where

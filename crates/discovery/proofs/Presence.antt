@@ -1,4 +1,4 @@
--- A copy's present record, by which areas are whole. Assumes nothing.
+-- A copy's present record, by which areas are whole.
 use Prim.Native.Nat.{ℕ}
 use mathlib.Core.Path.{_≡_, refl, sym, ap, _∙_}
 use mathlib.Core.Bool.{Bool, true, false, cond, true≢false}

@@ -1,4 +1,4 @@
--- What `in_step` answers, test by test. Assumes nothing.
+-- What `in_step` answers, test by test.
 use mathlib.Core.Path.{_≡_, sym, ap, _∙_}
 use mathlib.Core.Bool.{Bool, true, false, _&&_}
 

@@ -1,5 +1,5 @@
 -- What is seen of two copies at once: whether they are in step follows from their present records and from what discovery
--- answers for them, with no checksum and no comparison more. Assumes nothing.
+-- answers for them, with no checksum and no comparison more.
 use Prim.Native.Nat.{ℕ}
 use mathlib.Core.Path.{_≡_, refl, sym, ap, ap₂, _∙_}
 use mathlib.Core.Bool.{Bool, true, false, cond, _&&_}

@@ -1,8 +1,8 @@
--- The numbers of an answer: document 01's refusal number, 0 for none, and the values of each case. Assumes nothing.
+-- The numbers of an answer: document 01's refusal number, 0 for none, and the values of each case.
 use Prim.Native.Nat.{ℕ}
 use mathlib.Core.List.{List, [], _∷_}
 use Rattle.layout.specs.Answers.{sideNumber, areaNumber}
-use Rattle.discovery.specs.declared.Record.{Record}
+use Rattle.discovery.specs.declared.Finding.{Finding}
 use Rattle.discovery.specs.declared.Other.{Other}
 use Rattle.discovery.specs.declared.Other.the-variants.{Both, One}
 use Rattle.discovery.specs.declared.Answer.{Answer}
@@ -14,7 +14,7 @@ otherNumber Both = 0
 otherNumber (One n) = n
 
 -- what was found: side, area, bytes, seconds, nanoseconds, the other copy
-abbrev pub foundNumbers : Record → Other → List ℕ
+abbrev pub foundNumbers : Finding → Other → List ℕ
 foundNumbers q o = sideNumber (q .side) ∷ areaNumber (q .area) ∷ q .bytes ∷ q .seconds ∷ q .nanoseconds ∷ otherNumber o ∷ []
 
 -- what discovery answers

@@ -1,4 +1,4 @@
--- A copy as it is lent, and its present record: document 01, 'Where things lie' and 'Discovery'. Assumes nothing.
+-- A copy as it is lent, and its present record: document 01, 'Where things lie' and 'Discovery'.
 use Prim.Native.Nat.{ℕ}
 use mathlib.Core.Bool.{Bool, true, false, cond, _&&_}
 use mathlib.Core.List.{List}

@@ -1,4 +1,4 @@
--- Discovery over two copies, in step, and reading the found record: document 01, 'Discovery'. Assumes nothing.
+-- Discovery over two copies, in step, and reading the found record: document 01, 'Discovery'.
 use Prim.Native.Nat.{ℕ}
 use mathlib.Core.Bool.{Bool, true, false, cond, _&&_}
 use mathlib.Core.List.{List}
@@ -19,7 +19,7 @@ use Rattle.block.specs.Entry.{laterThan, sameTime, timeOf}
 use Rattle.block.specs.Writing.{holdingOf}
 use Rattle.discovery.specs.declared.Present.{Present}
 use Rattle.discovery.specs.declared.Present.the-variants.{Nothing, At}
-use Rattle.discovery.specs.declared.Record.{Record}
+use Rattle.discovery.specs.declared.Finding.{Finding}
 use Rattle.discovery.specs.declared.Other.{Other}
 use Rattle.discovery.specs.declared.Other.the-variants.{Both, One}
 use Rattle.discovery.specs.declared.Answer.{Answer}
@@ -28,7 +28,7 @@ use Rattle.discovery.specs.declared.View.{View}
 use Rattle.discovery.specs.Copy.{areaBytes, entryIn, whole, newest, present, readingIn}
 
 -- which copy and area, the length and time
-abbrev pub recordAt : Side → Area → Holding → Record
+abbrev pub recordAt : Side → Area → Holding → Finding
 recordAt s x h = record { side = s; area = x; bytes = h .bytes; seconds = h .seconds; nanoseconds = h .nanoseconds }
 
 -- one copy read alone, with the other's refusal number
@@ -56,7 +56,7 @@ sameDevice f g =
     && (eqb (f .device .metadata) (g .device .metadata) && eqb (f .device .reserved) (g .device .reserved))
 
 abbrev pub sameUuids : Reading → Reading → Bool
-sameUuids r q = same (r .pool) (q .pool) && same (r .device) (q .device)
+sameUuids r q = same (r .pool) (q .pool) && same (r .blockdev) (q .blockdev)
 
 -- the refusal number of a verdict
 abbrev pub numberOf : Verdict → ℕ
@@ -111,7 +111,7 @@ copyOn Front f b = f
 copyOn Back f b = b
 
 -- the bytes of a found record
-abbrev pub recordBytes : Record → List ℕ → List ℕ → List ℕ
+abbrev pub recordBytes : Finding → List ℕ → List ℕ → List ℕ
 recordBytes r f b = areaBytes (copyOn (r .side) f b) (r .area) (r .bytes)
 
 -- what `read_found` answers: discovery's answer, or 1 where the record has no room, tested last

@@ -1,5 +1,5 @@
 -- What a found record is: the present record of an accepted copy, whole, and no whole area of an accepted copy is later.
--- The theorem is `proofs/Latest.antt`, `newest-found`. Assumes nothing.
+-- The theorem is `proofs/Latest.antt`, `newest-found`.
 use Prim.Native.Nat.{ℕ}
 use mathlib.Core.Path.{_≡_}
 use mathlib.Core.Bool.{true, false}
@@ -11,16 +11,16 @@ use Rattle.block.specs.declared.BlockFields.{BlockFields}
 use Rattle.block.specs.declared.Verdict.the-variants as Verdict
 use Rattle.block.specs.Entry.{laterThan, timeOf}
 use Rattle.block.specs.Writing.{holdingOf}
-use Rattle.discovery.specs.declared.Record.{Record}
+use Rattle.discovery.specs.declared.Finding.{Finding}
 use Rattle.discovery.specs.declared.Present.the-variants.{At}
 use Rattle.discovery.specs.Copy.{entryIn, whole, present, readingIn}
 use Rattle.discovery.specs.Discovery.{recordAt, copyOn}
 
 -- the time of a found record
-abbrev pub timeAt : Record → Time
+abbrev pub timeAt : Finding → Time
 timeAt r = record { seconds = r .seconds; nanoseconds = r .nanoseconds }
 
-pub record Newest (f b : List ℕ) (r : Record) : Type 0 where
+pub record Newest (f b : List ℕ) (r : Finding) : Type 0 where
   pub fields : BlockFields
   pub accepted : readingIn (copyOn (r .side) f b) .verdict ≡ Verdict.Accepted fields
   pub its-present : present (copyOn (r .side) f b) fields ≡ At (r .area) (holdingOf (entryIn fields (r .area)))

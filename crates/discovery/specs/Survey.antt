@@ -1,5 +1,5 @@
 -- How `survey` knows whether two copies are in step from their present records and from what discovery answers for them, without
--- a second look at the copies. Private contracts cite this; nothing public does. Assumes nothing.
+-- a second look at the copies. Private contracts cite this; nothing public does.
 use Prim.Native.Nat.{ℕ}
 use mathlib.Core.Bool.{Bool, true, false}
 use mathlib.Core.List.{List}

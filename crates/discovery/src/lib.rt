@@ -1,5 +1,5 @@
 // Discovery: the newest whole record of two copies, or the number by which there is none; reading it; whether the copies
-// are in step. A copy is lent as the header's 8 sectors and as much of each area as a record can fill. Assumes nothing.
+// are in step. A copy is lent as the header's 8 sectors and as much of each area as a record can fill.
 ghost use mathlib.Core.Path.{_≡_};
 ghost use mathlib.Core.Bool.{true, false};
 ghost use mathlib.Core.List.{[]};
@@ -25,7 +25,7 @@ pub enum Present {
 }
 
 // Where a record was found, its length and its time.
-pub struct Record {
+pub struct Finding {
     pub side: Side,
     pub area: Area,
     pub bytes: u32,
@@ -41,7 +41,7 @@ pub enum Other {
 
 // What discovery answers.
 pub enum Answer {
-    Found(Record, Other),
+    Found(Finding, Other),
     Refused(u8),
 }
 
@@ -153,10 +153,10 @@ pub fn present_in(c: &[u8], f: BlockFields) -> Present
 }
 
 // A record by its copy and area, with the length and time that its entry says.
-fn record_at(side: Side, area: Area, h: Holding) -> Record
+fn record_at(side: Side, area: Area, h: Holding) -> Finding
     ensures { λ r. ⌜ r ≡ recordAt side area h ⌝ }
 {
-    Record {
+    Finding {
         side,
         area,
         bytes: h.bytes,
@@ -232,8 +232,8 @@ fn same_uuids(r: Reading, q: Reading) -> bool
 {
     let p = r.pool;
     let s = q.pool;
-    let d = r.device;
-    let e = q.device;
+    let d = r.blockdev;
+    let e = q.blockdev;
     endian::same(&p, &s) & endian::same(&d, &e)
 }
 
@@ -388,7 +388,7 @@ pub fn in_step(f: &[u8], b: &[u8]) -> bool
 }
 
 // Copies a record from the copy and area that it names to the start of out; where it has no room, nothing.
-fn put_record(r: Record, f: &[u8], b: &[u8], out: &mut [u8])
+fn put_record(r: Finding, f: &[u8], b: &[u8], out: &mut [u8])
     ensures { λ _. ⌜ now (out .exit) ≡ splice (now (out .entry)) 0 (recordBytes r (now (f .entry)) (now (b .entry))) ⌝ }
 {
     let side = r.side;

@@ -1,13 +1,12 @@
 -- A line's length: there is room for every line, so that its pieces make it whole; and what putting it answers.
--- Assumes nothing.
 use Prim.Native.Nat.{ℕ, _+_, _≤_, _<_}
 use mathlib.Core.Path.{_≡_, _∙_}
-use mathlib.Core.List.{List, []}
+use mathlib.Core.List.{List, [], flatten}
 use native.Mathlib.Omega.{arith}
 use lib.Dec.{lit≤}
 use borrow.Author.Tests.{le-leb, lt-leb}
 use lib.ListN.{length, length-append}
-use Rattle.endian.specs.Bytes.{fits, room}
+use Rattle.endian.specs.Bytes.{fits, writeNumber}
 use Rattle.layout.specs.declared.Side.{Side}
 use Rattle.layout.specs.declared.Side.the-variants.{Front, Back}
 use Rattle.layout.specs.declared.Area.{Area}
@@ -16,7 +15,6 @@ use Rattle.discovery.specs.declared.Other.{Other}
 use Rattle.discovery.specs.declared.Other.the-variants.{Both, One}
 use Rattle.discovery.specs.declared.Answer.{Answer}
 use Rattle.discovery.specs.declared.Answer.the-variants.{Found, Refused}
-use Rattle.text.specs.Text.{concat}
 use Rattle.text.proofs.Decimals.{length-digits}
 use Rattle.text.proofs.Texts.{fits-of, short-of, addedAll, added-all}
 use Rattle.dump_line.specs.Line.{sideWord, areaWord, otherWord, pieces, lineOf, lengthPut}
@@ -34,8 +32,8 @@ other-length Both = lit≤ tt
 other-length (One n) = length-digits 20 n
 
 -- every line has room
-line-length : (a : Answer) → length (concat (pieces a)) ≤ 128
-unfolding concat
+line-length : (a : Answer) → length (flatten (pieces a)) ≤ 128
+unfolding flatten
 line-length (Refused n) = simp length-append (omega (arith, length-digits 20 n))
 line-length (Found r o) =
     simp length-append
@@ -48,7 +46,7 @@ line-room a = line-length a
 
 -- and is not empty, so that the length 0 says that there was no room
 pub line-some : (a : Answer) → 0 < length (lineOf a)
-unfolding lineOf concat
+unfolding lineOf flatten
 line-some (Refused n) = omega arith
 line-some (Found r o) = omega arith
 
@@ -58,10 +56,10 @@ unfolding lineOf
 line-text a t e = e ∙ added-all (pieces a) [] (omega (arith, line-length a))
 
 -- what putting a line at the start of out answers
-pub line-short : (out v w : List ℕ) (r : ℕ) → v ≡ w → r ≡ room out 0 (length v) → (r ≡ 0 → ⊥) → 0 ≡ lengthPut out w
+pub line-short : (out v w : List ℕ) (r : ℕ) → v ≡ w → r ≡ writeNumber out 0 (length v) → (r ≡ 0 → ⊥) → 0 ≡ lengthPut out w
 unfolding lengthPut fits
 line-short out v w r e h z = rw (← e, lt-leb (0 + length v) (length out) (short-of out 0 (length v) r h z))
 
-pub line-put : (out v w : List ℕ) (r : ℕ) → v ≡ w → r ≡ room out 0 (length v) → r ≡ 0 → length v ≡ lengthPut out w
+pub line-put : (out v w : List ℕ) (r : ℕ) → v ≡ w → r ≡ writeNumber out 0 (length v) → r ≡ 0 → length v ≡ lengthPut out w
 unfolding lengthPut fits
 line-put out v w r e h z = rw (← e, le-leb (0 + length v) (length out) (fits-of out 0 (length v) r h z))

@@ -1,8 +1,8 @@
--- What is printed for a dump of another size than two copies, and document 01's example. Assumes nothing.
+-- What is printed for a dump of another size than two copies, and document 01's example.
 use Prim.Native.Nat.{ℕ}
 use mathlib.Core.Path.{_≡_, refl}
 use mathlib.Core.Bool.{Bool, true, false, _&&_}
-use mathlib.Core.List.{List, [], _∷_}
+use mathlib.Core.List.{List, [], _∷_, flatten}
 use native.Mathlib.Omega.{arith}
 use borrow.Author.Tests.{eqb-true}
 use lib.ListN.{length, take, drop, length-take, length-drop}
@@ -14,7 +14,6 @@ use Rattle.discovery.specs.declared.Other.the-variants.{Both}
 use Rattle.discovery.specs.declared.Answer.the-variants.{Found, Refused}
 use Rattle.discovery.specs.Discovery.{sized, discovery}
 use Rattle.text.specs.Decimal.{digits}
-use Rattle.text.specs.Text.{concat}
 use Rattle.dump_line.specs.Line.{lineOf, dumpLine}
 
 both-false : (x y : Bool) → (x ≡ true → y ≡ true → ⊥) → x && y ≡ false
@@ -39,10 +38,10 @@ other-size d h = rw (not-copies d h)
 -- `found front a 28 10 5 both`
 pub example : lineOf (Found (record { side = Front; area = A; bytes = 28; seconds = 10; nanoseconds = 5 }) Both)
     ≡ 102 ∷ 111 ∷ 117 ∷ 110 ∷ 100 ∷ 32 ∷ 102 ∷ 114 ∷ 111 ∷ 110 ∷ 116 ∷ 32 ∷ 97 ∷ 32 ∷ 50 ∷ 56 ∷ 32 ∷ 49 ∷ 48 ∷ 32 ∷ 53 ∷ 32 ∷ 98 ∷ 111 ∷ 116 ∷ 104 ∷ 10 ∷ []
-unfolding lineOf concat digits
+unfolding lineOf flatten digits
 example = refl
 
 -- `refused 10`
 pub example-refused : lineOf (Refused 10) ≡ 114 ∷ 101 ∷ 102 ∷ 117 ∷ 115 ∷ 101 ∷ 100 ∷ 32 ∷ 49 ∷ 48 ∷ 10 ∷ []
-unfolding lineOf concat digits
+unfolding lineOf flatten digits
 example-refused = refl

@@ -1,7 +1,7 @@
--- The line that the dump program prints: document 01, 'Discovery'. Words are ASCII bytes. Assumes nothing.
+-- The line that the dump program prints: document 01, 'Discovery'. Words are ASCII bytes.
 use Prim.Native.Nat.{ℕ}
 use mathlib.Core.Bool.{cond}
-use mathlib.Core.List.{List, [], _∷_}
+use mathlib.Core.List.{List, [], _∷_, flatten}
 use lib.ListN.{length, take, drop}
 use Rattle.endian.specs.Bytes.{fits}
 use Rattle.layout.specs.Places.{copyBytes}
@@ -15,7 +15,6 @@ use Rattle.discovery.specs.declared.Answer.{Answer}
 use Rattle.discovery.specs.declared.Answer.the-variants.{Found, Refused}
 use Rattle.discovery.specs.Discovery.{discovery}
 use Rattle.text.specs.Decimal.{decimal}
-use Rattle.text.specs.Text.{concat}
 
 -- "front " or "back "
 abbrev pub sideWord : Side → List ℕ
@@ -54,7 +53,7 @@ pieces (Found r o) =
 
 -- the line for an answer of discovery
 unfoldable pub lineOf : Answer → List ℕ
-lineOf a = concat (pieces a)
+lineOf a = flatten (pieces a)
 
 -- the line for a dump: the front copy's bytes, and the rest as the back's
 abbrev pub dumpLine : List ℕ → List ℕ

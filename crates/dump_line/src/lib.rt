@@ -1,5 +1,5 @@
 // The line that the dump program prints for two copies: what discovery answers, in words and decimal numbers.
-// Every call is total. Assumes nothing.
+// Every call is total.
 ghost use mathlib.Core.Path.{_≡_};
 ghost use Rattle.endian.specs.Bytes.{splice};
 ghost use Rattle.discovery.specs.declared.Answer.the-variants as Answer;
@@ -8,7 +8,7 @@ ghost use Rattle.text.specs.Text.{text, added};
 ghost use Rattle.dump_line.specs.Line.{sideWord, areaWord, otherWord, lineOf, dumpLine, lengthPut};
 use discovery::Answer;
 use discovery::Other;
-use discovery::Record;
+use discovery::Finding;
 use layout::Area;
 use layout::Side;
 use text::Text;
@@ -51,7 +51,7 @@ fn refused(n: u8) -> Text
 }
 
 // The line for a found record: copy, area, length, seconds, nanoseconds, and the other copy.
-fn found(r: Record, o: Other) -> Text
+fn found(r: Finding, o: Other) -> Text
     ensures { λ t. ⌜ text t ≡ lineOf (Answer.Found r o) ⌝ }
 {
     let side = r.side;

@@ -1,4 +1,4 @@
--- Laws of little-endian numbers, over any number of bytes. Assumes nothing.
+-- Laws of little-endian numbers, over any number of bytes.
 use Prim.Native.Nat.{ℕ, zero, suc, _+_, _*_, _/_, _%_, _^_, _≤_, _<_}
 use mathlib.Core.Path.{_≡_, refl, sym, ap, _∙_}
 use mathlib.Core.List.{List, [], _∷_, _++_}

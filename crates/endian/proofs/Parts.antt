@@ -1,4 +1,4 @@
--- Laws of a part of a list and of a list laid over another. Assumes nothing.
+-- Laws of a part of a list and of a list laid over another.
 use Prim.Native.Nat.{ℕ, zero, suc, _+_, _-_, _≤_, _<_}
 use mathlib.Core.Path.{_≡_, refl, sym, ap, _∙_}
 use mathlib.Core.List.{List, [], _∷_, _++_, append-assoc, append-nil}
@@ -9,7 +9,7 @@ use lib.Dec.{lit<}
 use borrow.Author.Tests.{le-leb, lt-leb}
 use lib.ListN.{length, take, drop, length-append, length-take, length-drop, take-append-drop, drop-of-length-le}
 use lib.Seq.{take-all, take-nil, drop-drop, take-take, take-add, take-at, drop-at, take-append-le, drop-append-le, getD-drop, length-take-le}
-use Rattle.endian.specs.Bytes.{window, fits, splice, room, Bytes}
+use Rattle.endian.specs.Bytes.{window, fits, splice, writeNumber, Bytes}
 
 pub length-window : (s : List ℕ) (at n : ℕ) → length (window s at n) ≤ n
 unfolding window
@@ -59,13 +59,13 @@ pub splice-short : (s : List ℕ) (at : ℕ) (v : List ℕ) → length s < at + 
 unfolding splice fits
 splice-short s at v h = rw (lt-leb (at + length v) (length s) h)
 
-pub room-fits : (s : List ℕ) (at n : ℕ) → at + n ≤ length s → room s at n ≡ 0
-unfolding room fits
-room-fits s at n h = rw (le-leb (at + n) (length s) h)
+pub write-fits : (s : List ℕ) (at n : ℕ) → at + n ≤ length s → writeNumber s at n ≡ 0
+unfolding writeNumber fits
+write-fits s at n h = rw (le-leb (at + n) (length s) h)
 
-pub room-short : (s : List ℕ) (at n : ℕ) → length s < at + n → room s at n ≡ 1
-unfolding room fits
-room-short s at n h = rw (lt-leb (at + n) (length s) h)
+pub write-short : (s : List ℕ) (at n : ℕ) → length s < at + n → writeNumber s at n ≡ 1
+unfolding writeNumber fits
+write-short s at n h = rw (lt-leb (at + n) (length s) h)
 
 pub length-splice : (s : List ℕ) (at : ℕ) (v : List ℕ) → length (splice s at v) ≡ length s
 length-splice s at v =
@@ -173,12 +173,12 @@ bytes-splice s at v b d =
     ]
 
 -- what a write answers and leaves: where its n elements do not fit, and where they do, w being what came back of the part lent
-pub unstored : (s : List ℕ) (at n : ℕ) (v : List ℕ) → length v ≡ n → length s < at + n → (1 ≡ room s at n) × (s ≡ splice s at v)
-unstored s at n v e h = (sym (room-short s at n h), sym (splice-short s at v (omega arith)))
+pub unstored : (s : List ℕ) (at n : ℕ) (v : List ℕ) → length v ≡ n → length s < at + n → (1 ≡ writeNumber s at n) × (s ≡ splice s at v)
+unstored s at n v e h = (sym (write-short s at n h), sym (splice-short s at v (omega arith)))
 
 pub stored : (s : List ℕ) (at n : ℕ) (v w : List ℕ) → length v ≡ n → w ≡ v → at + n ≤ length s
-    → (0 ≡ room s at n) × (take at s ++ (w ++ drop (at + n - at) (drop at s)) ≡ splice s at v)
-stored s at n v w e k h = (sym (room-fits s at n h), splice-part s at n w h (ap length k ∙ e) ∙ ap (splice s at) k)
+    → (0 ≡ writeNumber s at n) × (take at s ++ (w ++ drop (at + n - at) (drop at s)) ≡ splice s at v)
+stored s at n v w e k h = (sym (write-fits s at n h), splice-part s at n w h (ap length k ∙ e) ∙ ap (splice s at) k)
 
 -- v written right after u
 pub splice-next : (s : List ℕ) (at : ℕ) (u v : List ℕ) (k : ℕ) → k ≡ at + length u → k + length v ≤ length s

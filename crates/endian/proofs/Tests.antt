@@ -1,4 +1,4 @@
--- Laws of the tests of lists. Assumes nothing.
+-- Laws of the tests of lists.
 use Prim.Native.Nat.{ℕ, zero, suc, _+_, _<_, _≤_}
 use mathlib.Core.Path.{_≡_, refl, sym, ap, ap₂, _∙_}
 use mathlib.Core.Bool.{Bool, true, false, _&&_, true≢false, and-assoc}
@@ -10,7 +10,7 @@ use borrow.Author.Tests.{eqb-true, eq-eqb}
 use lib.Dec.{eqb}
 use lib.ListN.{length, getD, drop, length-replicate, replicate-append-replicate, drop-of-length-le}
 use lib.Seq.{drop-cons}
-use Rattle.endian.specs.Bytes.{same, all, zeros}
+use Rattle.endian.specs.Bytes.{same, allPass, zeros}
 
 pub and-left : (a b : Bool) → a && b ≡ true → a ≡ true
 and-left true b h = refl
@@ -74,49 +74,49 @@ pub same-done : (a b : List ℕ) (i : ℕ) (r : Bool) → length a ≤ i → len
 same-done a b i r h k = ap₂ (λ (x y : List ℕ). r && same x y) (drop-of-length-le a h) (drop-of-length-le b k) ∙ (ap (λ (z : Bool). r && z) (same-refl []) ∙ and-true r)
 
 module _ (p : ℕ → Bool) where
-  all-cons : (x : ℕ) (xs : List ℕ) → all p (x ∷ xs) ≡ (p x && all p xs)
-  unfolding all
+  all-cons : (x : ℕ) (xs : List ℕ) → allPass p (x ∷ xs) ≡ (p x && allPass p xs)
+  unfolding allPass
   all-cons x xs = refl
 
-  pub all-nil : all p [] ≡ true
-  unfolding all
+  pub all-nil : allPass p [] ≡ true
+  unfolding allPass
   all-nil = refl
 
   -- As a loop has it that has tested the elements before i, with answer r: one element more, and the end.
-  pub all-next : (s : List ℕ) (i : ℕ) (r : Bool) → i < length s → (r && p (getD s i 0)) && all p (drop (i + 1) s) ≡ (r && all p (drop i s))
+  pub all-next : (s : List ℕ) (i : ℕ) (r : Bool) → i < length s → (r && p (getD s i 0)) && allPass p (drop (i + 1) s) ≡ (r && allPass p (drop i s))
   all-next s i r h =
-      and-assoc r (p (getD s i 0)) (all p (drop (i + 1) s))
+      and-assoc r (p (getD s i 0)) (allPass p (drop (i + 1) s))
       ∙ ap (λ (z : Bool). r && z)
-      (sym (ap (all p) (drop-cons s i 0 h) ∙ (all-cons (getD s i 0) (drop (suc i) s) ∙ ap (λ (n : ℕ). p (getD s i 0) && all p (drop n s)) (sym (add-one i)))))
+      (sym (ap (allPass p) (drop-cons s i 0 h) ∙ (all-cons (getD s i 0) (drop (suc i) s) ∙ ap (λ (n : ℕ). p (getD s i 0) && allPass p (drop n s)) (sym (add-one i)))))
 
-  pub all-done : (s : List ℕ) (i : ℕ) (r : Bool) → length s ≤ i → r && all p (drop i s) ≡ r
-  all-done s i r h = ap (λ (z : List ℕ). r && all p z) (drop-of-length-le s h) ∙ (ap (λ (z : Bool). r && z) all-nil ∙ and-true r)
+  pub all-done : (s : List ℕ) (i : ℕ) (r : Bool) → length s ≤ i → r && allPass p (drop i s) ≡ r
+  all-done s i r h = ap (λ (z : List ℕ). r && allPass p z) (drop-of-length-le s h) ∙ (ap (λ (z : Bool). r && z) all-nil ∙ and-true r)
 
-  pub all-at : (s : List ℕ) → all p s ≡ true → (i : ℕ) → i < length s → p (getD s i 0) ≡ true
-  unfolding all
+  pub all-at : (s : List ℕ) → allPass p s ≡ true → (i : ℕ) → i < length s → p (getD s i 0) ≡ true
+  unfolding allPass
   all-at [] h i k = absurd (not-suc-le-zero k)
-  all-at (x ∷ xs) h zero k = and-left (p x) (all p xs) h
-  all-at (x ∷ xs) h (suc i) k = all-at xs (and-right (p x) (all p xs) h) i (le-of-suc-le-suc k)
+  all-at (x ∷ xs) h zero k = and-left (p x) (allPass p xs) h
+  all-at (x ∷ xs) h (suc i) k = all-at xs (and-right (p x) (allPass p xs) h) i (le-of-suc-le-suc k)
 
-  pub all-of : (s : List ℕ) → ((i : ℕ) → i < length s → p (getD s i 0) ≡ true) → all p s ≡ true
-  unfolding all
+  pub all-of : (s : List ℕ) → ((i : ℕ) → i < length s → p (getD s i 0) ≡ true) → allPass p s ≡ true
+  unfolding allPass
   all-of [] h = refl
-  all-of (x ∷ xs) h = and-both (p x) (all p xs) (h 0 (omega arith)) (all-of xs (λ i k. h (suc i) (omega arith)))
+  all-of (x ∷ xs) h = and-both (p x) (allPass p xs) (h 0 (omega arith)) (all-of xs (λ i k. h (suc i) (omega arith)))
 
 pub length-zeros : (n : ℕ) → length (zeros n) ≡ n
 unfolding zeros
 length-zeros n = length-replicate n 0
 
 -- all elements are zero: the list is zeros
-pub all-zeros : (s : List ℕ) → all (λ (b : ℕ). eqb b 0) s ≡ true → s ≡ zeros (length s)
-unfolding all zeros
+pub all-zeros : (s : List ℕ) → allPass (λ (b : ℕ). eqb b 0) s ≡ true → s ≡ zeros (length s)
+unfolding allPass zeros
 all-zeros [] h = refl
 all-zeros (x ∷ xs) h =
-    ap₂ (λ (z : ℕ) (zs : List ℕ). z ∷ zs) (eqb-true x 0 (and-left (eqb x 0) (all (λ (b : ℕ). eqb b 0) xs) h))
-    (all-zeros xs (and-right (eqb x 0) (all (λ (b : ℕ). eqb b 0) xs) h))
+    ap₂ (λ (z : ℕ) (zs : List ℕ). z ∷ zs) (eqb-true x 0 (and-left (eqb x 0) (allPass (λ (b : ℕ). eqb b 0) xs) h))
+    (all-zeros xs (and-right (eqb x 0) (allPass (λ (b : ℕ). eqb b 0) xs) h))
 
-pub zeros-all : (n : ℕ) → all (λ (b : ℕ). eqb b 0) (zeros n) ≡ true
-unfolding all zeros
+pub zeros-all : (n : ℕ) → allPass (λ (b : ℕ). eqb b 0) (zeros n) ≡ true
+unfolding allPass zeros
 zeros-all zero = refl
 zeros-all (suc n) = zeros-all n
 

@@ -1,5 +1,5 @@
 -- Lists of bytes: the number that bytes make, the bytes of a number, a part of a list, a list laid over another.
--- An element is read as a byte, `b % 256`, so that each definition has a value at every list. Assumes nothing.
+-- An element is read as a byte, `b % 256`, so that each definition has a value at every list.
 use Prim.Native.Nat.{ℕ, zero, suc, _+_, _*_, _/_, _%_, _<_}
 use mathlib.Core.Bool.{Bool, true, false, cond, _&&_}
 use mathlib.Core.List.{List, [], _∷_, _++_}
@@ -29,8 +29,8 @@ unfoldable pub splice : List ℕ → ℕ → List ℕ → List ℕ
 splice s at v = cond (fits s at (length v)) (take at s ++ (v ++ drop (at + length v) s)) s
 
 -- what a write of n elements at place `at` of s answers: 0, or document 01's 1 where they do not fit
-unfoldable pub room : List ℕ → ℕ → ℕ → ℕ
-room s at n = cond (fits s at n) 0 1
+unfoldable pub writeNumber : List ℕ → ℕ → ℕ → ℕ
+writeNumber s at n = cond (fits s at n) 0 1
 
 -- each element of s is a byte
 abbrev pub Bytes : List ℕ → Type 0
@@ -44,9 +44,9 @@ same (x ∷ xs) [] = false
 same (x ∷ xs) (y ∷ ys) = eqb x y && same xs ys
 
 -- each element passes the test p
-unfoldable pub all : (ℕ → Bool) → List ℕ → Bool
-all p [] = true
-all p (x ∷ xs) = p x && all p xs
+unfoldable pub allPass : (ℕ → Bool) → List ℕ → Bool
+allPass p [] = true
+allPass p (x ∷ xs) = p x && allPass p xs
 
 -- n zeros
 unfoldable pub zeros : ℕ → List ℕ

@@ -1,9 +1,9 @@
 // Bytes in a slice: little-endian numbers of 2, 4 and 8 bytes, parts, copies and comparisons, at any offset.
-// Every call is total: nothing is asked of the slice or of the offset. Assumes nothing.
+// Every call is total: nothing is asked of the slice or of the offset.
 ghost use mathlib.Core.Path.{_≡_};
 ghost use Prim.Native.Nat.{_^_, _≤_, _<_};
 ghost use lib.ListN.{length};
-ghost use Rattle.endian.specs.Bytes.{le, toLe, window, splice, room, same, zeros};
+ghost use Rattle.endian.specs.Bytes.{le, toLe, window, splice, writeNumber, same, zeros};
 
 // The part of s of n bytes from `at` on, or as many of them as there are.
 pub fn window(s: &[u8], at: usize, n: usize) -> &[u8]
@@ -82,7 +82,7 @@ fn fill(s: &mut [u8], v: u64)
 
 // Stores the n lowest bytes of v at `at` and answers 0, or stores nothing and answers 1 where they do not fit.
 fn write(s: &mut [u8], at: usize, n: usize, v: u64) -> u8
-    ensures { λ r. ⌜ r ≡ room (now (s .entry)) at n ⌝ }
+    ensures { λ r. ⌜ r ≡ writeNumber (now (s .entry)) at n ⌝ }
     ensures { λ _. ⌜ now (s .exit) ≡ splice (now (s .entry)) at (toLe n v) ⌝ }
 {
     if s.len() < at {
@@ -97,7 +97,7 @@ fn write(s: &mut [u8], at: usize, n: usize, v: u64) -> u8
 
 // Stores v at `at`, lowest byte first, and answers 0; where 2 bytes do not fit there, stores nothing and answers 1.
 pub fn write_u16(s: &mut [u8], at: usize, v: u16) -> u8
-    ensures { λ r. ⌜ r ≡ room (now (s .entry)) at 2 ⌝ }
+    ensures { λ r. ⌜ r ≡ writeNumber (now (s .entry)) at 2 ⌝ }
     ensures { λ _. ⌜ now (s .exit) ≡ splice (now (s .entry)) at (toLe 2 v) ⌝ }
 {
     write(s, at, 2, v as u64)
@@ -105,7 +105,7 @@ pub fn write_u16(s: &mut [u8], at: usize, v: u16) -> u8
 
 // The same with 4 bytes.
 pub fn write_u32(s: &mut [u8], at: usize, v: u32) -> u8
-    ensures { λ r. ⌜ r ≡ room (now (s .entry)) at 4 ⌝ }
+    ensures { λ r. ⌜ r ≡ writeNumber (now (s .entry)) at 4 ⌝ }
     ensures { λ _. ⌜ now (s .exit) ≡ splice (now (s .entry)) at (toLe 4 v) ⌝ }
 {
     write(s, at, 4, v as u64)
@@ -113,7 +113,7 @@ pub fn write_u32(s: &mut [u8], at: usize, v: u32) -> u8
 
 // The same with 8 bytes.
 pub fn write_u64(s: &mut [u8], at: usize, v: u64) -> u8
-    ensures { λ r. ⌜ r ≡ room (now (s .entry)) at 8 ⌝ }
+    ensures { λ r. ⌜ r ≡ writeNumber (now (s .entry)) at 8 ⌝ }
     ensures { λ _. ⌜ now (s .exit) ≡ splice (now (s .entry)) at (toLe 8 v) ⌝ }
 {
     write(s, at, 8, v)
@@ -149,7 +149,7 @@ fn fill_from(d: &mut [u8], s: &[u8])
 
 // Stores the bytes of v at `at` and answers 0, or stores nothing and answers 1 where they do not fit.
 pub fn put(s: &mut [u8], at: usize, v: &[u8]) -> u8
-    ensures { λ r. ⌜ r ≡ room (now (s .entry)) at (length (now (v .entry))) ⌝ }
+    ensures { λ r. ⌜ r ≡ writeNumber (now (s .entry)) at (length (now (v .entry))) ⌝ }
     ensures { λ _. ⌜ now (s .exit) ≡ splice (now (s .entry)) at (now (v .entry)) ⌝ }
 {
     if s.len() < at {

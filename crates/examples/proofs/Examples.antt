@@ -1,11 +1,11 @@
--- The twelve examples, as one equation of two tables. Assumes nothing.
+-- The twelve examples, as one equation of two tables.
 use Prim.Native.Nat.{ℕ, _+_, _*_}
 use mathlib.Core.Path.{_≡_, refl, sym, ap, _∙_}
 use mathlib.Core.Bool.{true, _&&_}
 use mathlib.Core.List.{List, [], _∷_}
 use lib.Dec.{leb, lit<}
 use lib.ListN.{length}
-use Rattle.endian.specs.Bytes.{all, zeros}
+use Rattle.endian.specs.Bytes.{allPass, zeros}
 use Rattle.endian.proofs.Tests.{length-zeros}
 use Rattle.refusal.specs.Tests.{first, AllHold}
 use Rattle.refusal.proofs.Order.{first-zero, first-all, first-after, answer-yes}
@@ -23,13 +23,13 @@ use Rattle.record.specs.Accept.{recordTests}
 use Rattle.record.proofs.Testing.{record-ascending}
 use Rattle.record.proofs.Accepted.{accepted}
 use Rattle.record.proofs.Right.{accepted-content}
-use Rattle.room.specs.declared.RunCount.the-variants as RunCount
-use Rattle.room.specs.declared.RunFound.the-variants as RunFound
-use Rattle.room.specs.declared.FreeTotal.the-variants as FreeTotal
-use Rattle.room.specs.Answers.{runsAnswer, totalAnswer}
-use Rattle.room.specs.Answers as Answers
-use Rattle.room.specs.Change.{runsFor, ownTests, allocateTests, allocation}
-use Rattle.room.proofs.Finding.{runs-for}
+use Rattle.allocation.specs.declared.RunCount.the-variants as RunCount
+use Rattle.allocation.specs.declared.RunFound.the-variants as RunFound
+use Rattle.allocation.specs.declared.FreeTotal.the-variants as FreeTotal
+use Rattle.allocation.specs.Answers.{runsAnswer, totalAnswer}
+use Rattle.allocation.specs.Answers as Answers
+use Rattle.allocation.specs.Change.{runsFor, ownTests, allocateTests, allocation}
+use Rattle.allocation.proofs.Finding.{runs-for}
 use Rattle.update.specs.declared.Planned.the-variants as Planned
 use Rattle.update.specs.Update.{updateNumber, sectorsOf}
 use Rattle.update.specs.Plan.{planOf}
@@ -61,7 +61,7 @@ unfolding laterThan
 later = refl
 
 nanoseconds : first (writeTests (zeros 512) zeroUuid zeroUuid (withNanoseconds 1000000000)) ≡ 9
-unfolding first all zeros lengthAllowed recordLimit
+unfolding first allPass zeros lengthAllowed recordLimit
 nanoseconds = refl
 
 -- example 9: what the calls answer of the record's free runs
@@ -110,8 +110,8 @@ unfolding fitOf
 asked-853 = asked 853 refl refl
 
 -- example 12: formatting takes the record of examples 9 and 10
-hex : all isHex zeroUuid && all isHex zeroUuid ≡ true
-unfolding all
+hex : allPass isHex zeroUuid && allPass isHex zeroUuid ≡ true
+unfolding allPass
 hex = refl
 
 formatted : Taken (zeros copyBytes) (zeros copyBytes) device zeroUuid zeroUuid (time 10 5) nine

@@ -1,4 +1,4 @@
--- The records of examples 9 to 12, and the free runs of examples 9 and 10: by the laws of records that are made. Assumes nothing.
+-- The records of examples 9 to 12, and the free runs of examples 9 and 10: by the laws of records that are made.
 use Prim.Native.Nat.{ℕ, _+_, _*_, _<_, _≤_}
 use mathlib.Core.Path.{_≡_, refl, sym, ap, _∙_}
 use mathlib.Core.Bool.{Bool, true, _&&_}
@@ -9,7 +9,7 @@ use lib.Dec.{eqb, leb}
 use lib.ListN.{length}
 use Rattle.endian.proofs.Tests.{and-left, and-right}
 use Rattle.refusal.specs.Numbers.{recordLength, segmentPlace, segmentClash}
-use Rattle.refusal.specs.Tests.{Test, _or_, first}
+use Rattle.refusal.specs.Tests.{Test, _elseRefuse_, first}
 use Rattle.layout.specs.Limits.{lengthAllowed, recordLimit}
 use Rattle.search.specs.Search.{every, least}
 use Rattle.search.proofs.Search.{every-at}
@@ -30,9 +30,9 @@ use Rattle.items.proofs.Making.{AllFit, length-record, head-record, segments-re
 use Rattle.record.specs.Accept.{allInRange, recordTests}
 use Rattle.record.proofs.Accepted.{accepted}
 use Rattle.record.proofs.Demand.{sums}
-use Rattle.room.specs.Answers as Answers
-use Rattle.room.specs.Walking.{walked}
-use Rattle.room.proofs.Finding.{runs-walked}
+use Rattle.allocation.specs.Answers as Answers
+use Rattle.allocation.specs.Walking.{walked}
+use Rattle.allocation.proofs.Finding.{runs-walked}
 use Rattle.examples.specs.Examples.{device, segment, pair, inRow, rowOf, nine}
 
 -- the segment at position i is a data segment and ends on the device
@@ -42,9 +42,9 @@ small gs i = eqb (nth gs i .kind) 2 && leb (endOf (nth gs i)) 2097152
 -- the tests of a record of such segments on the device, by the segments alone
 abbrev listTests : List Segment → List Test
 listTests gs =
-    (lengthAllowed (8 + itemBytes * length gs) or recordLength)
-    ∷ (allInRange device (Plain 128) gs or segmentPlace)
-    ∷ (apart gs or segmentClash)
+    (lengthAllowed (8 + itemBytes * length gs) elseRefuse recordLength)
+    ∷ (allInRange device (Plain 128) gs elseRefuse segmentPlace)
+    ∷ (apart gs elseRefuse segmentClash)
     ∷ []
 
 -- a head of block size 128: it allows data segments, and is read back

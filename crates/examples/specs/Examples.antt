@@ -1,5 +1,5 @@
 -- Document 01's twelve marked examples, as two tables with a row for each: what the paper says, and what the definitions
--- give that the contracts cite. The theorem `Examples.twelve` says that the tables are the same. Assumes nothing.
+-- give that the contracts cite. The theorem `Examples.twelve` says that the tables are the same.
 use Prim.Native.Nat.{ℕ, zero, suc, _+_, _-_}
 use mathlib.Core.Path.{_≡_}
 use mathlib.Core.Bool.{Bool, true, false}
@@ -23,16 +23,16 @@ use Rattle.items.specs.declared.Head.the-variants.{Plain}
 use Rattle.items.specs.Items.{segments}
 use Rattle.items.specs.Making.{recordOf}
 use Rattle.record.specs.Accept.{recordTests}
-use Rattle.room.specs.declared.RunCount.{RunCount}
-use Rattle.room.specs.declared.RunCount.the-variants as RunCount
-use Rattle.room.specs.declared.RunFound.{RunFound}
-use Rattle.room.specs.declared.RunFound.the-variants as RunFound
-use Rattle.room.specs.declared.FreeTotal.{FreeTotal}
-use Rattle.room.specs.declared.FreeTotal.the-variants as FreeTotal
-use Rattle.room.specs.declared.Allocation.{Allocation}
-use Rattle.room.specs.declared.Allocation.the-variants as Allocation
-use Rattle.room.specs.Answers.{runsAnswer, runAnswer, totalAnswer}
-use Rattle.room.specs.Change.{allocateAnswer}
+use Rattle.allocation.specs.declared.RunCount.{RunCount}
+use Rattle.allocation.specs.declared.RunCount.the-variants as RunCount
+use Rattle.allocation.specs.declared.RunFound.{RunFound}
+use Rattle.allocation.specs.declared.RunFound.the-variants as RunFound
+use Rattle.allocation.specs.declared.FreeTotal.{FreeTotal}
+use Rattle.allocation.specs.declared.FreeTotal.the-variants as FreeTotal
+use Rattle.allocation.specs.declared.Allocation.{Allocation}
+use Rattle.allocation.specs.declared.Allocation.the-variants as Allocation
+use Rattle.allocation.specs.Answers.{runsAnswer, runAnswer, totalAnswer}
+use Rattle.allocation.specs.Change.{allocateAnswer}
 use Rattle.update.specs.declared.Planned.{Planned}
 use Rattle.update.specs.declared.Planned.the-variants as Planned
 use Rattle.update.specs.Plan.{planned, storesIn}

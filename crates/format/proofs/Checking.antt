@@ -1,4 +1,4 @@
--- The refusal number, from what the code has tested, and what its being 0 says. Assumes nothing.
+-- The refusal number, from what the code has tested, and what its being 0 says.
 use Prim.Native.Nat.{ℕ}
 use mathlib.Core.Path.{_≡_, ap}
 use mathlib.Core.Bool.{true, false, not, _&&_}
@@ -6,7 +6,7 @@ use mathlib.Core.List.{List}
 use borrow.Author.Tests.{eqb-true}
 use lib.Dec.{leb, eqb, lit<}
 use lib.ListN.{length}
-use Rattle.endian.specs.Bytes.{all}
+use Rattle.endian.specs.Bytes.{allPass}
 use Rattle.endian.proofs.Tests.{and-left, and-right}
 use Rattle.refusal.specs.Tests.{first, AllHold, Ascending}
 use Rattle.refusal.proofs.Order.{refused, passed, first-zero}
@@ -45,7 +45,7 @@ pub record Taken (f b : List ℕ) (v : Device) (p u : List ℕ) (t : Time) (r : 
   pub pool : length p ≡ 32
   pub device : length u ≡ 32
   pub size : sizeAllowed (v .sectors) ≡ true
-  pub hex : all isHex p && all isHex u ≡ true
+  pub hex : allPass isHex p && allPass isHex u ≡ true
   pub metadata : metadataAllowed (v .metadata) ≡ true
   pub reserved : reservedAllowed (v .reserved) ≡ true
   pub ns : leb (t .nanoseconds) 999999999 ≡ true

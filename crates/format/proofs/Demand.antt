@@ -1,4 +1,4 @@
--- What holds of formatted copies, proved. Assumes nothing.
+-- What holds of formatted copies, proved.
 use Prim.Native.Nat.{ℕ, _+_, _-_, _*_, _^_, _≤_, _<_}
 use mathlib.Core.Path.{_≡_, refl, sym, ap, ap₂, _∙_}
 use mathlib.Core.Bool.{Bool, true, cond}

@@ -1,4 +1,4 @@
--- A copy as the code fills it, and both copies as formatting leaves them. Assumes nothing.
+-- A copy as the code fills it, and both copies as formatting leaves them.
 use Prim.Native.Nat.{ℕ, _-_, _≤_, _<_}
 use mathlib.Core.Path.{_≡_, refl, sym, ap, _∙_}
 use mathlib.Core.Bool.{true}

@@ -1,4 +1,4 @@
--- Runs of sectors on a device, and two copies on one. Assumes nothing.
+-- Runs of sectors on a device, and two copies on one.
 use Prim.Native.Nat.{ℕ, zero, suc, _+_, _-_, _*_, _%_, _≤_, _<_}
 use mathlib.Core.Path.{_≡_, refl, sym, ap, ap₂, _∙_}
 use mathlib.Core.Bool.{Bool, true, false, cond, _&&_}
@@ -21,8 +21,8 @@ use Rattle.layout.specs.Limits.{recordLimit}
 use Rattle.layout.specs.Places.{areaOffset, copyBytes}
 use Rattle.discovery.specs.Copy.{areaBytes}
 use Rattle.discovery.specs.Discovery.{copyOn}
-use Rattle.device.specs.Device.{Sectors, Sound, gather, areaSectors, copyFrom}
-use Rattle.device.proofs.Copies.{limit-sectors, limit-small}
+use Rattle.crash.specs.Crash.{Sectors, Sound, gather, areaSectors, copyFrom}
+use Rattle.crash.proofs.Copies.{limit-sectors, limit-small}
 use Rattle.update.proofs.Places.{Sizes}
 use Rattle.update.proofs.OneCopy.{area-fits}
 use Rattle.format.specs.Placed.{Run, has, holding, headerRun, areaRun, runsOf, onDevice}

@@ -1,4 +1,4 @@
--- A device with formatted copies, where every update that is not refused has a start, and that there is one. Assumes nothing.
+-- A device with formatted copies, where every update that is not refused has a start, and that there is one.
 use Prim.Native.Nat.{ℕ, _^_, _<_}
 use mathlib.Core.Path.{_≡_, refl, sym, ap, ap₂, subst, _∙_}
 use mathlib.Core.Bool.{true, _&&_}
@@ -6,7 +6,7 @@ use mathlib.Core.List.{List, [], _∷_}
 use borrow.Author.Tests.{eq-eqb}
 use lib.Dec.{leb, eqb, lit<, lit≤}
 use lib.ListN.{length, replicate}
-use Rattle.endian.specs.Bytes.{le, window, all, zeros}
+use Rattle.endian.specs.Bytes.{le, window, allPass, zeros}
 use Rattle.endian.proofs.Tests.{and-both, length-zeros}
 use Rattle.refusal.specs.Tests.{first, AllHold}
 use Rattle.refusal.proofs.Order.{first-zero, first-all}
@@ -26,7 +26,7 @@ use Rattle.record.specs.Accept.{contentTests}
 use Rattle.record.proofs.Right.{right-empty, accepted-made, accepted-content}
 use Rattle.discovery.specs.declared.Answer.{Answer}
 use Rattle.discovery.specs.Discovery.{sized, inStep, copyOn}
-use Rattle.device.specs.Device.{copyFrom}
+use Rattle.crash.specs.Crash.{copyFrom}
 use Rattle.update.specs.Update.{deviceIn, updateTests, numberAfter, updateNumber}
 use Rattle.update.proofs.Places.{sizes-allowed}
 use Rattle.format.specs.Format.{formatTests, formatNumber, formattedCopy}
@@ -78,8 +78,8 @@ empty-accepted v e vs =
 abbrev zeroUuid : List ℕ
 zeroUuid = replicate 32 48
 
-uuid-hex : all isHex zeroUuid && all isHex zeroUuid ≡ true
-unfolding all
+uuid-hex : allPass isHex zeroUuid && allPass isHex zeroUuid ≡ true
+unfolding allPass
 uuid-hex = refl
 
 module _ (v : Device) (a : AllHold (deviceTests v)) (vs : v .sectors < 2 ^ 64) where

@@ -1,5 +1,5 @@
 -- What holds of formatted copies. `proofs/Demand.antt` proves `Lowest`, `Formatting` and `Zero`,
--- `proofs/Starting.antt` the rest. Assumes nothing.
+-- `proofs/Starting.antt` the rest.
 use Prim.Native.Nat.{ℕ, _+_, _^_, _≤_, _<_}
 use mathlib.Core.Path.{_≡_}
 use mathlib.Core.Bool.{true}
@@ -18,7 +18,7 @@ use Rattle.block.specs.Entry.{laterThan}
 use Rattle.record.specs.Accept.{contentTests}
 use Rattle.discovery.specs.Copy.{readingIn}
 use Rattle.discovery.specs.Discovery.{copyOn}
-use Rattle.device.specs.Device.{Sectors, Sound, copyFrom}
+use Rattle.crash.specs.Crash.{Sectors, Sound, copyFrom}
 use Rattle.update.specs.Update.{deviceIn}
 use Rattle.update.specs.Demand.{Gives, InStepOn, Start}
 use Rattle.format.specs.Format.{formatTests, formatNumber, firstFields, formattedCopy}
@@ -40,7 +40,7 @@ Formatting =
     → Gives (formattedCopy v p u t r) (formattedCopy v p u t r) t r
     × (InStepOn (formattedCopy v p u t r) (formattedCopy v p u t r) t r
     × ((deviceIn (formattedCopy v p u t r) ≡ v)
-    × (readingIn (formattedCopy v p u t r) ≡ record { verdict = Verdict.Accepted (firstFields v t r); pool = p; device = u })))
+    × (readingIn (formattedCopy v p u t r) ≡ record { verdict = Verdict.Accepted (firstFields v t r); pool = p; blockdev = u })))
 
 -- Everything not named is zero: each byte outside the signature block and outside the record.
 abbrev pub Zero : Type 0

@@ -1,5 +1,5 @@
 -- A copy as the code fills it, step by step. Only a private function's contract cites this; law `filled-formatted` says that
--- it is `Format.formattedCopy` where formatting is not refused. Assumes nothing.
+-- it is `Format.formattedCopy` where formatting is not refused.
 use Prim.Native.Nat.{ℕ}
 use mathlib.Core.List.{List}
 use Rattle.endian.specs.Bytes.{window, splice, zeros}

@@ -1,12 +1,12 @@
--- Formatting: its refusals and what it leaves. Document 01, 'Updates, formatting and mending'. Assumes nothing.
+-- Formatting: its refusals and what it leaves. Document 01, 'Updates, formatting and mending'.
 use Prim.Native.Nat.{ℕ}
 use mathlib.Core.Bool.{cond, _&&_}
 use mathlib.Core.List.{List, _∷_}
 use lib.Dec.{leb, eqb}
 use lib.ListN.{length}
-use Rattle.endian.specs.Bytes.{splice, all, zeros}
-use Rattle.refusal.specs.Numbers.{sliceSize, deviceSize, uuid, metadataSize, reservedSize, areaEntry}
-use Rattle.refusal.specs.Tests.{Test, _or_, first}
+use Rattle.endian.specs.Bytes.{splice, allPass, zeros}
+use Rattle.refusal.specs.Numbers.{sliceSize, deviceSize, uuidByte, metadataSize, reservedSize, areaEntry}
+use Rattle.refusal.specs.Tests.{Test, _elseRefuse_, first}
 use Rattle.layout.specs.declared.Device.{Device}
 use Rattle.layout.specs.declared.Area.the-variants.{A}
 use Rattle.layout.specs.Limits.{sizeAllowed, metadataAllowed, reservedAllowed}
@@ -24,16 +24,16 @@ use Rattle.update.specs.Plan.{laid}
 -- 4, 6 to 9 (9 for nanoseconds only), 15 and 17 to 19: device numbers, UUIDs of the pool and the block device, time, record
 abbrev pub valueTests : Device → List ℕ → List ℕ → Time → List ℕ → List Test
 valueTests v p u t r =
-    (sizeAllowed (v .sectors) or deviceSize)
-    ∷ (all isHex p && all isHex u or uuid)
-    ∷ (metadataAllowed (v .metadata) or metadataSize)
-    ∷ (reservedAllowed (v .reserved) or reservedSize)
-    ∷ (leb (t .nanoseconds) 999999999 or areaEntry)
+    (sizeAllowed (v .sectors) elseRefuse deviceSize)
+    ∷ (allPass isHex p && allPass isHex u elseRefuse uuidByte)
+    ∷ (metadataAllowed (v .metadata) elseRefuse metadataSize)
+    ∷ (reservedAllowed (v .reserved) elseRefuse reservedSize)
+    ∷ (leb (t .nanoseconds) 999999999 elseRefuse areaEntry)
     ∷ contentTests v r
 
 -- 1 before them: both copies have the size of one, each UUID has 32 bytes
 abbrev pub formatTests : List ℕ → List ℕ → Device → List ℕ → List ℕ → Time → List ℕ → List Test
-formatTests f b v p u t r = (sized f b && (eqb (length p) 32 && eqb (length u) 32) or sliceSize) ∷ valueTests v p u t r
+formatTests f b v p u t r = (sized f b && (eqb (length p) 32 && eqb (length u) 32) elseRefuse sliceSize) ∷ valueTests v p u t r
 
 -- the refusal number of formatting the copies f and b; 0 where it is not refused
 unfoldable pub formatNumber : List ℕ → List ℕ → Device → List ℕ → List ℕ → Time → List ℕ → ℕ

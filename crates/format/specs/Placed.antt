@@ -1,5 +1,5 @@
 -- A device that has two given copies in their places, and zeros elsewhere. `Demand.Starting` needs one: no function answers
--- it. Assumes nothing.
+-- it.
 use Prim.Native.Nat.{ℕ, _+_, _-_, _*_}
 use mathlib.Core.Bool.{Bool, cond, _&&_}
 use mathlib.Core.List.{List, [], _∷_}
@@ -13,7 +13,7 @@ use Rattle.layout.specs.declared.Area.the-variants.{A, B}
 use Rattle.layout.specs.Limits.{recordLimit}
 use Rattle.layout.specs.Places.{headerSector, areaSector}
 use Rattle.discovery.specs.Copy.{areaBytes}
-use Rattle.device.specs.Device.{Sectors, areaSectors}
+use Rattle.crash.specs.Crash.{Sectors, areaSectors}
 
 -- sectors from one on, and the bytes that they hold
 pub record Run : Type 0 where

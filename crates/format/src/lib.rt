@@ -1,5 +1,5 @@
 // Formatting: both copies of a device's metadata filled anew, with a first record in area a. The copies are lent as
-// discovery takes them. Assumes nothing.
+// discovery takes them.
 ghost use mathlib.Core.Path.{_≡_};
 ghost use mathlib.Core.Bool.{true};
 ghost use lib.ListN.{length};
@@ -16,15 +16,15 @@ use layout::Area;
 use layout::Device;
 
 // The tests after the sizes: device numbers, UUIDs, time and record.
-fn check_values(d: Device, pool: &[u8], uuid: &[u8], t: Time, r: &[u8]) -> u8
-    ensures { λ n. ⌜ n ≡ first (valueTests d (now (pool .entry)) (now (uuid .entry)) t (now (r .entry))) ⌝ }
+fn check_values(d: Device, pool: &[u8], blockdev: &[u8], t: Time, r: &[u8]) -> u8
+    ensures { λ n. ⌜ n ≡ first (valueTests d (now (pool .entry)) (now (blockdev .entry)) t (now (r .entry))) ⌝ }
 {
     if !layout::size_allowed(d.sectors) {
         return refusal::DEVICE_SIZE;
     }
-    let hex = block::all_hex(pool) & block::all_hex(uuid);
+    let hex = block::all_hex(pool) & block::all_hex(blockdev);
     if !hex {
-        return refusal::UUID;
+        return refusal::UUID_BYTE;
     }
     if !layout::metadata_allowed(d.metadata) {
         return refusal::METADATA_SIZE;
@@ -41,15 +41,15 @@ fn check_values(d: Device, pool: &[u8], uuid: &[u8], t: Time, r: &[u8]) -> u8
 
 // The refusal number of formatting two copies: 1, 4, 6 to 9, 15 or 17 to 19, the lowest that applies; 0 where it is not
 // refused.
-fn check(f: &[u8], b: &[u8], d: Device, pool: &[u8], uuid: &[u8], t: Time, r: &[u8]) -> u8
-    ensures { λ n. ⌜ n ≡ formatNumber (now (f .entry)) (now (b .entry)) d (now (pool .entry)) (now (uuid .entry)) t (now (r .entry)) ⌝ }
+fn check(f: &[u8], b: &[u8], d: Device, pool: &[u8], blockdev: &[u8], t: Time, r: &[u8]) -> u8
+    ensures { λ n. ⌜ n ≡ formatNumber (now (f .entry)) (now (b .entry)) d (now (pool .entry)) (now (blockdev .entry)) t (now (r .entry)) ⌝ }
 {
     let n = layout::copy_bytes();
-    let sized = ((f.len() == n) & (b.len() == n)) & ((pool.len() == 32) & (uuid.len() == 32));
+    let sized = ((f.len() == n) & (b.len() == n)) & ((pool.len() == 32) & (blockdev.len() == 32));
     if !sized {
         return refusal::SLICE_SIZE;
     }
-    check_values(d, pool, uuid, t, r)
+    check_values(d, pool, blockdev, t, r)
 }
 
 // The block's numbers: area a holds the record, area b is unused.
@@ -71,12 +71,12 @@ fn first_fields(d: Device, t: Time, r: &[u8]) -> BlockFields
 }
 
 // Fills one copy: zeros, the block into sector 1, the record into area a.
-fn fill(c: &mut [u8], pool: &[u8], uuid: &[u8], x: BlockFields, r: &[u8])
+fn fill(c: &mut [u8], pool: &[u8], blockdev: &[u8], x: BlockFields, r: &[u8])
     requires { ⌜ length (now c) ≡ copyBytes ⌝ }
-    ensures { λ _. ⌜ now (c .exit) ≡ filled (now (pool .entry)) (now (uuid .entry)) x (now (r .entry)) ⌝ }
+    ensures { λ _. ⌜ now (c .exit) ≡ filled (now (pool .entry)) (now (blockdev .entry)) x (now (r .entry)) ⌝ }
 {
     endian::clear(c);
-    block::write(&mut c[512..1024], pool, uuid, x);
+    block::write(&mut c[512..1024], pool, blockdev, x);
     update::lay(c, Area::A, r);
 }
 
@@ -87,20 +87,20 @@ pub fn format_copies(
     b: &mut [u8],
     d: Device,
     pool: &[u8],
-    uuid: &[u8],
+    blockdev: &[u8],
     t: Time,
     r: &[u8],
 ) -> u8
-    ensures { λ n. ⌜ n ≡ formatNumber (now (f .entry)) (now (b .entry)) d (now (pool .entry)) (now (uuid .entry)) t (now (r .entry)) ⌝ }
-    ensures { λ _. ⌜ now (f .exit) ≡ formatted (now (f .entry)) (now (f .entry)) (now (b .entry)) d (now (pool .entry)) (now (uuid .entry)) t (now (r .entry)) ⌝ }
-    ensures { λ _. ⌜ now (b .exit) ≡ formatted (now (b .entry)) (now (f .entry)) (now (b .entry)) d (now (pool .entry)) (now (uuid .entry)) t (now (r .entry)) ⌝ }
+    ensures { λ n. ⌜ n ≡ formatNumber (now (f .entry)) (now (b .entry)) d (now (pool .entry)) (now (blockdev .entry)) t (now (r .entry)) ⌝ }
+    ensures { λ _. ⌜ now (f .exit) ≡ formatted (now (f .entry)) (now (f .entry)) (now (b .entry)) d (now (pool .entry)) (now (blockdev .entry)) t (now (r .entry)) ⌝ }
+    ensures { λ _. ⌜ now (b .exit) ≡ formatted (now (b .entry)) (now (f .entry)) (now (b .entry)) d (now (pool .entry)) (now (blockdev .entry)) t (now (r .entry)) ⌝ }
 {
-    let n = check(f, b, d, pool, uuid, t, r);
+    let n = check(f, b, d, pool, blockdev, t, r);
     if n != 0 {
         return n;
     }
     let x = first_fields(d, t, r);
-    fill(f, pool, uuid, x, r);
-    fill(b, pool, uuid, x, r);
+    fill(f, pool, blockdev, x, r);
+    fill(b, pool, blockdev, x, r);
     refusal::NONE
 }

@@ -1,4 +1,4 @@
--- Laws of heads and kinds: what callers know of them without looking inside. Assumes nothing.
+-- Laws of heads and kinds: what callers know of them without looking inside.
 use Prim.Native.Nat.{ℕ, _+_, _-_, _*_, _/_, _%_, _^_, _≤_, _<_}
 use mathlib.Core.Path.{_≡_, refl, sym, ap, _∙_}
 use mathlib.Core.Bool.{Bool, true, false, _&&_, true≢false}

@@ -1,4 +1,4 @@
--- Laws of a record's items: what is read, by position and as a list. Assumes nothing.
+-- Laws of a record's items: what is read, by position and as a list.
 use Prim.Native.Nat.{ℕ, zero, suc, _+_, _-_, _*_, _/_, _%_, _^_, _≤_, _<_, min}
 use mathlib.Core.Path.{_≡_, refl, sym, ap, _∙_}
 use mathlib.Core.Bool.{Bool, true, false, _&&_}

@@ -1,4 +1,4 @@
--- Laws of making a record: parts written one after the other, reading what was made, and making what was read. Assumes nothing.
+-- Laws of making a record: parts written one after the other, reading what was made, and making what was read.
 use Prim.Native.Nat.{ℕ, zero, suc, _+_, _-_, _*_, _/_, _%_, _^_, _≤_, _<_, min}
 use mathlib.Core.Path.{_≡_, refl, sym, ap, _∙_}
 use mathlib.Core.Bool.{Bool, true, false, cond, not, true≢false}
@@ -12,11 +12,11 @@ use lib.Dec.{lit<, eqb}
 use lib.ListN.{length, getD, take, drop, length-append, length-drop, take-append-drop}
 use lib.Seq.{length-take-le, take-at, drop-at, getD-drop, split-at}
 use Rattle.refusal.specs.Numbers.{sliceSize, recordForm}
-use Rattle.refusal.specs.Tests.{_or_, first}
+use Rattle.refusal.specs.Tests.{_elseRefuse_, first}
 use Rattle.refusal.proofs.Order.{refused, passed, first-pass, first-fail, first-nil}
-use Rattle.endian.specs.Bytes.{le, toLe, window, splice, fits, room, Bytes}
+use Rattle.endian.specs.Bytes.{le, toLe, window, splice, fits, writeNumber, Bytes}
 use Rattle.endian.proofs.Numbers.{length-toLe, le-toLe, toLe-le}
-use Rattle.endian.proofs.Parts.{length-window-fits, window-append, bytes-window, window-window, splice-next, splice-short, room-fits, room-short}
+use Rattle.endian.proofs.Parts.{length-window-fits, window-append, bytes-window, window-window, splice-next, splice-short, write-fits, write-short}
 use Rattle.layout.specs.declared.Device.{Device}
 use Rattle.segments.specs.declared.Segment.{Segment}
 use Rattle.segments.specs.Segments.{none, nth}
@@ -65,27 +65,27 @@ segment-written s at g h =
 
 -- what `put_segment` answers and leaves: it does not fit, or its writes came back one after the other
 pub put-short : (s : List ℕ) (at : ℕ) (g : Segment) → length s < at + 20
-    → (1 ≡ room s at itemBytes) × (s ≡ splice s at (segmentBytes g))
+    → (1 ≡ writeNumber s at itemBytes) × (s ≡ splice s at (segmentBytes g))
 put-short s at g h =
     let m : length s < at + length (segmentBytes g) = rw length-segment h in
-    (sym (room-short s at itemBytes h), sym (splice-short s at (segmentBytes g) m))
+    (sym (write-short s at itemBytes h), sym (splice-short s at (segmentBytes g) m))
 
 pub put-written : (s : List ℕ) (at : ℕ) (g : Segment) (a b c d : List ℕ) → at + 20 ≤ length s
     → a ≡ splice s at (toLe 2 20) → b ≡ splice a (at + 2) (toLe 2 (g .kind)) → c ≡ splice b (at + 4) (toLe 8 (g .start))
     → d ≡ splice c (at + 12) (toLe 8 (g .sectors))
-    → (0 ≡ room s at itemBytes) × (d ≡ splice s at (segmentBytes g))
-put-written s at g a b c d n i j k l = (sym (room-fits s at itemBytes n), rw (l, k, j, i) (segment-written s at g n))
+    → (0 ≡ writeNumber s at itemBytes) × (d ≡ splice s at (segmentBytes g))
+put-written s at g a b c d n i j k l = (sym (write-fits s at itemBytes n), rw (l, k, j, i) (segment-written s at g n))
 
 -- the same of `begin`
 pub begin-short : (s : List ℕ) (h : Head) → length s < headSize h → (1 ≡ first (beginTests s h)) × (s ≡ begun s h)
 unfolding fits
 begin-short s h l =
-    let q : 1 ≡ first (beginTests s h) = sym (first-fail (fits s 0 (headSize h)) sliceSize ((headAllowed h or recordForm) ∷ []) (lt-leb (0 + headSize h) (length s) (omega arith))) in
+    let q : 1 ≡ first (beginTests s h) = sym (first-fail (fits s 0 (headSize h)) sliceSize ((headAllowed h elseRefuse recordForm) ∷ []) (lt-leb (0 + headSize h) (length s) (omega arith))) in
     (q, ap (λ (z : ℕ). unless z (splice s 0 (headBytes h)) s) q)
 
-room-there : (s : List ℕ) (h : Head) (n : ℕ) → headSize h ≤ length s → n ≡ first ((headAllowed h or recordForm) ∷ []) → n ≡ first (beginTests s h)
+room-there : (s : List ℕ) (h : Head) (n : ℕ) → headSize h ≤ length s → n ≡ first ((headAllowed h elseRefuse recordForm) ∷ []) → n ≡ first (beginTests s h)
 unfolding fits
-room-there s h n l e = e ∙ sym (first-pass (fits s 0 (headSize h)) sliceSize ((headAllowed h or recordForm) ∷ []) (le-leb (0 + headSize h) (length s) (omega arith)))
+room-there s h n l e = e ∙ sym (first-pass (fits s 0 (headSize h)) sliceSize ((headAllowed h elseRefuse recordForm) ∷ []) (le-leb (0 + headSize h) (length s) (omega arith)))
 
 pub begin-form : (s : List ℕ) (h : Head) (r : Bool) → headSize h ≤ length s → r ≡ headAllowed h → not r ≡ true → (17 ≡ first (beginTests s h)) × (s ≡ begun s h)
 begin-form s h r l e t =

@@ -1,4 +1,4 @@
--- The kinds of items, and the head of a record as a value: everything that depends on its kind, by cases. Assumes nothing.
+-- The kinds of items, and the head of a record as a value: everything that depends on its kind, by cases.
 use Prim.Native.Nat.{ℕ, _-_, _/_, _%_}
 use mathlib.Core.Bool.{Bool, true, false, cond, _&&_}
 use mathlib.Core.List.{List, [], _++_}

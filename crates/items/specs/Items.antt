@@ -1,5 +1,5 @@
 -- The items of a segment record, as document 01 lays them out: each with its length first (two bytes, whole item), then a two-byte
--- kind, then the body. Bytes that are not there count as zero, so that each definition has a value at every list. Assumes nothing.
+-- kind, then the body. Bytes that are not there count as zero, so that each definition has a value at every list.
 use Prim.Native.Nat.{ℕ, zero, suc, _+_, _-_, _*_, _/_, _%_}
 use mathlib.Core.Bool.{Bool, _&&_}
 use mathlib.Core.List.{List, [], _∷_}

@@ -1,11 +1,11 @@
--- Making a record: the bytes of a head and of segments one after the other. Assumes nothing.
+-- Making a record: the bytes of a head and of segments one after the other.
 use Prim.Native.Nat.{ℕ, _+_, _*_}
 use mathlib.Core.Bool.{cond}
 use mathlib.Core.List.{List, [], _∷_, _++_}
 use lib.Dec.{eqb}
 use lib.ListN.{take, drop}
 use Rattle.refusal.specs.Numbers.{recordForm, sliceSize}
-use Rattle.refusal.specs.Tests.{Test, _or_, first}
+use Rattle.refusal.specs.Tests.{Test, _elseRefuse_, first}
 use Rattle.endian.specs.Bytes.{toLe, splice, fits}
 use Rattle.segments.specs.declared.Segment.{Segment}
 use Rattle.items.specs.declared.Head.{Head}
@@ -42,7 +42,7 @@ unless n made out = cond (eqb n 0) made out
 
 -- a record begun with a head: room for its bytes, then whether it is within its limits
 abbrev pub beginTests : List ℕ → Head → List Test
-beginTests out h = (fits out 0 (headSize h) or sliceSize) ∷ (headAllowed h or recordForm) ∷ []
+beginTests out h = (fits out 0 (headSize h) elseRefuse sliceSize) ∷ (headAllowed h elseRefuse recordForm) ∷ []
 
 abbrev pub begun : List ℕ → Head → List ℕ
 begun out h = unless (first (beginTests out h)) (splice out 0 (headBytes h)) out

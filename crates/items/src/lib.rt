@@ -1,5 +1,5 @@
 // The items of a segment record: a head, then segments, each with its length first, then its kind. Read and made; what depends on
-// the head's kind is here and nowhere else. Assumes nothing.
+// the head's kind is here and nowhere else.
 use layout::Device;
 use segments::Range;
 use segments::Segment;
@@ -7,7 +7,7 @@ ghost use mathlib.Core.Path.{_≡_};
 ghost use Prim.Native.Nat.{_*_, _/_, _<_, _≤_, min};
 ghost use lib.ListN.{length};
 ghost use Rattle.refusal.specs.Tests.{first};
-ghost use Rattle.endian.specs.Bytes.{le, window, room, splice};
+ghost use Rattle.endian.specs.Bytes.{le, window, writeNumber, splice};
 ghost use Rattle.search.specs.Search.{every};
 ghost use Rattle.segments.specs.Segments.{nth};
 ghost use Rattle.items.specs.declared.Head.the-variants.{Plain};
@@ -317,7 +317,7 @@ pub fn begin(out: &mut [u8], h: Head) -> u8
 
 // Writes a segment's item to out from byte `at` on and answers 0; where it does not fit there, writes nothing and answers 1.
 pub fn put_segment(out: &mut [u8], at: usize, g: Segment) -> u8
-    ensures { λ r. ⌜ r ≡ room (now (out .entry)) at itemBytes ⌝ }
+    ensures { λ r. ⌜ r ≡ writeNumber (now (out .entry)) at itemBytes ⌝ }
     ensures { λ _. ⌜ now (out .exit) ≡ splice (now (out .entry)) at (segmentBytes g) ⌝ }
 {
     if out.len() < at {

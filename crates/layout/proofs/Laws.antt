@@ -1,4 +1,4 @@
--- The limits as facts about numbers. Assumes nothing.
+-- The limits as facts about numbers.
 use Prim.Native.Nat.{ℕ, _%_, _^_, _≤_, _<_}
 use mathlib.Core.Path.{_≡_}
 use mathlib.Core.Bool.{true, _&&_}

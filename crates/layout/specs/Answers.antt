@@ -1,14 +1,14 @@
--- The numbers of an answer: document 01's refusal number, 0 for none, and the values of each case. Assumes nothing.
+-- The numbers of an answer: document 01's refusal number, 0 for none, and the values of each case.
 use Prim.Native.Nat.{ℕ}
 use mathlib.Core.List.{List, [], _∷_}
 use Rattle.layout.specs.declared.Side.{Side}
 use Rattle.layout.specs.declared.Side.the-variants.{Front, Back}
 use Rattle.layout.specs.declared.Area.{Area}
 use Rattle.layout.specs.declared.Area.the-variants.{A, B}
-use Rattle.layout.specs.declared.Copy.{Copy}
-use Rattle.layout.specs.declared.Places.{Places}
-use Rattle.layout.specs.declared.Placement.{Placement}
-use Rattle.layout.specs.declared.Placement.the-variants.{At, Refused}
+use Rattle.layout.specs.declared.CopyMap.{CopyMap}
+use Rattle.layout.specs.declared.DeviceMap.{DeviceMap}
+use Rattle.layout.specs.declared.Located.{Located}
+use Rattle.layout.specs.declared.Located.the-variants.{At, Refused}
 
 -- a side and an area as numbers
 abbrev pub sideNumber : Side → ℕ
@@ -20,18 +20,18 @@ areaNumber A = 0
 areaNumber B = 1
 
 -- a copy's sectors: header, block, areas a and b, reserved space
-abbrev pub copyNumbers : Copy → List ℕ → List ℕ
-copyNumbers c rest = c .header ∷ c .block ∷ c .a ∷ c .b ∷ c .reserved ∷ rest
+abbrev pub copyMapNumbers : CopyMap → List ℕ → List ℕ
+copyMapNumbers c rest = c .header ∷ c .block ∷ c .a ∷ c .b ∷ c .reserved ∷ rest
 
 -- the front's, the back's, and the data range
-abbrev pub placeNumbers : Places → List ℕ
-placeNumbers p = copyNumbers (p .front) (copyNumbers (p .back) (p .start ∷ p .end ∷ []))
+abbrev pub mapNumbers : DeviceMap → List ℕ
+mapNumbers p = copyMapNumbers (p .front) (copyMapNumbers (p .back) (p .start ∷ p .end ∷ []))
 
 -- what `locate` answers
-abbrev pub placementNumber : Placement → ℕ
-placementNumber (At p) = 0
-placementNumber (Refused n) = n
+abbrev pub locatedNumber : Located → ℕ
+locatedNumber (At p) = 0
+locatedNumber (Refused n) = n
 
-abbrev pub placementValues : Placement → List ℕ
-placementValues (At p) = placeNumbers p
-placementValues (Refused n) = []
+abbrev pub locatedValues : Located → List ℕ
+locatedValues (At p) = mapNumbers p
+locatedValues (Refused n) = []

@@ -1,10 +1,10 @@
--- Document 01's limits of the device numbers, and the size of records and copies. Assumes nothing.
+-- Document 01's limits of the device numbers, and the size of records and copies.
 use Prim.Native.Nat.{ℕ, _%_}
 use mathlib.Core.Bool.{Bool, _&&_}
 use mathlib.Core.List.{List, [], _∷_}
 use lib.Dec.{leb, eqb}
 use Rattle.refusal.specs.Numbers.{deviceSize, metadataSize, reservedSize}
-use Rattle.refusal.specs.Tests.{Test, _or_}
+use Rattle.refusal.specs.Tests.{Test, _elseRefuse_}
 use Rattle.layout.specs.declared.Device.{Device}
 
 -- S at least 2,097,152 (1 GiB)
@@ -22,9 +22,9 @@ reservedAllowed r = leb r 65536
 -- the tests of the device numbers, in the order in which calls that are handed them test them
 abbrev pub deviceTests : Device → List Test
 deviceTests d =
-    (sizeAllowed (d .sectors) or deviceSize)
-    ∷ (metadataAllowed (d .metadata) or metadataSize)
-    ∷ (reservedAllowed (d .reserved) or reservedSize)
+    (sizeAllowed (d .sectors) elseRefuse deviceSize)
+    ∷ (metadataAllowed (d .metadata) elseRefuse metadataSize)
+    ∷ (reservedAllowed (d .reserved) elseRefuse reservedSize)
     ∷ []
 
 -- bytes of a sector

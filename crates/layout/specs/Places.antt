@@ -1,5 +1,5 @@
 -- Where things lie: document 01, 'Where things lie', in its order. Differences of numbers stop at 0; with device numbers
--- that are allowed none does. Assumes nothing.
+-- that are allowed none does.
 use Prim.Native.Nat.{ℕ, _+_, _-_, _*_, _/_}
 use mathlib.Core.Bool.{cond}
 use lib.Dec.{eqb}
@@ -9,10 +9,10 @@ use Rattle.layout.specs.declared.Side.{Side}
 use Rattle.layout.specs.declared.Side.the-variants.{Front, Back}
 use Rattle.layout.specs.declared.Area.{Area}
 use Rattle.layout.specs.declared.Area.the-variants.{A, B}
-use Rattle.layout.specs.declared.Copy.{Copy}
-use Rattle.layout.specs.declared.Places.{Places}
-use Rattle.layout.specs.declared.Placement.{Placement}
-use Rattle.layout.specs.declared.Placement.the-variants.{At, Refused}
+use Rattle.layout.specs.declared.CopyMap.{CopyMap}
+use Rattle.layout.specs.declared.DeviceMap.{DeviceMap}
+use Rattle.layout.specs.declared.Located.{Located}
+use Rattle.layout.specs.declared.Located.the-variants.{At, Refused}
 use Rattle.layout.specs.Limits.{deviceTests, sectorBytes, recordLimit}
 
 -- front: header in sectors 0 to 7; back: header in the last 8 sectors
@@ -55,8 +55,8 @@ unfoldable pub copyBytes : ℕ
 copyBytes = 8 * sectorBytes + recordLimit + recordLimit
 
 -- a copy's places
-abbrev pub copyOf : Side → Device → Copy
-copyOf s d =
+abbrev pub copyMapOf : Side → Device → CopyMap
+copyMapOf s d =
     record {
       header = headerSector s d;
       block = blockSector s d;
@@ -65,12 +65,12 @@ copyOf s d =
       reserved = reservedSector s d;
     }
 
-abbrev pub placesOf : Device → Places
-placesOf d = record { front = copyOf Front d; back = copyOf Back d; start = dataStart d; end = dataEnd d }
+abbrev pub mapOf : Device → DeviceMap
+mapOf d = record { front = copyMapOf Front d; back = copyMapOf Back d; start = dataStart d; end = dataEnd d }
 
-abbrev pub placed : ℕ → Places → Placement
-placed n p = cond (eqb n 0) (At p) (Refused n)
+abbrev pub locatedAt : ℕ → DeviceMap → Located
+locatedAt n p = cond (eqb n 0) (At p) (Refused n)
 
 -- what `locate` answers: document 01's number, or the places
-abbrev pub placement : Device → Placement
-placement d = placed (first (deviceTests d)) (placesOf d)
+abbrev pub located : Device → Located
+located d = locatedAt (first (deviceTests d)) (mapOf d)

@@ -1,10 +1,10 @@
 // Where things lie on a device, from its three numbers: S sectors in all, L of a metadata area, R of reserved space.
-// Sectors are u64, and nothing wraps for any S. Assumes nothing.
+// Sectors are u64, and nothing wraps for any S.
 ghost use mathlib.Core.Path.{_≡_};
 ghost use Prim.Native.Nat.{_-_};
 ghost use Rattle.refusal.specs.Tests.{first};
 ghost use Rattle.layout.specs.Limits.{sizeAllowed, metadataAllowed, reservedAllowed, lengthAllowed, deviceTests};
-ghost use Rattle.layout.specs.Places.{blockSector, areaSector, dataStart, dataEnd, areaOffset, copyBytes, placement};
+ghost use Rattle.layout.specs.Places.{blockSector, areaSector, dataStart, dataEnd, areaOffset, copyBytes, located};
 
 pub const SECTOR_BYTES: usize = 512;
 
@@ -34,7 +34,7 @@ pub enum Area {
 }
 
 // First sectors of a copy's parts.
-pub struct Copy {
+pub struct CopyMap {
     pub header: u64,
     pub block: u64,
     pub a: u64,
@@ -43,16 +43,16 @@ pub struct Copy {
 }
 
 // Both copies, and the data range: from start up to, not including, end.
-pub struct Places {
-    pub front: Copy,
-    pub back: Copy,
+pub struct DeviceMap {
+    pub front: CopyMap,
+    pub back: CopyMap,
     pub start: u64,
     pub end: u64,
 }
 
 // What `locate` answers.
-pub enum Placement {
-    At(Places),
+pub enum Located {
+    At(DeviceMap),
     Refused(u8),
 }
 
@@ -101,7 +101,7 @@ pub fn check(d: Device) -> u8
 }
 
 // a - b, or 0 where b is more than a.
-fn less(a: u64, b: u64) -> u64
+fn saturating_sub(a: u64, b: u64) -> u64
     ensures { λ r. ⌜ r ≡ a - b ⌝ }
 {
     if a < b { 0 } else { a - b }
@@ -113,7 +113,7 @@ pub fn block_sector(side: Side, d: Device) -> u64
 {
     match side {
         Side::Front => 1,
-        Side::Back => less(d.sectors, 7),
+        Side::Back => saturating_sub(d.sectors, 7),
     }
 }
 
@@ -128,8 +128,8 @@ pub fn area_sector(side: Side, area: Area, d: Device) -> u64
             Area::B => 8 + l / 2,
         },
         Side::Back => match area {
-            Area::A => less(less(d.sectors, 8), l),
-            Area::B => less(less(d.sectors, 8), l / 2),
+            Area::A => saturating_sub(saturating_sub(d.sectors, 8), l),
+            Area::B => saturating_sub(saturating_sub(d.sectors, 8), l / 2),
         },
     }
 }
@@ -162,36 +162,36 @@ pub fn data_start(d: Device) -> u64
 pub fn data_end(d: Device) -> u64
     ensures { λ r. ⌜ r ≡ dataEnd d ⌝ }
 {
-    less(
-        less(less(d.sectors, 8), d.metadata as u64),
+    saturating_sub(
+        saturating_sub(saturating_sub(d.sectors, 8), d.metadata as u64),
         d.reserved as u64,
     )
 }
 
 // The places of both copies and the data range, or the number of device numbers that are not allowed.
-pub fn locate(d: Device) -> Placement
-    ensures { λ r. ⌜ r ≡ placement d ⌝ }
+pub fn locate(d: Device) -> Located
+    ensures { λ r. ⌜ r ≡ located d ⌝ }
 {
     let n = check(d);
     if n != 0 {
-        return Placement::Refused(n);
+        return Located::Refused(n);
     }
     let l = d.metadata as u64;
-    let front = Copy {
+    let front = CopyMap {
         header: 0,
         block: block_sector(Side::Front, d),
         a: area_sector(Side::Front, Area::A, d),
         b: area_sector(Side::Front, Area::B, d),
         reserved: 8 + l,
     };
-    let back = Copy {
-        header: less(d.sectors, 8),
+    let back = CopyMap {
+        header: saturating_sub(d.sectors, 8),
         block: block_sector(Side::Back, d),
         a: area_sector(Side::Back, Area::A, d),
         b: area_sector(Side::Back, Area::B, d),
         reserved: data_end(d),
     };
-    Placement::At(Places {
+    Located::At(DeviceMap {
         front,
         back,
         start: data_start(d),

@@ -1,4 +1,4 @@
--- The blocks that a mend stores: each is accepted, and the writer takes it. Assumes nothing.
+-- The blocks that a mend stores: each is accepted, and the writer takes it.
 use Prim.Native.Nat.{ℕ}
 use mathlib.Core.Path.{_≡_, refl, ap}
 use mathlib.Core.Bool.{true, cond}
@@ -16,7 +16,7 @@ use Rattle.block.specs.declared.BlockFields.{BlockFields}
 use Rattle.block.specs.declared.Reading.{Reading}
 use Rattle.block.specs.declared.Verdict.the-variants as Verdict
 use Rattle.block.specs.Entry.{entryAllowed, entriesAllowed}
-use Rattle.block.specs.Block.{poolOf, uuidOf, fieldsOf, readTests, reading}
+use Rattle.block.specs.Block.{poolOf, blockdevOf, fieldsOf, readTests, reading}
 use Rattle.block.specs.Writing.{writeTests, written}
 use Rattle.block.specs.Demand.{EntryFits}
 use Rattle.block.proofs.Readings.{accepted-length}
@@ -64,7 +64,7 @@ module _ (c : List ℕ) (ok : first (readTests (blockIn c)) ≡ 0) where
   right-blank = right-blank-at (newest (fieldsOf (blockIn c)))
 
   module _ (g : BlockFields) (k : Right c g) where
-    pub like-reads : reading (blockLike c g) ≡ record { verdict = Verdict.Accepted g; pool = poolOf (blockIn c); device = uuidOf (blockIn c) }
+    pub like-reads : reading (blockLike c g) ≡ record { verdict = Verdict.Accepted g; pool = poolOf (blockIn c); blockdev = blockdevOf (blockIn c) }
     unfolding blockLike
     like-reads = again-reads (blockIn c) ok g (k .same) (k .allowed) (k .fits-a) (k .fits-b)
 
@@ -72,10 +72,10 @@ module _ (c : List ℕ) (ok : first (readTests (blockIn c)) ≡ 0) where
     like-size = accepted-length (blockLike c g) (verdict-facts (blockLike c g) g (ap (λ (q : Reading). q .verdict) like-reads) .0)
 
     module _ (out : List ℕ) (room : length out ≡ 512) where
-      pub like-writes : first (writeTests out (poolOf (blockIn c)) (uuidOf (blockIn c)) g) ≡ 0
+      pub like-writes : first (writeTests out (poolOf (blockIn c)) (blockdevOf (blockIn c)) g) ≡ 0
       like-writes = again-writes (blockIn c) ok g (k .same) (k .allowed) (k .fits-a) (k .fits-b) out room
 
-      pub like-written : written out (poolOf (blockIn c)) (uuidOf (blockIn c)) g ≡ blockLike c g
+      pub like-written : written out (poolOf (blockIn c)) (blockdevOf (blockIn c)) g ≡ blockLike c g
       unfolding blockLike
       like-written = again-written (blockIn c) ok g (k .same) (k .allowed) (k .fits-a) (k .fits-b) out room
 

@@ -1,4 +1,4 @@
--- Which case of the answers applies, from what the code has tested. Assumes nothing.
+-- Which case of the answers applies, from what the code has tested.
 use Prim.Native.Nat.{ℕ, _+_, _-_, _≤_, _<_}
 use mathlib.Core.Path.{_≡_, refl, sym, ap, _∙_}
 use mathlib.Core.Bool.{Bool, true, false, cond}

@@ -1,9 +1,9 @@
--- What mending promises of the device, proved. Assumes nothing.
+-- What mending promises of the device, proved.
 use Prim.Native.Nat.{ℕ, _+_, _<_}
 use mathlib.Core.Path.{_≡_, refl, sym, ap, subst, _∙_}
 use mathlib.Core.Bool.{Bool, true, false, cond}
 use mathlib.Core.Logic.{_⊎_, inl, inr}
-use mathlib.Core.List.{List, []}
+use mathlib.Core.List.{List, [], flatten}
 use native.Mathlib.Nat.{not-suc-le-zero}
 use native.Mathlib.Omega.{arith}
 use lib.ListN.{length}
@@ -18,15 +18,15 @@ use Rattle.block.specs.declared.Holding.{Holding}
 use Rattle.block.specs.declared.Entry.the-variants.{Unused}
 use Rattle.block.specs.declared.BlockFields.{BlockFields}
 use Rattle.block.specs.Entry.{timeOf}
-use Rattle.block.specs.Block.{poolOf, uuidOf, fieldsOf}
-use Rattle.discovery.specs.declared.Record.{Record}
+use Rattle.block.specs.Block.{poolOf, blockdevOf, fieldsOf}
+use Rattle.discovery.specs.declared.Finding.{Finding}
 use Rattle.discovery.specs.declared.Other.the-variants.{Both}
 use Rattle.discovery.specs.declared.Answer.{Answer}
 use Rattle.discovery.specs.Copy.{blockIn, otherSide, newest}
 use Rattle.discovery.specs.Discovery.{recordAt, sameDevice, inStep, copyOn, recordBytes}
 use Rattle.discovery.specs.Newest.{timeAt}
 use Rattle.discovery.proofs.Latest.{found-same}
-use Rattle.device.specs.Device.{Sectors, Sound, Store, Groups, stores, storeIn, landed, allLanded, copyFrom}
+use Rattle.crash.specs.Crash.{Sectors, Sound, Store, Groups, stores, storeIn, landed, allLanded, copyFrom}
 use Rattle.update.specs.Update.{sectorsOf}
 use Rattle.update.specs.Demand.{Gives, InStepOn, heldIn, recordIn}
 use Rattle.update.proofs.Holding.{Holds}
@@ -63,7 +63,7 @@ both-hold v e se Back {g} {j} {p} {u} {x} {y} {h} m n i = (
   agree-in-step n m (sized-copies v e e se se) (same-device-test j g (sym i)) (timeOf h) refl refl,
 )
 
-module _ (v : Device) (d : Sectors) (q : Record) (s : State v d q) where
+module _ (v : Device) (d : Sectors) (q : Finding) (s : State v d q) where
   abbrev f : List ℕ
   f = copyFrom Front v d
 
@@ -112,7 +112,7 @@ module _ (v : Device) (d : Sectors) (q : Record) (s : State v d q) where
     stepped : Stepped (λ (w : Side). copyFrom w v d)
     stepped = in-step-facts (λ (w : Side). copyFrom w v d) i
 
-    holds : (w : Side) → Holds (copyFrom w v d) (fieldsOf (blockIn (copyFrom w v d))) (poolOf (blockIn f)) (uuidOf (blockIn f))
+    holds : (w : Side) → Holds (copyFrom w v d) (fieldsOf (blockIn (copyFrom w v d))) (poolOf (blockIn f)) (blockdevOf (blockIn f))
         (newest (fieldsOf (blockIn (copyFrom w v d)))) (heldIn (copyFrom w v d)) (recordIn f)
     holds w = stepped-held v d (s .sound) sizes stepped w d (s .sound) refl (λ n l. refl)
 
@@ -127,13 +127,13 @@ module _ (v : Device) (d : Sectors) (q : Record) (s : State v d q) where
 
     untouched : Done v d (timeAt q) r
     untouched =
-        subst (λ (z : Record). Done v d (timeAt z) (recordBytes z f b)) (sym is-front) (
+        subst (λ (z : Finding). Done v d (timeAt z) (recordBytes z f b)) (sym is-front) (
           agree-gives (holds Front) (holds Back) (stepped .sizes) one-device (timeOf (heldIn f)) refl (stepped .times Back),
           agree-in-step (holds Front) (holds Back) (stepped .sizes) one-device (timeOf (heldIn f)) refl (stepped .times Back),
         )
 
   done : (t : Bool) → inStep f b ≡ t → Done v (allLanded (cond t [] (rewriting (q .side) c (q .area) r)) d) (timeAt q) r
-  unfolding stores landed
+  unfolding flatten landed
   done true i = untouched i
   done false i = rewritten
 
@@ -161,7 +161,7 @@ module _ (v : Device) (d : Sectors) (q : Record) (s : State v d q) where
       (λ n. inr (inr (omega arith, ap (λ (z : Store). z .sector) (last-at (q .side) v d (s .sound) (s .placed) (q .area) h r itself n))))
 
   by-step : (t : Bool) (i : ℕ) → i < length (stores (cond t [] (rewriting (q .side) c (q .area) r))) → Goes (cond t [] (rewriting (q .side) c (q .area) r)) i
-  unfolding stores
+  unfolding flatten
   by-step true i l = absurd (not-suc-le-zero l)
   by-step false i l = goes i l
 

@@ -1,8 +1,8 @@
--- What the calls of a mend give is what its groups have. Assumes nothing.
+-- What the calls of a mend give is what its groups have.
 use Prim.Native.Nat.{ℕ, zero, suc, _+_, _-_, _*_, _^_, _≤_, _<_}
 use mathlib.Core.Path.{_≡_, refl, sym, ap, ap₂, subst, _∙_}
 use mathlib.Core.Bool.{Bool, true, false, cond}
-use mathlib.Core.List.{List, [], _∷_, map}
+use mathlib.Core.List.{List, [], _∷_, map, flatten}
 use native.Mathlib.Nat.{not-suc-le-zero, add-zero}
 use native.Mathlib.Decide.{decLe}
 use native.Mathlib.Omega.{arith}
@@ -12,14 +12,14 @@ use Rattle.layout.specs.declared.Area.the-variants.{A}
 use Rattle.layout.specs.Places.{blockSector, areaSector}
 use Rattle.block.specs.declared.BlockFields.{BlockFields}
 use Rattle.block.specs.Block.{fieldsOf}
-use Rattle.discovery.specs.declared.Record.{Record}
+use Rattle.discovery.specs.declared.Finding.{Finding}
 use Rattle.discovery.specs.declared.Other.{Other}
 use Rattle.discovery.specs.declared.Answer.{Answer}
 use Rattle.discovery.specs.declared.Answer.the-variants as Answer
 use Rattle.discovery.specs.Copy.{blockIn, otherSide}
 use Rattle.discovery.specs.Discovery.{sized, discovery, inStep, copyOn, recordBytes}
-use Rattle.device.specs.Device.{Store, Groups, stores, storeIn, groupStart}
-use Rattle.device.proofs.Groups.{total}
+use Rattle.crash.specs.Crash.{Store, Groups, stores, storeIn, groupStart}
+use Rattle.crash.proofs.Groups.{total}
 use Rattle.update.specs.declared.Given.{Given}
 use Rattle.update.specs.declared.Given.the-variants as Given
 use Rattle.update.specs.Update.{deviceIn, sectorsOf}
@@ -53,13 +53,13 @@ Agrees f b m gs =
 
 -- nothing to store
 starts-none : (g : ℕ) → groupStart [] g ≡ 0
-unfolding groupStart stores
+unfolding groupStart flatten
 starts-none zero = refl
 starts-none (suc g) = refl
 
 nothing : (f b : List ℕ) (m : Mending) → storesIn m ≡ 0 → ((i : ℕ) (out : List ℕ) → (mendAnswer m f b i out ≡ Given.Refused noStore) × (mendBytes m f b i out ≡ out))
     → Agrees f b m []
-unfolding stores
+unfolding flatten
 nothing f b m e h = (
   e,
   (
@@ -75,7 +75,7 @@ nothing f b m e h = (
 )
 
 -- a copy is kept
-module _ (f b : List ℕ) (q : Record) (o : Other) (e : discovery f b ≡ Answer.Found q o) where
+module _ (f b : List ℕ) (q : Finding) (o : Other) (e : discovery f b ≡ Answer.Found q o) where
   abbrev c : List ℕ
   c = copyOn (q .side) f b
 

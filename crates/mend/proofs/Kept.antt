@@ -1,4 +1,4 @@
--- What discovery's answer says of the copy that mending keeps. Assumes nothing.
+-- What discovery's answer says of the copy that mending keeps.
 use Prim.Native.Nat.{ℕ, _+_, _≤_}
 use mathlib.Core.Path.{_≡_, refl, sym, ap, subst, _∙_}
 use mathlib.Core.Bool.{Bool, true, false}
@@ -24,7 +24,7 @@ use Rattle.block.specs.Entry.{timeOf}
 use Rattle.block.specs.Block.{fieldsOf, readTests}
 use Rattle.block.specs.Writing.{holdingOf}
 use Rattle.discovery.specs.declared.Present.the-variants.{At}
-use Rattle.discovery.specs.declared.Record.{Record}
+use Rattle.discovery.specs.declared.Finding.{Finding}
 use Rattle.discovery.specs.declared.Other.{Other}
 use Rattle.discovery.specs.declared.Answer.the-variants.{Found}
 use Rattle.discovery.specs.Copy.{blockIn, areaBytes, entryIn, otherArea, wholeEntry, whole, newest, present}
@@ -54,7 +54,7 @@ pub record Kept (c : List ℕ) (x : Area) (h : Holding) (r : List ℕ) : Type 0 
 pub kept-small : {c : List ℕ} {x : Area} {h : Holding} {r : List ℕ} → Kept c x h r → length r ≤ recordLimit
 kept-small k = subst (λ (n : ℕ). n ≤ recordLimit) (k .long) (k .small)
 
-module _ (f b : List ℕ) (q : Record) (o : Other) (e : discovery f b ≡ Found q o) where
+module _ (f b : List ℕ) (q : Finding) (o : Other) (e : discovery f b ≡ Found q o) where
   pub found-sized : sized f b ≡ true
   found-sized = go (sized f b) refl
     where
@@ -81,7 +81,7 @@ module _ (f b : List ℕ) (q : Record) (o : Other) (e : discovery f b ≡ Found 
   found-is = found .is ∙ ap (λ (g : BlockFields). recordAt (q .side) (q .area) (holdingOf (entryIn g (q .area)))) (facts .1)
 
   pub found-bytes : q .bytes ≡ held .bytes
-  found-bytes = ap (λ (z : Record). z .bytes) found-is
+  found-bytes = ap (λ (z : Finding). z .bytes) found-is
 
   pub found-time : timeAt q ≡ timeOf held
   found-time = ap timeAt found-is

@@ -1,4 +1,4 @@
--- What the stores of a mend leave on the device, all landed. Assumes nothing.
+-- What the stores of a mend leave on the device, all landed.
 use Prim.Native.Nat.{ℕ, suc, _+_, _-_, _*_, _≤_, _<_}
 use mathlib.Core.Path.{_≡_, refl, sym, ap, subst, _∙_}
 use mathlib.Core.Bool.{Bool, true, false, true≢false}
@@ -18,12 +18,12 @@ use Rattle.block.specs.declared.Entry.the-variants.{Used}
 use Rattle.block.specs.declared.BlockFields.{BlockFields}
 use Rattle.block.specs.declared.Reading.{Reading}
 use Rattle.block.specs.declared.Verdict.the-variants as Verdict
-use Rattle.block.specs.Block.{poolOf, uuidOf, fieldsOf, reading}
+use Rattle.block.specs.Block.{poolOf, blockdevOf, fieldsOf, reading}
 use Rattle.block.proofs.Readings.{accepted-reading}
 use Rattle.discovery.specs.Copy.{blockIn, entryIn, otherArea, otherSide, newest}
-use Rattle.device.specs.Device.{Sectors, Sound, Store, Groups, stores, storeIn, put, landed, allLanded, gather, areaSectors, copyFrom}
-use Rattle.device.proofs.Landing.{landed-old, landed-last, landed-size, landed-first}
-use Rattle.device.proofs.Copies.{limit-small, copy-block, copy-area, gather-same}
+use Rattle.crash.specs.Crash.{Sectors, Sound, Store, Groups, stores, storeIn, put, landed, allLanded, gather, areaSectors, copyFrom}
+use Rattle.crash.proofs.Landing.{landed-old, landed-last, landed-size, landed-first}
+use Rattle.crash.proofs.Copies.{limit-small, copy-block, copy-area, gather-same}
 use Rattle.update.specs.Update.{deviceIn, sectorsOf, sectorOf}
 use Rattle.update.proofs.Padding.{gather-record, sectors-within, sectors-few, length-sector}
 use Rattle.update.proofs.Places.{Sizes, sizes-accepted, near, area-near, block-near, block-apart, other-side}
@@ -175,21 +175,21 @@ module _ (w : Side) (v : Device) (d : Sectors) (sd : Sound d) (placed : deviceIn
   abbrev pub pool : List ℕ
   pool = poolOf (blockIn c)
 
-  abbrev pub uuid : List ℕ
-  uuid = uuidOf (blockIn c)
+  abbrev pub blockdev : List ℕ
+  blockdev = blockdevOf (blockIn c)
 
   abbrev pub HeldIn : Side → Sectors → BlockFields → Area → Type 0
-  HeldIn s e g y = Holds (copyFrom s v e) g pool uuid y h r
+  HeldIn s e g y = Holds (copyFrom s v e) g pool blockdev y h r
 
   read-as : BlockFields → Reading
-  read-as g = record { verdict = Verdict.Accepted g; pool = pool; device = uuid }
+  read-as g = record { verdict = Verdict.Accepted g; pool = pool; blockdev = blockdev }
 
   pub other-holds : HeldIn (otherSide w) end (refilled (deviceIn c) (Used h)) A
   other-holds =
       holds-at (otherSide w) v end end-sound sizes
       (ap reading filled-block
       ∙ (like-reads c (kept .accepted) (refilled (deviceIn c) (entryIn fields x)) (right-filled c (kept .accepted) x)
-      ∙ ap (λ (e : Entry). record { verdict = Verdict.Accepted (refilled (deviceIn c) e); pool = pool; device = uuid }) (kept .entry)))
+      ∙ ap (λ (e : Entry). record { verdict = Verdict.Accepted (refilled (deviceIn c) e); pool = pool; blockdev = blockdev }) (kept .entry)))
       (newest-filled (deviceIn c) (Used h)) refl (kept .sum) (kept .long) (kept .small)
       (ap (λ (n : ℕ). take n (gather end (areaSector (otherSide w) A v) areaSectors)) (kept .long)
       ∙ gather-record end r (areaSector (otherSide w) A v) areaSectors (sectors-within (length r) (kept-small kept)) filled-area)

@@ -1,4 +1,4 @@
--- What is to be stored, from what the code has worked out. Assumes nothing.
+-- What is to be stored, from what the code has worked out.
 use Prim.Native.Nat.{ℕ}
 use mathlib.Core.Path.{_≡_, sym, ap, ap₂, _∙_}
 use mathlib.Core.Bool.{Bool, true, false, cond}
@@ -13,7 +13,7 @@ use Rattle.block.specs.declared.Entry.{Entry}
 use Rattle.block.specs.declared.Entry.the-variants.{Unused}
 use Rattle.block.specs.declared.BlockFields.{BlockFields}
 use Rattle.block.specs.Block.{fieldsOf}
-use Rattle.discovery.specs.declared.Record.{Record}
+use Rattle.discovery.specs.declared.Finding.{Finding}
 use Rattle.discovery.specs.declared.Other.{Other}
 use Rattle.discovery.specs.declared.Answer.{Answer}
 use Rattle.discovery.specs.declared.Answer.the-variants as Answer
@@ -49,7 +49,7 @@ module _ (w : Side) (c s : List ℕ) (x : BlockFields) (y : Area) (t : Bool) (es
       (eg ∙ ap₂ (λ (z : BlockFields) (a : Area). withEntry z a Unused) numbers latest)
       ∙ sym (ap (λ (q : Bool). cond q Last.Absent (Last.Blank (blockSector w (deviceIn c)) (blanked (fieldsOf (blockIn c))))) (sym tested ∙ h))
 
-pub rewrite-made : (c : List ℕ) (q : Record) (s : List ℕ) (x : BlockFields) (w : Side) (e : Entry) (at m k : ℕ) (l : Last)
+pub rewrite-made : (c : List ℕ) (q : Finding) (s : List ℕ) (x : BlockFields) (w : Side) (e : Entry) (at m k : ℕ) (l : Last)
     → s ≡ window c 512 512 → x ≡ fieldsOf s → w ≡ otherSide (q .side) → e ≡ entryIn x (q .area) → at ≡ areaSector w A (x .device)
     → m ≡ blockSector w (x .device) → k ≡ sectorsOf (q .bytes) → l ≡ lastOf (q .side) c
     → _≡_ {A = Rewrite}
@@ -85,7 +85,7 @@ module _ (f b : List ℕ) (a : Answer) (ea : a ≡ discovery f b) where
   unfolding mending
   mend-refused n e = ap (λ (z : Answer). mendingAfter z f b) (sym e ∙ ea)
 
-  module _ (q : Record) (o : Other) (e : a ≡ Answer.Found q o) (t : Bool) (et : t ≡ inStep f b) where
+  module _ (q : Finding) (o : Other) (e : a ≡ Answer.Found q o) (t : Bool) (et : t ≡ inStep f b) where
     pub mend-none : t ≡ true → Mending.InStep ≡ mending f b
     unfolding mending
     mend-none h =

@@ -1,8 +1,8 @@
--- The stores of a mend: which number goes to which sector. Assumes nothing.
+-- The stores of a mend: which number goes to which sector.
 use Prim.Native.Nat.{ℕ, zero, suc, _+_, _<_}
 use mathlib.Core.Path.{_≡_, refl, sym, ap, subst, _∙_}
 use mathlib.Core.Bool.{Bool, true, false}
-use mathlib.Core.List.{List, [], _∷_, _++_, map}
+use mathlib.Core.List.{List, [], _∷_, _++_, map, flatten}
 use native.Mathlib.Decide.{decLt, ℕ-discrete}
 use native.Mathlib.Nat.{add-zero}
 use native.Mathlib.Omega.{arith}
@@ -13,8 +13,8 @@ use Rattle.layout.specs.declared.Area.the-variants.{A}
 use Rattle.layout.specs.Places.{blockSector, areaSector}
 use Rattle.block.specs.Block.{fieldsOf}
 use Rattle.discovery.specs.Copy.{blockIn, entryIn, otherSide}
-use Rattle.device.specs.Device.{Store, Groups, stores, storeIn, groupStart}
-use Rattle.device.proofs.Groups.{at-left, at-right, total, starts}
+use Rattle.crash.specs.Crash.{Store, Groups, stores, storeIn, groupStart}
+use Rattle.crash.proofs.Groups.{at-left, at-right, total, starts}
 use Rattle.update.specs.Update.{deviceIn, sectorsOf, sectorOf, recordStores, blockStore}
 use Rattle.update.proofs.Stores.{length-record, at-record}
 use Rattle.mend.specs.Mend.{blockLike, emptied, refilled, blanked, laterWhole, lastGroup, rewriting}
@@ -46,7 +46,7 @@ module _ (w : Side) (c : List ℕ) (x : Area) (r : List ℕ) where
   blankBlock = blockLike c (blanked (fieldsOf (blockIn c)))
 
   listed : stores groups ≡ blockPlace (otherSide w) emptyBlock ∷ (theRecord ++ (blockPlace (otherSide w) filledBlock ∷ stores (lastGroup w c)))
-  unfolding stores rewriting
+  unfolding flatten rewriting
   listed = refl
 
   long : length theRecord ≡ k
@@ -95,7 +95,7 @@ module _ (w : Side) (c : List ℕ) (x : Area) (r : List ℕ) where
     last-none = rw h
 
     pub count-whole : length (stores groups) ≡ k + 2
-    unfolding stores
+    unfolding flatten
     count-whole = count ∙ (ap (λ (g : Groups). k + 2 + length (stores g)) last-none ∙ add-zero (k + 2))
 
   -- one last store
@@ -105,12 +105,12 @@ module _ (w : Side) (c : List ℕ) (x : Area) (r : List ℕ) where
     last-one = rw h
 
     pub count-blank : length (stores groups) ≡ k + 3
-    unfolding stores
+    unfolding flatten
     count-blank =
         count ∙ (ap (λ (g : Groups). k + 2 + length (stores g)) last-one ∙ (let e : k + 2 + 1 ≡ k + 3 = omega arith in e))
 
     pub at-last : storeIn groups (suc (suc k)) ≡ blockPlace w blankBlock
-    unfolding stores
+    unfolding flatten
     at-last =
         ap (λ (n : ℕ). storeIn groups (suc n)) (let e : suc k ≡ k + 1 = omega arith in e)
         ∙ (after-record 1 ∙ ap (λ (g : Groups). getD (blockPlace (otherSide w) filledBlock ∷ stores g) 1 none) last-one)

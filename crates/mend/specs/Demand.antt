@@ -1,5 +1,5 @@
 -- What mending promises: `proofs/Demand.antt` proves `Landing`, `Touching` and `Giving`. Stores, groups, landing and the
--- device are `device`'s, the same that demand 3 speaks of. Assumes nothing.
+-- device are `device`'s, the same that demand 3 speaks of.
 use Prim.Native.Nat.{ℕ, suc, _+_, _≤_, _<_}
 use mathlib.Core.Path.{_≡_}
 use mathlib.Core.Logic.{_⊎_}
@@ -11,13 +11,13 @@ use Rattle.layout.specs.declared.Device.{Device}
 use Rattle.layout.specs.declared.Side.the-variants.{Front, Back}
 use Rattle.layout.specs.declared.Area.the-variants.{A}
 use Rattle.layout.specs.Places.{blockSector, areaSector}
-use Rattle.discovery.specs.declared.Record.{Record}
+use Rattle.discovery.specs.declared.Finding.{Finding}
 use Rattle.discovery.specs.declared.Other.{Other}
 use Rattle.discovery.specs.declared.Answer.the-variants.{Found}
 use Rattle.discovery.specs.Copy.{otherSide}
 use Rattle.discovery.specs.Discovery.{sized, discovery, recordBytes}
 use Rattle.discovery.specs.Newest.{timeAt}
-use Rattle.device.specs.Device.{Sectors, Sound, stores, storeIn, groupStart, allLanded, copyFrom}
+use Rattle.crash.specs.Crash.{Sectors, Sound, stores, storeIn, groupStart, allLanded, copyFrom}
 use Rattle.update.specs.declared.Given.the-variants.{At, Refused}
 use Rattle.update.specs.Update.{deviceIn, sectorsOf}
 use Rattle.update.specs.Demand.{Gives, InStepOn}
@@ -25,7 +25,7 @@ use Rattle.mend.specs.Mend.{mendGroups}
 use Rattle.mend.specs.Plan.{mending, storesIn, groupOf, storeAnswer, storeBytes}
 
 -- any state that discovery answers with a record q: two copies read from the device, q's copy where its own S and L place it
-pub record State (v : Device) (d : Sectors) (q : Record) : Type 0 where
+pub record State (v : Device) (d : Sectors) (q : Finding) : Type 0 where
   pub sound : Sound d
   pub other : Other
   pub answers : discovery (copyFrom Front v d) (copyFrom Back v d) ≡ Found q other
@@ -36,13 +36,13 @@ abbrev pub after : Device → Sectors → Sectors
 after v d = allLanded (mendGroups (copyFrom Front v d) (copyFrom Back v d)) d
 
 -- the found record's bytes
-abbrev pub foundIn : Device → Sectors → Record → List ℕ
+abbrev pub foundIn : Device → Sectors → Finding → List ℕ
 foundIn v d q = recordBytes q (copyFrom Front v d) (copyFrom Back v d)
 
 -- All stores landed: discovery gives the same record with its time, and the copies are in step on it.
 abbrev pub Landing : Type 0
 Landing =
-    (v : Device) (d : Sectors) (q : Record) → State v d q
+    (v : Device) (d : Sectors) (q : Finding) → State v d q
     → Gives (copyFrom Front v (after v d)) (copyFrom Back v (after v d)) (timeAt q) (foundIn v d q)
     × InStepOn (copyFrom Front v (after v d)) (copyFrom Back v (after v d)) (timeAt q) (foundIn v d q)
 
@@ -50,7 +50,7 @@ Landing =
 -- number k + 2, goes to the kept block.
 abbrev pub Touching : Type 0
 Touching =
-    (v : Device) (d : Sectors) (q : Record) → State v d q → (i : ℕ) → i < length (stores (mendGroups (copyFrom Front v d) (copyFrom Back v d)))
+    (v : Device) (d : Sectors) (q : Finding) → State v d q → (i : ℕ) → i < length (stores (mendGroups (copyFrom Front v d) (copyFrom Back v d)))
     → (storeIn (mendGroups (copyFrom Front v d) (copyFrom Back v d)) i .sector ≡ blockSector (otherSide (q .side)) v)
     ⊎ (((j : ℕ) × (j < sectorsOf (q .bytes))
     × (storeIn (mendGroups (copyFrom Front v d) (copyFrom Back v d)) i .sector ≡ areaSector (otherSide (q .side)) A v + j))

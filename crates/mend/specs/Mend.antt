@@ -1,5 +1,4 @@
 -- Mending, document 01's word for repair: what it stores, in which groups. Document 01, 'Updates, formatting and mending'.
--- Assumes nothing.
 use Prim.Native.Nat.{ℕ}
 use mathlib.Core.Bool.{Bool, cond}
 use mathlib.Core.List.{List, [], _∷_}
@@ -11,18 +10,18 @@ use Rattle.layout.specs.Places.{areaSector}
 use Rattle.block.specs.declared.Entry.{Entry}
 use Rattle.block.specs.declared.Entry.the-variants.{Unused}
 use Rattle.block.specs.declared.BlockFields.{BlockFields}
-use Rattle.block.specs.Block.{poolOf, uuidOf, fieldsOf}
+use Rattle.block.specs.Block.{poolOf, blockdevOf, fieldsOf}
 use Rattle.block.specs.Writing.{blockOf}
 use Rattle.discovery.specs.declared.Answer.{Answer}
 use Rattle.discovery.specs.declared.Answer.the-variants as Answer
 use Rattle.discovery.specs.Copy.{blockIn, entryIn, otherSide, whole, newest}
 use Rattle.discovery.specs.Discovery.{discovery, inStep, copyOn, recordBytes}
-use Rattle.device.specs.Device.{Groups}
+use Rattle.crash.specs.Crash.{Groups}
 use Rattle.update.specs.Update.{deviceIn, withEntry, recordStores, blockStore}
 
 -- a block with the identity of a copy's block
 unfoldable pub blockLike : List ℕ → BlockFields → List ℕ
-blockLike c g = blockOf (poolOf (blockIn c)) (uuidOf (blockIn c)) g
+blockLike c g = blockOf (poolOf (blockIn c)) (blockdevOf (blockIn c)) g
 
 -- a signature block's numbers with both entries unused
 abbrev pub emptied : Device → BlockFields

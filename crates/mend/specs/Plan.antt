@@ -1,6 +1,5 @@
 -- What the calls of a mend answer: what there is to do, worked out once, and its stores by their number. It may be anything
 -- a caller makes up; `Demand.Giving` says that the stores of what `work_out` answers are those of `Mend.mendGroups`.
--- Assumes nothing.
 use Prim.Native.Nat.{ℕ, _+_, _-_}
 use mathlib.Core.Bool.{cond}
 use mathlib.Core.List.{List}
@@ -10,7 +9,7 @@ use Rattle.layout.specs.declared.Side.{Side}
 use Rattle.layout.specs.declared.Area.the-variants.{A}
 use Rattle.layout.specs.Places.{blockSector, areaSector}
 use Rattle.block.specs.Block.{fieldsOf}
-use Rattle.discovery.specs.declared.Record.{Record}
+use Rattle.discovery.specs.declared.Finding.{Finding}
 use Rattle.discovery.specs.declared.Answer.{Answer}
 use Rattle.discovery.specs.declared.Answer.the-variants as Answer
 use Rattle.discovery.specs.Copy.{blockIn, areaBytes, entryIn, otherSide}
@@ -31,7 +30,7 @@ abbrev pub lastOf : Side → List ℕ → Last
 lastOf w c = cond (laterWhole c) Last.Absent (Last.Blank (blockSector w (deviceIn c)) (blanked (fieldsOf (blockIn c))))
 
 -- what is stored where the copy c, with the found record q, is kept
-abbrev pub rewriteOf : List ℕ → Record → Rewrite
+abbrev pub rewriteOf : List ℕ → Finding → Rewrite
 rewriteOf c q =
     record {
       kept = q .side;

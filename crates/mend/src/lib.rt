@@ -1,5 +1,4 @@
 // Mending: brings two copies in step on the record that discovery finds in them. The copies are lent as discovery takes them.
-// Assumes nothing.
 ghost use mathlib.Core.Path.{_≡_};
 ghost use mathlib.Core.List.{List};
 ghost use Rattle.mend.specs.declared.Mending.the-variants.{Needed};
@@ -7,7 +6,7 @@ ghost use Rattle.mend.specs.Plan.{lastOf, rewriteOf, mending, lastCount,
 use block::BlockFields;
 use block::Entry;
 use discovery::Answer;
-use discovery::Record;
+use discovery::Finding;
 use layout::Area;
 use layout::Side;
 use update::Given;
@@ -55,7 +54,7 @@ fn last_store(w: Side, c: &[u8]) -> Last
 }
 
 // What is stored where the copy c, with the found record q, is kept.
-fn plan_for(c: &[u8], q: Record) -> Rewrite
+fn plan_for(c: &[u8], q: Finding) -> Rewrite
     ensures { λ r. ⌜ r ≡ rewriteOf (now (c .entry)) q ⌝ }
 {
     let x = block::fields(endian::window(c, 512, 512));

@@ -1,4 +1,4 @@
--- What it means that a record is accepted, both ways, and what follows for its segments. Assumes nothing.
+-- What it means that a record is accepted, both ways, and what follows for its segments.
 use Prim.Native.Nat.{ℕ, zero, suc, _+_, _-_, _*_, _/_, _%_, _≤_, _<_}
 use mathlib.Core.Path.{_≡_, refl, sym, ap, subst, _∙_}
 use mathlib.Core.Bool.{Bool, true, false, _&&_}

@@ -1,4 +1,4 @@
--- Right records with a segment more and with one less. Assumes nothing.
+-- Right records with a segment more and with one less.
 use Prim.Native.Nat.{ℕ, zero, suc, _+_, _-_, _*_, _/_, _≤_, _<_}
 use mathlib.Core.Path.{_≡_, refl, sym, ap, _∙_, subst}
 use mathlib.Core.Bool.{Bool, true, cond}

@@ -1,4 +1,4 @@
--- What a check answers, a test at a time. Assumes nothing.
+-- What a check answers, a test at a time.
 use Prim.Native.Nat.{ℕ}
 use mathlib.Core.Path.{_≡_, refl, sym, ap, _∙_}
 use mathlib.Core.Bool.{Bool, true, false, not}

@@ -1,4 +1,4 @@
--- Demand 2's second half and what a record is, proved: the names of specs/Demand.antt. Assumes nothing.
+-- Demand 2's second half and what a record is, proved: the names of specs/Demand.antt.
 use Prim.Native.Nat.{ℕ, zero, suc, _+_, _-_, _*_, _/_, _%_, _^_, _≤_, _<_, min}
 use mathlib.Core.Path.{_≡_, refl, sym, ap, _∙_, subst}
 use mathlib.Core.Bool.{Bool, true, false, cond, _&&_}
@@ -15,7 +15,7 @@ use lib.Seq.{take-at, drop-at, getD-take, getD-drop}
 use Rattle.endian.specs.Bytes.{toLe, zeros}
 use Rattle.endian.proofs.Tests.{and-left, and-right, and-both}
 use Rattle.refusal.specs.Numbers.{deviceSize, metadataSize, reservedSize, recordLength, recordForm, segmentPlace, segmentClash}
-use Rattle.refusal.specs.Tests.{Test, _or_, first, Ascending}
+use Rattle.refusal.specs.Tests.{Test, _elseRefuse_, first, Ascending}
 use Rattle.refusal.proofs.Order.{first-lowest, first-all}
 use Rattle.layout.specs.declared.Device.{Device}
 use Rattle.layout.specs.Limits.{sizeAllowed, metadataAllowed, reservedAllowed, deviceTests, lengthAllowed, recordLimit}
@@ -239,16 +239,16 @@ printed = (
 -- What a refusal number says: its own test fails.
 module _ (d : Device) (s : List ℕ) where
   abbrev rest-18 : List Test
-  rest-18 = (apart (segments s) or segmentClash) ∷ []
+  rest-18 = (apart (segments s) elseRefuse segmentClash) ∷ []
 
   abbrev rest-17 : List Test
-  rest-17 = (allInRange d (headOf s) (segments s) or segmentPlace) ∷ rest-18
+  rest-17 = (allInRange d (headOf s) (segments s) elseRefuse segmentPlace) ∷ rest-18
 
   abbrev rest-15 : List Test
-  rest-15 = (wellFormed d s or recordForm) ∷ rest-17
+  rest-15 = (wellFormed d s elseRefuse recordForm) ∷ rest-17
 
   abbrev upto-15 : List Test
-  upto-15 = deviceTests d ++ ((lengthAllowed (length s) or recordLength) ∷ [])
+  upto-15 = deviceTests d ++ ((lengthAllowed (length s) elseRefuse recordLength) ∷ [])
 
   ascends : Ascending 0 (recordTests d s)
   ascends = record-ascending d s
@@ -297,15 +297,15 @@ module _ (d : Device) (s : List ℕ) where
   pub means : Means d s
   means =
       record {
-        four = λ e. fails-at 0 [] ((metadataAllowed (d .metadata) or metadataSize) ∷ (reservedAllowed (d .reserved) or reservedSize) ∷ contentTests d s) (sizeAllowed (d .sectors)) 4 ascends e;
-        seven = λ e. fails-at 0 ((sizeAllowed (d .sectors) or deviceSize) ∷ []) ((reservedAllowed (d .reserved) or reservedSize) ∷ contentTests d s) (metadataAllowed (d .metadata)) 7 ascends e;
-        eight = λ e. fails-at 0 ((sizeAllowed (d .sectors) or deviceSize) ∷ (metadataAllowed (d .metadata) or metadataSize) ∷ []) (contentTests d s) (reservedAllowed (d .reserved)) 8 ascends e;
+        four = λ e. fails-at 0 [] ((metadataAllowed (d .metadata) elseRefuse metadataSize) ∷ (reservedAllowed (d .reserved) elseRefuse reservedSize) ∷ contentTests d s) (sizeAllowed (d .sectors)) 4 ascends e;
+        seven = λ e. fails-at 0 ((sizeAllowed (d .sectors) elseRefuse deviceSize) ∷ []) ((reservedAllowed (d .reserved) elseRefuse reservedSize) ∷ contentTests d s) (metadataAllowed (d .metadata)) 7 ascends e;
+        eight = λ e. fails-at 0 ((sizeAllowed (d .sectors) elseRefuse deviceSize) ∷ (metadataAllowed (d .metadata) elseRefuse metadataSize) ∷ []) (contentTests d s) (reservedAllowed (d .reserved)) 8 ascends e;
         fifteen = λ e. too-long (fails-at 0 (deviceTests d) rest-15 (lengthAllowed (length s)) 15 ascends e);
         seventeen = λ e h gs r k q.
             both (wellFormed d s) (subst (λ (z : List ℕ). wellFormed d z ≡ true) q (formed-record d h gs (right-fits d h r) r (λ i l. record { kind = kind-small h (nth gs i .kind) (k i l .0); start = k i l .1 .0; sectors = k i l .1 .1 }) (λ i l. k i l .0)))
             (fails-at 0 upto-15 rest-17 (wellFormed d s) 17 ascends e);
-        eighteen = λ e. out-of-range (fails-at 0 (upto-15 ++ ((wellFormed d s or recordForm) ∷ [])) rest-18 (allInRange d (headOf s) (segments s)) 18 ascends e);
-        nineteen = λ e. clash-there (fails-at 0 (upto-15 ++ ((wellFormed d s or recordForm) ∷ (allInRange d (headOf s) (segments s) or segmentPlace) ∷ [])) [] (apart (segments s)) 19 ascends e);
+        eighteen = λ e. out-of-range (fails-at 0 (upto-15 ++ ((wellFormed d s elseRefuse recordForm) ∷ [])) rest-18 (allInRange d (headOf s) (segments s)) 18 ascends e);
+        nineteen = λ e. clash-there (fails-at 0 (upto-15 ++ ((wellFormed d s elseRefuse recordForm) ∷ (allInRange d (headOf s) (segments s) elseRefuse segmentPlace) ∷ [])) [] (apart (segments s)) 19 ascends e);
       }
 
 pub meaning : Meaning

@@ -1,4 +1,4 @@
--- Laws of the segments that are handed on in a table of numbers: a turn of the loop, and each answer. Assumes nothing.
+-- Laws of the segments that are handed on in a table of numbers: a turn of the loop, and each answer.
 use Prim.Native.Nat.{ℕ, zero, suc, _+_, _-_, _*_, _/_, _≤_, _<_, min}
 use mathlib.Core.Path.{_≡_, refl, sym, ap, ap₂, _∙_}
 use mathlib.Core.Bool.{Bool, cond, _||_, or-true}

@@ -1,4 +1,4 @@
--- A head and segments that are right make an accepted record, and an accepted record is made of such. Assumes nothing.
+-- A head and segments that are right make an accepted record, and an accepted record is made of such.
 use Prim.Native.Nat.{ℕ, zero, suc, _+_, _-_, _*_, _/_, _^_, _≤_, _<_}
 use mathlib.Core.Path.{_≡_, refl, sym, ap, _∙_, subst}
 use mathlib.Core.Bool.{Bool, true, false, true≢false}

@@ -1,4 +1,4 @@
--- Tests that follow other tests. Assumes nothing.
+-- Tests that follow other tests.
 use Prim.Native.Nat.{ℕ, _<_, _≤_}
 use mathlib.Core.Path.{_≡_, refl, sym, _∙_}
 use mathlib.Core.Bool.{Bool, true, false}
@@ -8,7 +8,7 @@ use borrow.Author.Tests.{lt-ltb, le-ltb}
 use lib.Dec.{ltb, lit<}
 use lib.ListN.{length}
 use Rattle.refusal.specs.Numbers.{noSegment}
-use Rattle.refusal.specs.Tests.{Test, _or_, first, Ascending}
+use Rattle.refusal.specs.Tests.{Test, _elseRefuse_, first, Ascending}
 use Rattle.refusal.proofs.Order.{Numbered, ascending-numbered, first-nil, first-pass, first-fail, first-zero, first-after, first-before}
 use Rattle.layout.specs.declared.Device.{Device}
 use Rattle.layout.specs.Limits.{deviceTests}
@@ -66,7 +66,7 @@ first-above m (t ∷ ts) a p = go (first-above (t .otherwise) ts (a .1)) (t .hol
         omega arith
 
 -- the test whose number is given fails
-pub fails-at : (m : ℕ) (ts us : List Test) (b : Bool) (n : ℕ) → Ascending m (ts ++ ((b or n) ∷ us)) → first (ts ++ ((b or n) ∷ us)) ≡ n → b ≡ false
+pub fails-at : (m : ℕ) (ts us : List Test) (b : Bool) (n : ℕ) → Ascending m (ts ++ ((b elseRefuse n) ∷ us)) → first (ts ++ ((b elseRefuse n) ∷ us)) ≡ n → b ≡ false
 fails-at m [] us false n a e = refl
 fails-at m [] us true n a e =
     let f : first us ≡ n = sym (first-pass true n us refl) ∙ e in
@@ -75,16 +75,16 @@ fails-at m [] us true n a e =
     absurd (omega arith)
 fails-at m (t ∷ ts) us b n a e = go (fails-at (t .otherwise) ts us b n (a .1)) (t .holds) refl
   where
-    later : (x : ℕ) (qs : List Test) → Ascending x (qs ++ ((b or n) ∷ us)) → x < n
+    later : (x : ℕ) (qs : List Test) → Ascending x (qs ++ ((b elseRefuse n) ∷ us)) → x < n
     later x [] h = h .0
     later x (q ∷ qs) h =
         let i : x < q .otherwise = h .0 in
         let j : q .otherwise < n = later (q .otherwise) qs (h .1) in
         omega arith
 
-    go : (first (ts ++ ((b or n) ∷ us)) ≡ n → b ≡ false) → (c : Bool) → t .holds ≡ c → b ≡ false
+    go : (first (ts ++ ((b elseRefuse n) ∷ us)) ≡ n → b ≡ false) → (c : Bool) → t .holds ≡ c → b ≡ false
     go h false k =
-        let f : first ((t ∷ ts) ++ ((b or n) ∷ us)) ≡ t .otherwise = first-fail (t .holds) (t .otherwise) (ts ++ ((b or n) ∷ us)) k in
+        let f : first ((t ∷ ts) ++ ((b elseRefuse n) ∷ us)) ≡ t .otherwise = first-fail (t .holds) (t .otherwise) (ts ++ ((b elseRefuse n) ∷ us)) k in
         let l : t .otherwise < n = later (t .otherwise) ts (a .1) in
         absurd (omega arith)
-    go h true k = h (sym (first-pass (t .holds) (t .otherwise) (ts ++ ((b or n) ∷ us)) k) ∙ e)
+    go h true k = h (sym (first-pass (t .holds) (t .otherwise) (ts ++ ((b elseRefuse n) ∷ us)) k) ∙ e)

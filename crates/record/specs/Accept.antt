@@ -1,11 +1,11 @@
--- When a segment record is accepted on a device: the tests in document 01's order, and what a check answers. Assumes nothing.
+-- When a segment record is accepted on a device: the tests in document 01's order, and what a check answers.
 use Prim.Native.Nat.{ℕ}
 use mathlib.Core.Bool.{Bool, cond}
 use mathlib.Core.List.{List, [], _∷_, _++_}
 use lib.Dec.{eqb}
 use lib.ListN.{length}
 use Rattle.refusal.specs.Numbers.{recordLength, recordForm, segmentPlace, segmentClash}
-use Rattle.refusal.specs.Tests.{Test, _or_, first}
+use Rattle.refusal.specs.Tests.{Test, _elseRefuse_, first}
 use Rattle.layout.specs.declared.Device.{Device}
 use Rattle.layout.specs.Limits.{deviceTests, lengthAllowed}
 use Rattle.search.specs.Search.{every}
@@ -29,10 +29,10 @@ allInRange d h gs = every (rangeAt d h gs) (length gs)
 -- the tests of a record on a device whose numbers are allowed
 abbrev pub contentTests : Device → List ℕ → List Test
 contentTests d s =
-    (lengthAllowed (length s) or recordLength)
-    ∷ (wellFormed d s or recordForm)
-    ∷ (allInRange d (headOf s) (segments s) or segmentPlace)
-    ∷ (apart (segments s) or segmentClash)
+    (lengthAllowed (length s) elseRefuse recordLength)
+    ∷ (wellFormed d s elseRefuse recordForm)
+    ∷ (allInRange d (headOf s) (segments s) elseRefuse segmentPlace)
+    ∷ (apart (segments s) elseRefuse segmentClash)
     ∷ []
 
 -- the device numbers first, then the record

@@ -1,11 +1,11 @@
--- What the calls answer: document 01's number, and the values, for each case of an answer. Assumes nothing.
+-- What the calls answer: document 01's number, and the values, for each case of an answer.
 use Prim.Native.Nat.{ℕ, _-_, _*_, _/_, min}
 use mathlib.Core.Bool.{cond, _||_}
 use mathlib.Core.List.{List, [], _∷_, _++_}
 use lib.Dec.{leb, ltb, eqb}
 use lib.ListN.{length, take, drop}
 use Rattle.refusal.specs.Numbers.{noSegment, recordLength, sliceSize}
-use Rattle.refusal.specs.Tests.{Test, _or_, first}
+use Rattle.refusal.specs.Tests.{Test, _elseRefuse_, first}
 use Rattle.layout.specs.declared.Device.{Device}
 use Rattle.layout.specs.Limits.{lengthAllowed}
 use Rattle.segments.specs.declared.Segment.{Segment}
@@ -29,7 +29,7 @@ use Rattle.record.specs.Accept.{recordTests}
 
 -- 15 for a length that no record has
 abbrev pub lengthTests : List ℕ → List Test
-lengthTests s = (lengthAllowed (length s) or recordLength) ∷ []
+lengthTests s = (lengthAllowed (length s) elseRefuse recordLength) ∷ []
 
 -- the first two segments that share a sector, of a record of any content
 abbrev pub clashAnswer : List ℕ → Clashes
@@ -49,7 +49,7 @@ clashValues (Clashes.Refused n) = []
 
 -- there is a segment at position p, counted from 0
 abbrev pub positionTests : List ℕ → ℕ → List Test
-positionTests s p = (ltb p (length (segments s)) or noSegment) ∷ []
+positionTests s p = (ltb p (length (segments s)) elseRefuse noSegment) ∷ []
 
 -- that segment: its kind, start and length
 abbrev pub found : ℕ → Segment → Found
@@ -105,7 +105,7 @@ unfoldable pub handedOn : List ℕ → ℕ → ℕ → ℕ
 handedOn s p w = min (w / 3) (length (segments s) - p)
 
 abbrev pub someRoom : List ℕ → ℕ → ℕ → List Test
-someRoom s p w = ((leb (length (segments s)) p || leb 3 w) or sliceSize) ∷ []
+someRoom s p w = ((leb (length (segments s)) p || leb 3 w) elseRefuse sliceSize) ∷ []
 
 abbrev pub segmentsAnswer : Device → List ℕ → ℕ → ℕ → Counted
 segmentsAnswer d s p w = counted (first (recordTests d s ++ someRoom s p w)) (handedOn s p w)

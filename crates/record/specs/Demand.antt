@@ -1,5 +1,5 @@
 -- Demand 2, second half, and what a record is, in other words than the tests. A device's size below 2^64 and elements below 256
--- (`Bytes`) are what the machine's types have. `proofs/Demand.antt` proves all of it. Assumes nothing.
+-- (`Bytes`) are what the machine's types have. `proofs/Demand.antt` proves all of it.
 use Prim.Native.Nat.{ℕ, _+_, _*_, _%_, _^_, _≤_, _<_}
 use mathlib.Core.Path.{_≡_}
 use mathlib.Core.Bool.{true, false}

@@ -1,4 +1,4 @@
--- The parts of a device with a record: the words of the partition. Assumes nothing.
+-- The parts of a device with a record: the words of the partition.
 use Prim.Native.Nat.{ℕ, _+_}
 use mathlib.Core.List.{List}
 use Rattle.layout.specs.declared.Device.{Device}

@@ -1,4 +1,4 @@
-// The segment record: checked against a device's numbers, and read. Assumes nothing.
+// The segment record: checked against a device's numbers, and read.
 use items::Head;
 use layout::Device;
 use order::Clash;

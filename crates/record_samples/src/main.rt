@@ -7,11 +7,11 @@ use record::Clashes;
 use record::Counted;
 use record::Found;
 use record::Heading;
-use room::Allocation;
-use room::FreeTotal;
-use room::Released;
-use room::RunCount;
-use room::RunFound;
+use allocation::Allocation;
+use allocation::FreeTotal;
+use allocation::Released;
+use allocation::RunCount;
+use allocation::RunFound;
 use segments::Segment;
 ghost use Prim.Native.Nat.{_≤_};
 
@@ -163,13 +163,13 @@ fn run(r: RunFound) {
 fn run_at(s: &[u8], k: u64) {
     name(b"run");
     number(k);
-    run(room::run_at(device(), s, k));
+    run(allocation::run_at(device(), s, k));
 }
 
 // Prints the number of free runs, and the free total.
 fn free(s: &[u8]) {
     name(b"free runs");
-    match room::count_runs(device(), s) {
+    match allocation::count_runs(device(), s) {
         RunCount::Runs(n) => {
             number(n);
             end();
@@ -177,7 +177,7 @@ fn free(s: &[u8]) {
         RunCount::Refused(n) => refused(n),
     }
     name(b"free total");
-    match room::free_total(device(), s) {
+    match allocation::free_total(device(), s) {
         FreeTotal::Sectors(n) => {
             number(n);
             end();
@@ -190,7 +190,7 @@ fn free(s: &[u8]) {
 fn fit(s: &[u8], m: u64) {
     name(b"first fit for");
     number(m);
-    run(room::first_fit(device(), s, m));
+    run(allocation::first_fit(device(), s, m));
 }
 
 // Prints what an allocation answers.
@@ -266,14 +266,14 @@ fn shown(s: &[u8], n: usize, first: usize, second: usize) {
 // An allocation of m sectors, into 70 bytes.
 fn allocate(s: &[u8], kind: u16, m: u64) {
     let mut out = [0u8; 70];
-    allocated(room::allocate(device(), s, kind, m, &mut out));
+    allocated(allocation::allocate(device(), s, kind, m, &mut out));
     shown(&out, 68, 1, 2);
 }
 
 // A release, into 48 bytes.
 fn release(s: &[u8], position: usize) {
     let mut out = [0u8; 48];
-    released(room::release(device(), s, position, &mut out));
+    released(allocation::release(device(), s, position, &mut out));
     shown(&out, 28, 0, 1);
 }
 
@@ -289,7 +289,7 @@ fn changes() {
 // An allocation that is refused, into 70 bytes.
 fn refuse(s: &[u8], kind: u16, m: u64) {
     let mut out = [7u8; 70];
-    allocated(room::allocate(device(), s, kind, m, &mut out));
+    allocated(allocation::allocate(device(), s, kind, m, &mut out));
     name(b"two bytes left");
     number(endian::read_u16(&out, 0) as u64);
     end();
@@ -298,15 +298,15 @@ fn refuse(s: &[u8], kind: u16, m: u64) {
 // The same into 67 bytes, and a release into 27.
 fn refuse_small(s: &[u8]) {
     let mut out = [7u8; 67];
-    allocated(room::allocate(device(), s, 1, 1, &mut out));
+    allocated(allocation::allocate(device(), s, 1, 1, &mut out));
     let mut less = [7u8; 27];
-    released(room::release(device(), s, 0, &mut less));
+    released(allocation::release(device(), s, 0, &mut less));
 }
 
 // A release of a segment that is not there.
 fn refuse_release(s: &[u8]) {
     let mut out = [0u8; 70];
-    released(room::release(device(), s, 2, &mut out));
+    released(allocation::release(device(), s, 2, &mut out));
 }
 
 // Heads that are refused.
@@ -366,7 +366,7 @@ fn full() {
     check(b"409 segments", most);
     count(most);
     let mut out = [0u8; 70];
-    allocated(room::allocate(device(), most, 1, 1, &mut out));
+    allocated(allocation::allocate(device(), most, 1, 1, &mut out));
     check(b"410 segments", endian::window(&s, 0, 8208));
 }
 

@@ -1,4 +1,4 @@
--- The last arm of a `match` that lists 0, 1, 2 and so on: the number is past them all. Assumes nothing.
+-- The last arm of a `match` that lists 0, 1, 2 and so on: the number is past them all.
 use Prim.Native.Nat.{ℕ, zero, suc, _≤_}
 use mathlib.Core.Path.{_≡_}
 use native.Mathlib.Omega.{arith}

@@ -1,4 +1,4 @@
--- Laws of tests in order. A caller's proof cites one for each test that it passes. Assumes nothing.
+-- Laws of tests in order. A caller's proof cites one for each test that it passes.
 use Prim.Native.Nat.{ℕ, _≤_, _<_}
 use mathlib.Core.Path.{_≡_, refl, sym, ap, _∙_}
 use mathlib.Core.Bool.{Bool, true, false, cond, not, true≢false}
@@ -7,19 +7,19 @@ use native.Mathlib.Omega.{arith}
 use borrow.Author.Tests.{eq-eqb, ne-eqb, not-true, not-false}
 use lib.Dec.{eqb}
 use mathlib.Core.Logic.{inl, inr}
-use Rattle.refusal.specs.Tests.{Test, _or_, first, AllHold, Fails, Ascending}
+use Rattle.refusal.specs.Tests.{Test, _elseRefuse_, first, AllHold, Fails, Ascending}
 
 pub first-nil : first [] ≡ 0
 unfolding first
 first-nil = refl
 
 -- a test that holds
-pub first-pass : (b : Bool) (n : ℕ) (ts : List Test) → b ≡ true → first ((b or n) ∷ ts) ≡ first ts
+pub first-pass : (b : Bool) (n : ℕ) (ts : List Test) → b ≡ true → first ((b elseRefuse n) ∷ ts) ≡ first ts
 unfolding first
 first-pass b n ts h = ap (λ (x : Bool). cond x (first ts) n) h
 
 -- a test that fails
-pub first-fail : (b : Bool) (n : ℕ) (ts : List Test) → b ≡ false → first ((b or n) ∷ ts) ≡ n
+pub first-fail : (b : Bool) (n : ℕ) (ts : List Test) → b ≡ false → first ((b elseRefuse n) ∷ ts) ≡ n
 unfolding first
 first-fail b n ts h = ap (λ (x : Bool). cond x (first ts) n) h
 
@@ -129,9 +129,9 @@ first-split (t ∷ ts) us n h = go (first-split ts us (n .1)) (t .holds) refl
         absurd (omega arith)
 
 -- As code has it, `if !f(x) { return n; }`, with f's answer r: the number is given.
-pub refused : (r b : Bool) (n : ℕ) (ts : List Test) → r ≡ b → not r ≡ true → n ≡ first ((b or n) ∷ ts)
+pub refused : (r b : Bool) (n : ℕ) (ts : List Test) → r ≡ b → not r ≡ true → n ≡ first ((b elseRefuse n) ∷ ts)
 refused r b n ts e t = sym (first-fail b n ts (sym e ∙ not-true r t))
 
 -- The test is passed, and k is what the tests after it give.
-pub passed : (r b : Bool) (n : ℕ) (ts : List Test) → r ≡ b → not r ≡ false → (k : ℕ) → k ≡ first ts → k ≡ first ((b or n) ∷ ts)
+pub passed : (r b : Bool) (n : ℕ) (ts : List Test) → r ≡ b → not r ≡ false → (k : ℕ) → k ≡ first ts → k ≡ first ((b elseRefuse n) ∷ ts)
 passed r b n ts e t k h = h ∙ sym (first-pass b n ts (sym e ∙ not-false r t))

@@ -1,4 +1,4 @@
--- The refusal numbers, in the words and order of document 01's table. Assumes nothing.
+-- The refusal numbers, in the words and order of document 01's table.
 use Prim.Native.Nat.{ℕ}
 
 -- a lent slice has the wrong size, or is too small for the answer
@@ -22,8 +22,8 @@ abbrev pub notZero : ℕ
 notZero = 5
 
 -- a UUID byte not allowed
-abbrev pub uuid : ℕ
-uuid = 6
+abbrev pub uuidByte : ℕ
+uuidByte = 6
 
 -- L not allowed
 abbrev pub metadataSize : ℕ

@@ -1,4 +1,4 @@
--- What each refusal is about. Assumes nothing.
+-- What each refusal is about.
 use Prim.Native.Nat.{ℕ}
 use mathlib.Core.List.{List, [], _∷_}
 use lib.ListN.{getD}

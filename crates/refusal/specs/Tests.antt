@@ -1,4 +1,4 @@
--- A call's tests in order, each with the number that is given where it fails. Assumes nothing.
+-- A call's tests in order, each with the number that is given where it fails.
 use Prim.Native.Nat.{ℕ, _<_}
 use mathlib.Core.Path.{_≡_}
 use mathlib.Core.Logic.{_⊎_}
@@ -10,10 +10,10 @@ pub record Test : Type 0 where
   pub otherwise : ℕ
 
 -- a test and its number
-abbrev pub _or_ : Bool → ℕ → Test
-b or n = record { holds = b; otherwise = n }
+abbrev pub _elseRefuse_ : Bool → ℕ → Test
+b elseRefuse n = record { holds = b; otherwise = n }
 
-infix 4 _or_
+infix 4 _elseRefuse_
 -- the number of the first test that fails; 0 where all hold
 unfoldable pub first : List Test → ℕ
 first [] = 0

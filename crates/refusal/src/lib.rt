@@ -1,5 +1,5 @@
 // The refusal numbers of document 01, in one place, and what each is about. A number that a later paper adds gets its
-// constant, its name in specs/Numbers.antt, its place in `subjects` and its arm below. Assumes nothing.
+// constant, its name in specs/Numbers.antt, its place in `subjects` and its arm below.
 ghost use mathlib.Core.Path.{_≡_};
 ghost use Rattle.refusal.specs.Subjects.{subjectOf};
 
@@ -15,7 +15,7 @@ pub const DEVICE_SIZE: u8 = 4;
 
 pub const NOT_ZERO: u8 = 5;
 
-pub const UUID: u8 = 6;
+pub const UUID_BYTE: u8 = 6;
 
 pub const METADATA_SIZE: u8 = 7;
 

@@ -2,12 +2,12 @@
 // afterwards. Entry k of a table starts as (7, k). The file stdout beside src/ has what must be printed;
 // samples/runs.py makes it and shares nothing with the library. Assumes what `io` and `libc` do.
 use items::Head;
-use room::RunCount;
+use allocation::RunCount;
 use runs::Run;
 use segments::Segment;
 ghost use mathlib.Core.Path.{_≡_};
 ghost use lib.ListN.{length};
-ghost use Rattle.room.specs.Answers.{tableAnswer, tableLeft};
+ghost use Rattle.allocation.specs.Answers.{tableAnswer, tableLeft};
 
 const OUT: i32 = 1;
 
@@ -22,7 +22,7 @@ fn fill(sectors: u64, metadata: u32, reserved: u32, s: &[u8], table: [Run; 3]) -
     ensures { λ r. ⌜ (r .answer ≡ tableAnswer (record { sectors = sectors; metadata = metadata; reserved = reserved }) (now (s .entry)) (length table)) × (r .table ≡ tableLeft (record { sectors = sectors; metadata = metadata; reserved = reserved }) (now (s .entry)) table) ⌝ }
 {
     let mut t = table;
-    let a = room::free_runs_of(sectors, metadata, reserved, s, &mut t);
+    let a = allocation::free_runs_of(sectors, metadata, reserved, s, &mut t);
     Filled {
         answer: a,
         table: t,

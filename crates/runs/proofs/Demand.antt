@@ -1,4 +1,4 @@
--- What the free runs are, by meaning: the claims of `specs/Demand.antt`. Assumes nothing.
+-- What the free runs are, by meaning: the claims of `specs/Demand.antt`.
 use Prim.Native.Nat.{ℕ, zero, suc, _+_, _-_, _≤_, _<_, min}
 use mathlib.Core.Path.{_≡_, refl, sym, ap, ap₂, subst, _∙_}
 use mathlib.Core.Bool.{Bool, true, false}

@@ -1,4 +1,4 @@
--- Laws of the first run that is long enough: for a loop that walks the runs, or the gaps. Assumes nothing.
+-- Laws of the first run that is long enough: for a loop that walks the runs, or the gaps.
 use Prim.Native.Nat.{ℕ, zero, suc, _-_, _≤_, _<_}
 use mathlib.Core.Path.{_≡_, refl, sym, ap, _∙_}
 use mathlib.Core.Bool.{true, false}

@@ -1,4 +1,4 @@
--- Laws of the gaps between segments that follow one another, and that they are the free runs. Assumes nothing.
+-- Laws of the gaps between segments that follow one another, and that they are the free runs.
 use Prim.Native.Nat.{ℕ, zero, suc, _+_, _-_, _≤_, _<_}
 use mathlib.Core.Path.{_≡_, refl, sym, ap, _∙_}
 use mathlib.Core.Bool.{Bool, true, false, _&&_}

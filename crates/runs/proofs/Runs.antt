@@ -1,4 +1,4 @@
--- Laws of the search for free sectors, and of the runs from a sector on. Assumes nothing.
+-- Laws of the search for free sectors, and of the runs from a sector on.
 use Prim.Native.Nat.{ℕ, zero, suc, _-_, _≤_, _<_, min}
 use mathlib.Core.Path.{_≡_, refl, sym, ap, _∙_}
 use mathlib.Core.Bool.{Bool, true, false, not, _&&_}

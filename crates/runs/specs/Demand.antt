@@ -1,4 +1,4 @@
--- Free runs by meaning: what `runsOf` gives, without how it is found. `proofs/Demand.antt` proves them. Assumes nothing.
+-- Free runs by meaning: what `runsOf` gives, without how it is found. `proofs/Demand.antt` proves them.
 use Prim.Native.Nat.{ℕ, suc, _+_, _≤_, _<_}
 use mathlib.Core.Path.{_≡_}
 use mathlib.Core.Bool.{Bool, true, false}

@@ -1,4 +1,4 @@
--- The gaps of segments that follow one another in a range. Assumes nothing.
+-- The gaps of segments that follow one another in a range.
 use Prim.Native.Nat.{ℕ}
 use mathlib.Core.Bool.{cond}
 use mathlib.Core.List.{List, [], _∷_}

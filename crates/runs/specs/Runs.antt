@@ -1,4 +1,4 @@
--- Document 01's 'free runs', the longest runs of free sectors, ascending: of any test p of sectors, below an end e. Assumes nothing.
+-- Document 01's 'free runs', the longest runs of free sectors, ascending: of any test p of sectors, below an end e.
 use Prim.Native.Nat.{ℕ, zero, suc, _-_}
 use mathlib.Core.Bool.{Bool, cond, not, _&&_}
 use mathlib.Core.List.{List, [], _∷_}

@@ -1,4 +1,4 @@
-// Free runs of sectors: definitions over any test of sectors below an end, and their laws. Assumes nothing.
+// Free runs of sectors: definitions over any test of sectors below an end, and their laws.
 
 // A run: its first sector, and its length in sectors.
 #[repr(C)]

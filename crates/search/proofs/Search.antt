@@ -1,4 +1,4 @@
--- Laws of tests of all numbers below a limit. Loops cite a law a step; meaning is the other half. Assumes nothing.
+-- Laws of tests of all numbers below a limit. Loops cite a law a step; meaning is the other half.
 use Prim.Native.Nat.{ℕ, zero, suc, _+_, _≤_, _<_}
 use mathlib.Core.Path.{_≡_, refl, sym, ap, _∙_}
 use mathlib.Core.Bool.{Bool, true, false, cond, not, _&&_, true≢false}

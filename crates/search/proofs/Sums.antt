@@ -1,4 +1,4 @@
--- Laws of sums over the numbers below a limit. Assumes nothing.
+-- Laws of sums over the numbers below a limit.
 use Prim.Native.Nat.{ℕ, zero, suc, _+_, _-_, _≤_, _<_, min}
 use mathlib.Core.Path.{_≡_, refl, sym, ap, _∙_}
 use mathlib.Core.Bool.{Bool, true, false}

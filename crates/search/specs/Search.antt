@@ -1,4 +1,4 @@
--- Tests of all numbers below a limit: whether each passes, which is the lowest that passes, and sums. Assumes nothing.
+-- Tests of all numbers below a limit: whether each passes, which is the lowest that passes, and sums.
 use Prim.Native.Nat.{ℕ, zero, suc, _+_}
 use mathlib.Core.Bool.{Bool, true, false, cond, _&&_}
 use lib.Dec.{leb, ltb}

@@ -1,4 +1,4 @@
--- One copy of which no sector that matters is marked. Assumes nothing.
+-- One copy of which no sector that matters is marked.
 use Prim.Native.Nat.{ℕ, _+_, _-_, _*_, _≤_, _<_}
 use mathlib.Core.Path.{_≡_, refl, sym, ap, ap₂, subst, _∙_}
 use mathlib.Core.Bool.{Bool, true, false, not, cond, _||_, or-true}
@@ -28,8 +28,8 @@ use Rattle.search.proofs.Search.{every-at, every-all, every-false}
 use Rattle.discovery.specs.declared.Present.the-variants.{Nothing, At}
 use Rattle.discovery.specs.Copy.{blockIn, areaBytes, entryIn, otherArea, wholeEntry, whole, newest, presentFrom, present, readingIn}
 use Rattle.discovery.proofs.Latest.{present-latest}
-use Rattle.device.specs.Device.{areaSectors}
-use Rattle.device.proofs.Copies.{limit-sectors}
+use Rattle.crash.specs.Crash.{areaSectors}
+use Rattle.crash.proofs.Copies.{limit-sectors}
 use Rattle.sectors.specs.Sectors.{copySectors, areaStart, named, namedIn, mattersFor, newestWhole, matters, isRead, passes, known}
 use Rattle.sectors.specs.Demand.{Agree, SameArea, SameCopy, Alone, Steady, Meaning, NoneMarked}
 use Rattle.sectors.proofs.Calls.{named-inside}

@@ -1,4 +1,4 @@
--- What the calls answer, case by case. Assumes nothing.
+-- What the calls answer, case by case.
 use Prim.Native.Nat.{ℕ, zero, suc, _+_, _-_, _*_, _≤_, _<_}
 use mathlib.Core.Path.{_≡_, refl, sym, ap, ap₂, _∙_}
 use mathlib.Core.Bool.{Bool, false}
@@ -19,7 +19,7 @@ use Rattle.block.specs.declared.BlockFields.{BlockFields}
 use Rattle.block.specs.declared.Reading.{Reading}
 use Rattle.search.specs.Search.{every}
 use Rattle.discovery.specs.Copy.{entryIn, readingIn}
-use Rattle.device.specs.Device.{areaSectors}
+use Rattle.crash.specs.Crash.{areaSectors}
 use Rattle.sectors.specs.Sectors.{copySectors, areaStart, byPart, below, placeOf, sectorAt, named, namedIn, mattersFor, newestWhole, matters, isRead, passes, known}
 
 pub below-past : (s n : ℕ) → s ≤ n → s ≡ below s n

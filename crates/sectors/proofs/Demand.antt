@@ -1,4 +1,4 @@
--- What sectors that could not be read can change, proved: two copies from one each. Assumes nothing.
+-- What sectors that could not be read can change, proved: two copies from one each.
 use Prim.Native.Nat.{ℕ}
 use mathlib.Core.Path.{_≡_, refl, sym, ap, ap₂, _∙_}
 use mathlib.Core.Bool.{Bool, true, cond, _&&_}
@@ -20,7 +20,7 @@ use Rattle.block.specs.Entry.{laterThan, sameTime, timeOf}
 use Rattle.block.specs.Writing.{holdingOf}
 use Rattle.discovery.specs.declared.Present.{Present}
 use Rattle.discovery.specs.declared.Present.the-variants.{Nothing, At}
-use Rattle.discovery.specs.declared.Record.{Record}
+use Rattle.discovery.specs.declared.Finding.{Finding}
 use Rattle.discovery.specs.declared.Other.{Other}
 use Rattle.discovery.specs.declared.Other.the-variants.{Both}
 use Rattle.discovery.specs.declared.Answer.{Answer}
@@ -30,7 +30,7 @@ use Rattle.discovery.specs.Discovery.{recordAt, aloneOf, togetherOf, sameDevice
 use Rattle.discovery.specs.Newest.{Newest}
 use Rattle.discovery.proofs.Deciding.{discovery-sized}
 use Rattle.discovery.proofs.Latest.{newest-found}
-use Rattle.device.specs.Device.{copyFrom}
+use Rattle.crash.specs.Crash.{copyFrom}
 use Rattle.sectors.specs.Sectors.{copySectors, isRead, known, settled}
 use Rattle.sectors.specs.Demand.{SameCopy, SameBoth, Settled, NoneMarked, AllRead, Sure}
 use Rattle.sectors.proofs.Alone.{whole-same, alone, none-marked, no-block}
@@ -89,10 +89,10 @@ module _ {f b g k : List ℕ} (sf : SameCopy f g) (sb : SameCopy b k) where
         (ap₂ (λ (r q : Reading). inStepOf (r .verdict) (q .verdict) (sameUuids r q) g k) (sf .reads) (sb .reads)
         ∙ in-step (readingIn f .verdict) (readingIn b .verdict) refl refl (sameUuids (readingIn f) (readingIn b)))
 
-    found-same : (r : Record) (o : Other) → discovery f b ≡ Found r o → recordBytes r g k ≡ recordBytes r f b
+    found-same : (r : Finding) (o : Other) → discovery f b ≡ Found r o → recordBytes r g k ≡ recordBytes r f b
     found-same r o e =
         let n : Newest f b r = newest-found f b r o e in
-        let l : r .bytes ≡ holdingOf (entryIn (n .fields) (r .area)) .bytes = ap (λ (q : Record). q .bytes) (n .is) in
+        let l : r .bytes ≡ holdingOf (entryIn (n .fields) (r .area)) .bytes = ap (λ (q : Finding). q .bytes) (n .is) in
         ap (areaBytes (copyOn (r .side) g k) (r .area)) l
         ∙ (on (r .side) .bytes (n .fields) (r .area) (holdingOf (entryIn (n .fields) (r .area))) (n .accepted) (n .its-present) ∙ ap (areaBytes (copyOn (r .side) f b) (r .area)) (sym l))
 

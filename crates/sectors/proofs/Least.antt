@@ -1,4 +1,4 @@
--- What matters at most. Assumes nothing.
+-- What matters at most.
 use Prim.Native.Nat.{ℕ, _+_, _-_, _*_, _≤_, _<_}
 use mathlib.Core.Path.{_≡_, refl, sym, ap, ap₂, _∙_}
 use mathlib.Core.Bool.{Bool, true, false, not, _&&_, _||_}
@@ -15,7 +15,7 @@ use Rattle.block.specs.declared.Verdict.the-variants as Verdict
 use Rattle.block.specs.Writing.{holdingOf}
 use Rattle.search.proofs.Search.{and-false-right}
 use Rattle.discovery.specs.Copy.{entryIn, otherArea, whole, newest, readingIn}
-use Rattle.device.specs.Device.{areaSectors}
+use Rattle.crash.specs.Crash.{areaSectors}
 use Rattle.sectors.specs.Sectors.{copySectors, areaStart, named, namedIn, mattersFor, newestWhole, matters}
 use Rattle.sectors.specs.Demand.{Bounded}
 use Rattle.sectors.proofs.Calls.{named-before, named-past}

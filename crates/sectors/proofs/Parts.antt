@@ -1,4 +1,4 @@
--- The sectors of a copy by number, and what lists have in common that have sectors in common. Assumes nothing.
+-- The sectors of a copy by number, and what lists have in common that have sectors in common.
 use Prim.Native.Nat.{ℕ, zero, suc, _+_, _*_, _/_, _≤_, _<_}
 use mathlib.Core.Path.{_≡_, refl, sym, ap, ap₂, _∙_}
 use mathlib.Core.List.{List, _++_}
@@ -11,7 +11,7 @@ use Rattle.layout.specs.declared.Area.{Area}
 use Rattle.layout.specs.declared.Area.the-variants.{A, B}
 use Rattle.layout.specs.Limits.{recordLimit}
 use Rattle.layout.specs.Places.{areaOffset, copyBytes}
-use Rattle.device.specs.Device.{areaSectors}
+use Rattle.crash.specs.Crash.{areaSectors}
 use Rattle.sectors.specs.Sectors.{copySectors, areaStart}
 
 -- the parts are whole sectors, one after the other

@@ -1,4 +1,4 @@
--- The sectors of a copy on the device. Assumes nothing.
+-- The sectors of a copy on the device.
 use Prim.Native.Nat.{ℕ, zero, suc, _+_, _-_, _*_, _%_, _≤_, _<_}
 use mathlib.Core.Path.{_≡_, sym, ap, subst, _∙_}
 use mathlib.Core.List.{List, [], _++_, append-assoc, append-nil}
@@ -21,8 +21,8 @@ use Rattle.layout.specs.declared.Area.the-variants.{A, B}
 use Rattle.layout.specs.Limits.{deviceTests, recordLimit}
 use Rattle.layout.specs.Places.{headerSector, areaSector, areaOffset, copyBytes}
 use Rattle.layout.proofs.Laws.{metadata-facts}
-use Rattle.device.specs.Device.{Sectors, Sound, gather, areaSectors, copyFrom}
-use Rattle.device.proofs.Copies.{limit-sectors, limit-small, length-gather, length-copy, copy-area}
+use Rattle.crash.specs.Crash.{Sectors, Sound, gather, areaSectors, copyFrom}
+use Rattle.crash.proofs.Copies.{limit-sectors, limit-small, length-gather, length-copy, copy-area}
 use Rattle.sectors.specs.Sectors.{copySectors, areaStart, placeOf, sectorAt}
 use Rattle.sectors.specs.Demand.{nthSector, NoneMarked, ReadFrom, Placed}
 use Rattle.sectors.proofs.Calls.{below-is, in-header, in-a, in-b, at-inside, at-past}

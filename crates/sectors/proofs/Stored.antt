@@ -1,4 +1,4 @@
--- What is stored does not depend on sectors that could not be read. Assumes nothing.
+-- What is stored does not depend on sectors that could not be read.
 use Prim.Native.Nat.{ℕ, _+_, _-_}
 use mathlib.Core.Path.{_≡_, refl, sym, ap, ap₂, _∙_}
 use mathlib.Core.Bool.{Bool, true, false, cond, _&&_}
@@ -7,7 +7,7 @@ use lib.Dec.{leb, ltb, eqb}
 use lib.ListN.{length}
 use Rattle.endian.proofs.Tests.{and-left, and-right}
 use Rattle.refusal.specs.Numbers.{sliceSize, recordLength, notInStep, areaEntry, notLater, noStore}
-use Rattle.refusal.specs.Tests.{Test, _or_, first}
+use Rattle.refusal.specs.Tests.{Test, _elseRefuse_, first}
 use Rattle.layout.specs.declared.Side.{Side}
 use Rattle.layout.specs.declared.Side.the-variants.{Front, Back}
 use Rattle.layout.specs.declared.Area.{Area}
@@ -19,10 +19,10 @@ use Rattle.block.specs.declared.Entry.the-variants.{Used}
 use Rattle.block.specs.declared.BlockFields.{BlockFields}
 use Rattle.block.specs.declared.Verdict.the-variants as Verdict
 use Rattle.block.specs.Entry.{laterThan}
-use Rattle.block.specs.Block.{deviceOf, poolOf, uuidOf, fieldsOf}
+use Rattle.block.specs.Block.{deviceOf, poolOf, blockdevOf, fieldsOf}
 use Rattle.block.specs.Writing.{blockOf, writeTests, written}
 use Rattle.record.specs.Accept.{contentTests}
-use Rattle.discovery.specs.declared.Record.{Record}
+use Rattle.discovery.specs.declared.Finding.{Finding}
 use Rattle.discovery.specs.declared.Other.{Other}
 use Rattle.discovery.specs.declared.Answer.{Answer}
 use Rattle.discovery.specs.declared.Answer.the-variants as Answer
@@ -30,7 +30,7 @@ use Rattle.discovery.specs.Copy.{blockIn, areaBytes, entryIn, otherArea, otherS
 use Rattle.discovery.specs.Discovery.{sized, discovery, inStep, copyOn, recordBytes}
 use Rattle.discovery.specs.Newest.{timeAt}
 use Rattle.discovery.proofs.Latest.{newest-found}
-use Rattle.device.specs.Device.{Groups, copyFrom}
+use Rattle.crash.specs.Crash.{Groups, copyFrom}
 use Rattle.update.specs.declared.Part.{Part}
 use Rattle.update.specs.declared.Plan.{Plan}
 use Rattle.update.specs.declared.Planned.{Planned}
@@ -62,10 +62,10 @@ three {T} p q r n d e f =
 -- one copy, whose block has the same bytes
 module _ (c e : List ℕ) (h : blockIn e ≡ blockIn c) where
   block-answer : (s : ℕ) (g : BlockFields) (out : List ℕ) → blockAnswer s g e out ≡ blockAnswer s g c out
-  block-answer s g out = ap (λ (b : List ℕ). unlessRefused (first (writeTests out (poolOf b) (uuidOf b) g)) s) h
+  block-answer s g out = ap (λ (b : List ℕ). unlessRefused (first (writeTests out (poolOf b) (blockdevOf b) g)) s) h
 
   block-stored : (g : BlockFields) (out : List ℕ) → blockBytes g e out ≡ blockBytes g c out
-  block-stored g out = ap (λ (b : List ℕ). written out (poolOf b) (uuidOf b) g) h
+  block-stored g out = ap (λ (b : List ℕ). written out (poolOf b) (blockdevOf b) g) h
 
   part-answer : (p : Part) (k j : ℕ) (out : List ℕ) → partAnswer p k e j out ≡ partAnswer p k c j out
   part-answer p k j out =
@@ -96,7 +96,7 @@ module _ (c e : List ℕ) (h : blockIn e ≡ blockIn c) where
 
   -- and whose newest area is whole or not the same
   module _ (l : laterWhole e ≡ laterWhole c) where
-    rewrite-same : (q : Record) → rewriteOf e q ≡ rewriteOf c q
+    rewrite-same : (q : Finding) → rewriteOf e q ≡ rewriteOf c q
     rewrite-same q =
         ap₂
         (λ (b : List ℕ) (w : Bool). record {
@@ -120,10 +120,10 @@ module _ (c e : List ℕ) (h : blockIn e ≡ blockIn c) where
     rewriting-same w x r q d =
         ap (rewriting w e x) d
         ∙ ap₂
-        (λ (b : List ℕ) (t : Bool). blockStore (otherSide w) (deviceOf b) (blockOf (poolOf b) (uuidOf b) (emptied (deviceOf b)))
+        (λ (b : List ℕ) (t : Bool). blockStore (otherSide w) (deviceOf b) (blockOf (poolOf b) (blockdevOf b) (emptied (deviceOf b)))
         ∷ recordStores (areaSector (otherSide w) A (deviceOf b)) q
-        ∷ blockStore (otherSide w) (deviceOf b) (blockOf (poolOf b) (uuidOf b) (refilled (deviceOf b) (entryIn (fieldsOf b) x)))
-        ∷ cond t [] (blockStore w (deviceOf b) (blockOf (poolOf b) (uuidOf b) (blanked (fieldsOf b))) ∷ []))
+        ∷ blockStore (otherSide w) (deviceOf b) (blockOf (poolOf b) (blockdevOf b) (refilled (deviceOf b) (entryIn (fieldsOf b) x)))
+        ∷ cond t [] (blockStore w (deviceOf b) (blockOf (poolOf b) (blockdevOf b) (blanked (fieldsOf b))) ∷ []))
         h l
 
 -- whether the newest area of a copy whose block is accepted is whole
@@ -147,7 +147,7 @@ module _ {f b g k : List ℕ} (sf : SameCopy f g) (sb : SameCopy b k) (hf : bloc
   lent-same out = ap (λ (t : Bool). t && eqb (length out) 512) z
 
   -- the copy with the found record
-  later-on : (q : Record) (o : Other) → discovery f b ≡ Answer.Found q o → laterWhole (copyOn (q .side) g k) ≡ laterWhole (copyOn (q .side) f b)
+  later-on : (q : Finding) (o : Other) → discovery f b ≡ Answer.Found q o → laterWhole (copyOn (q .side) g k) ≡ laterWhole (copyOn (q .side) f b)
   later-on q o e =
       later-same (copyOn (q .side) f b) (copyOn (q .side) g k) (copy-on (q .side)) (block-on (q .side))
       (newest-found f b q o e .fields) (newest-found f b q o e .accepted)
@@ -213,7 +213,7 @@ module _ {f b g k : List ℕ} (sf : SameCopy f g) (sb : SameCopy b k) (hf : bloc
       go (Answer.Refused n) = refl
       go (Answer.Found q o) =
           ap₂
-          (λ (s : Bool) (c : List ℕ). first ((s or notInStep) ∷ (leb (t .nanoseconds) 999999999 or areaEntry) ∷ (laterThan t (timeAt q) or notLater) ∷ contentTests (deviceOf c) r))
+          (λ (s : Bool) (c : List ℕ). first ((s elseRefuse notInStep) ∷ (leb (t .nanoseconds) 999999999 elseRefuse areaEntry) ∷ (laterThan t (timeAt q) elseRefuse notLater) ∷ contentTests (deviceOf c) r))
           (same .step) hf
 
   plan-same : (t : Time) (r : List ℕ) → planOf g k t r ≡ planOf f b t r
@@ -251,7 +251,7 @@ module _ {f b g k : List ℕ} (sf : SameCopy f g) (sb : SameCopy b k) (hf : bloc
         (part-bytes b k hb (p .back) (p .sectors) r r (i - (p .sectors + 1)) out refl)
 
     abbrev tests-of : Bool → List Test
-    tests-of t = (t or sliceSize) ∷ (lengthAllowed (length r) or recordLength) ∷ (ltb i (storesIn p) or noStore) ∷ []
+    tests-of t = (t elseRefuse sliceSize) ∷ (lengthAllowed (length r) elseRefuse recordLength) ∷ (ltb i (storesIn p) elseRefuse noStore) ∷ []
 
     update-place : Update.storeAnswer p g k r i out ≡ Update.storeAnswer p f b r i out
     update-place =
@@ -266,11 +266,11 @@ module _ {f b g k : List ℕ} (sf : SameCopy f g) (sb : SameCopy b k) (hf : bloc
       ap₂
       (λ (c e : List ℕ). (recordStores (areaSector Front (otherArea (newest (fieldsOf c))) (deviceOf c)) r
       ∷ blockStore Front (deviceOf c)
-      (blockOf (poolOf c) (uuidOf c) (withEntry (fieldsOf c) (otherArea (newest (fieldsOf c))) (Used (holdingFor t r))))
+      (blockOf (poolOf c) (blockdevOf c) (withEntry (fieldsOf c) (otherArea (newest (fieldsOf c))) (Used (holdingFor t r))))
       ∷ [])
       ++ (recordStores (areaSector Back (otherArea (newest (fieldsOf e))) (deviceOf c)) r
       ∷ blockStore Back (deviceOf c)
-      (blockOf (poolOf e) (uuidOf e) (withEntry (fieldsOf e) (otherArea (newest (fieldsOf e))) (Used (holdingFor t r))))
+      (blockOf (poolOf e) (blockdevOf e) (withEntry (fieldsOf e) (otherArea (newest (fieldsOf e))) (Used (holdingFor t r))))
       ∷ []))
       hf hb
 

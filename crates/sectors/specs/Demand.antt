@@ -1,6 +1,5 @@
 -- What sectors that could not be read can change. `proofs/Alone.antt` proves `Alone`, `Steady` and `Meaning`, `proofs/Least.antt`
 -- `Bounded`, `proofs/Placed.antt` `Placed`, `proofs/Stored.antt` `Stored` and `SureStored`, `proofs/Demand.antt` the rest.
--- Assumes nothing.
 use Prim.Native.Nat.{ℕ, _+_, _*_, _≤_, _<_}
 use mathlib.Core.Path.{_≡_}
 use mathlib.Core.Bool.{true, false}
@@ -21,12 +20,12 @@ use Rattle.block.specs.declared.BlockFields.{BlockFields}
 use Rattle.block.specs.declared.Verdict.the-variants as Verdict
 use Rattle.block.specs.Writing.{holdingOf}
 use Rattle.discovery.specs.declared.Present.the-variants.{At}
-use Rattle.discovery.specs.declared.Record.{Record}
+use Rattle.discovery.specs.declared.Finding.{Finding}
 use Rattle.discovery.specs.declared.Other.{Other}
 use Rattle.discovery.specs.declared.Answer.the-variants.{Found}
 use Rattle.discovery.specs.Copy.{areaBytes, entryIn, otherArea, whole, newest, present, readingIn}
 use Rattle.discovery.specs.Discovery.{discovery, inStep, recordBytes}
-use Rattle.device.specs.Device.{Sectors, Sound, areaSectors, copyFrom}
+use Rattle.crash.specs.Crash.{Sectors, Sound, areaSectors, copyFrom}
 use Rattle.update.specs.declared.Plan.{Plan}
 use Rattle.update.specs.Update.{updateGroups}
 use Rattle.update.specs.Plan.{planned}
@@ -70,7 +69,7 @@ Alone = (m c e : List ℕ) → Agree m c e → known c m ≡ true → SameCopy c
 pub record SameBoth (f b g k : List ℕ) : Type 0 where
   pub answers : discovery g k ≡ discovery f b
   pub step : inStep g k ≡ inStep f b
-  pub bytes : (r : Record) (o : Other) → discovery f b ≡ Found r o → recordBytes r g k ≡ recordBytes r f b
+  pub bytes : (r : Finding) (o : Other) → discovery f b ≡ Found r o → recordBytes r g k ≡ recordBytes r f b
 
 -- Whatever the marked sectors of two copies hold, discovery says the same.
 abbrev pub Settled : Type 0

@@ -1,5 +1,4 @@
 -- A copy sector by sector: where each lies on the device, which of them discovery looks at, and whether those were read.
--- Assumes nothing.
 use Prim.Native.Nat.{ℕ, _+_, _-_, _*_, _/_}
 use mathlib.Core.Bool.{Bool, false, not, cond, _&&_, _||_}
 use mathlib.Core.List.{List}
@@ -18,7 +17,7 @@ use Rattle.block.specs.declared.Verdict.{Verdict}
 use Rattle.block.specs.declared.Verdict.the-variants as Verdict
 use Rattle.search.specs.Search.{every}
 use Rattle.discovery.specs.Copy.{entryIn, otherArea, whole, newest, readingIn}
-use Rattle.device.specs.Device.{areaSectors}
+use Rattle.crash.specs.Crash.{areaSectors}
 
 -- sectors of a copy as it is lent
 unfoldable pub copySectors : ℕ

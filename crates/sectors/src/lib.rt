@@ -1,9 +1,9 @@
 // A copy read sector by sector: where each of its sectors lies, and whether those that could not be read matter to what
 // discovery answers. A copy is lent as discovery takes it, with any bytes in place of a sector that could not be read; marks
-// have a byte a sector, 0 where it was read. Assumes nothing.
+// have a byte a sector, 0 where it was read.
 ghost use mathlib.Core.Path.{_≡_};
 ghost use Prim.Native.Nat.{_+_, _*_, _≤_, _<_};
-ghost use Rattle.device.specs.Device.{areaSectors};
+ghost use Rattle.crash.specs.Crash.{areaSectors};
 ghost use Rattle.layout.specs.Places.{headerSector};
 ghost use Rattle.search.specs.Search.{every};
 ghost use Rattle.sectors.specs.Sectors.{copySectors, areaStart, below, sectorAt, named, namedIn, mattersFor, newestWhole, matters, isRead, passes, known, settled};

@@ -1,4 +1,4 @@
--- Laws of two segments of a list that share a sector. A search's loops cite a law a step; meaning is the other half. Assumes nothing.
+-- Laws of two segments of a list that share a sector. A search's loops cite a law a step; meaning is the other half.
 use Prim.Native.Nat.{ℕ, _+_, _≤_, _<_}
 use mathlib.Core.Path.{_≡_, sym, ap, _∙_}
 use mathlib.Core.Bool.{Bool, true, false, _&&_}

@@ -1,4 +1,4 @@
--- Laws of the sectors that a list of segments holds, and of those of a range that are free. Assumes nothing.
+-- Laws of the sectors that a list of segments holds, and of those of a range that are free.
 use Prim.Native.Nat.{ℕ, zero, suc, _+_, _-_, _≤_, _<_, min}
 use mathlib.Core.Path.{_≡_, refl, sym, ap, _∙_}
 use mathlib.Core.Bool.{Bool, true, false, _&&_}

@@ -1,4 +1,4 @@
--- Laws of a segment, alone and beside another. Assumes nothing.
+-- Laws of a segment, alone and beside another.
 use Prim.Native.Nat.{ℕ, _+_, _-_, _≤_, _<_, max}
 use mathlib.Core.Path.{_≡_, refl, sym, ap, _∙_}
 use mathlib.Core.Bool.{Bool, true, false, _&&_, true≢false}

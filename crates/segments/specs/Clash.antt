@@ -1,4 +1,4 @@
--- Two segments of a list that share a sector. Assumes nothing.
+-- Two segments of a list that share a sector.
 use Prim.Native.Nat.{ℕ}
 use mathlib.Core.Bool.{Bool, _&&_}
 use mathlib.Core.List.{List}

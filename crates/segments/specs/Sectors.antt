@@ -1,4 +1,4 @@
--- Which sectors a list of segments holds, and which of a range are free. Assumes nothing.
+-- Which sectors a list of segments holds, and which of a range are free.
 use Prim.Native.Nat.{ℕ, _+_, _<_}
 use mathlib.Core.Path.{_≡_}
 use mathlib.Core.Bool.{Bool, true, _&&_}

@@ -1,4 +1,4 @@
--- A segment, alone and beside another. Assumes nothing.
+-- A segment, alone and beside another.
 use Prim.Native.Nat.{ℕ, _+_, _≤_, max}
 use mathlib.Core.Bool.{Bool, _&&_}
 use mathlib.Core.List.{List}

@@ -1,5 +1,5 @@
 // A segment of a record, and when two of them share a sector or one lies in a range. The definitions over lists of segments, and
-// their laws, are here too: which sectors are held, which are free, the order of the segments. Assumes nothing.
+// their laws, are here too: which sectors are held, which are free, the order of the segments.
 ghost use mathlib.Core.Path.{_≡_};
 ghost use Prim.Native.Nat.{_+_, max};
 ghost use lib.Dec.{ltb};

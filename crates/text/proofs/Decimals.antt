@@ -1,4 +1,4 @@
--- Decimal digits mean their number, have no leading zero, and are written from the last to the first. Assumes nothing.
+-- Decimal digits mean their number, have no leading zero, and are written from the last to the first.
 use Prim.Native.Nat.{ℕ, zero, suc, _+_, _-_, _*_, _/_, _%_, _^_, _≤_, _<_}
 use mathlib.Core.Path.{_≡_, refl, sym, ap, _∙_}
 use mathlib.Core.Bool.{true}
@@ -11,7 +11,7 @@ use borrow.Author.Tests.{lt-ltb, le-ltb, le-leb}
 use lib.Dec.{lit<}
 use lib.ListN.{length, getD, drop, set, length-append, length-set, List·getD-append}
 use lib.Seq.{drop-cons, getD-set-same, drop-set-lt}
-use Rattle.endian.specs.Bytes.{all}
+use Rattle.endian.specs.Bytes.{allPass}
 use Rattle.endian.proofs.Tests.{and-left, and-right, and-both}
 use Rattle.text.specs.Decimal.{digits, decimal, valueAfter, value, isDigit}
 
@@ -76,19 +76,19 @@ leading-digit (suc k) n h e =
       | no l ↦ let d : 48 + n ≡ 48 = (rw (digits-one k n (let m : n < 10 = omega arith in m)) at e) in omega arith
     ]
 
-all-last : (xs : List ℕ) (d : ℕ) → all isDigit xs ≡ true → isDigit d ≡ true → all isDigit (xs ++ (d ∷ [])) ≡ true
-unfolding all
+all-last : (xs : List ℕ) (d : ℕ) → allPass isDigit xs ≡ true → isDigit d ≡ true → allPass isDigit (xs ++ (d ∷ [])) ≡ true
+unfolding allPass
 all-last [] d h e = rw e
 all-last (x ∷ xs) d h e =
-    and-both (isDigit x) (all isDigit (xs ++ (d ∷ []))) (and-left (isDigit x) (all isDigit xs) h)
-    (all-last xs d (and-right (isDigit x) (all isDigit xs) h) e)
+    and-both (isDigit x) (allPass isDigit (xs ++ (d ∷ []))) (and-left (isDigit x) (allPass isDigit xs) h)
+    (all-last xs d (and-right (isDigit x) (allPass isDigit xs) h) e)
 
 is-digit : (n : ℕ) → n < 10 → isDigit (48 + n) ≡ true
 is-digit n h = rw (le-leb 48 (48 + n) (let l : 48 ≤ 48 + n = omega arith in l), le-leb (48 + n) 57 (let l : 48 + n ≤ 57 = omega arith in l))
 
 -- digits are digits
-pub all-digits : (k n : ℕ) → all isDigit (digits k n) ≡ true
-unfolding digits all
+pub all-digits : (k n : ℕ) → allPass isDigit (digits k n) ≡ true
+unfolding digits allPass
 all-digits zero n = refl
 all-digits (suc k) n =
     elim (decLe 10 n) [

@@ -1,17 +1,16 @@
 -- Laws of a text to which pieces are added: with room for all of them it is the pieces, one after the other.
--- Assumes nothing.
 use Prim.Native.Nat.{ℕ, zero, suc, _+_, _-_, _≤_, _<_}
 use mathlib.Core.Path.{_≡_, refl, sym, ap, _∙_}
-use mathlib.Core.List.{List, [], _∷_, _++_, append-assoc, append-nil}
+use mathlib.Core.List.{List, [], _∷_, _++_, append-assoc, append-nil, flatten}
 use native.Mathlib.Decide.{decLe}
 use native.Mathlib.Nat.{not-suc-le-zero}
 use native.Mathlib.Omega.{arith}
 use borrow.Author.Tests.{le-leb, lt-leb}
 use lib.ListN.{length, take, drop, replicate, length-append, length-take, length-replicate, length-drop, drop-of-length-le}
 use lib.Seq.{take-at, take-all, length-take-le, drop-append-le}
-use Rattle.endian.specs.Bytes.{splice, room}
-use Rattle.endian.proofs.Parts.{splice-fits, length-splice, room-fits, room-short}
-use Rattle.text.specs.Text.{capacity, added, concat, filled}
+use Rattle.endian.specs.Bytes.{splice, writeNumber}
+use Rattle.endian.proofs.Parts.{splice-fits, length-splice, write-fits, write-short}
+use Rattle.text.specs.Text.{capacity, added, filled}
 
 pub added-fits : (t p : List ℕ) → length t + length p ≤ capacity → added t p ≡ t ++ p
 unfolding added
@@ -22,17 +21,17 @@ unfolding added
 added-short t p h = rw (lt-leb (length t + length p) capacity h)
 
 -- n elements at place `at` fit where a write of them answers 0, and else do not
-pub fits-of : (s : List ℕ) (at n r : ℕ) → r ≡ room s at n → r ≡ 0 → at + n ≤ length s
+pub fits-of : (s : List ℕ) (at n r : ℕ) → r ≡ writeNumber s at n → r ≡ 0 → at + n ≤ length s
 fits-of s at n r e z =
     elim (decLe (at + n) (length s)) [
       | yes h ↦ h
-      | no h ↦ let w : room s at n ≡ 1 = room-short s at n (omega arith) in omega arith
+      | no h ↦ let w : writeNumber s at n ≡ 1 = write-short s at n (omega arith) in omega arith
     ]
 
-pub short-of : (s : List ℕ) (at n r : ℕ) → r ≡ room s at n → (r ≡ 0 → ⊥) → length s < at + n
+pub short-of : (s : List ℕ) (at n r : ℕ) → r ≡ writeNumber s at n → (r ≡ 0 → ⊥) → length s < at + n
 short-of s at n r e z =
     elim (decLe (at + n) (length s)) [
-      | yes h ↦ absurd (z (e ∙ room-fits s at n h))
+      | yes h ↦ absurd (z (e ∙ write-fits s at n h))
       | no h ↦ omega arith
     ]
 
@@ -60,13 +59,13 @@ unfoldable pub addedAll : List ℕ → List (List ℕ) → List ℕ
 addedAll t [] = t
 addedAll t (p ∷ ps) = addedAll (added t p) ps
 
-pub added-all : (ps : List (List ℕ)) (t : List ℕ) → length t + length (concat ps) ≤ capacity → addedAll t ps ≡ t ++ concat ps
-unfolding addedAll concat
+pub added-all : (ps : List (List ℕ)) (t : List ℕ) → length t + length (flatten ps) ≤ capacity → addedAll t ps ≡ t ++ flatten ps
+unfolding addedAll flatten
 added-all [] t h = sym (append-nil t)
 added-all (p ∷ ps) t h =
-    let l : length (p ++ concat ps) ≡ length p + length (concat ps) = length-append p (concat ps) in
+    let l : length (p ++ flatten ps) ≡ length p + length (flatten ps) = length-append p (flatten ps) in
     rw (added-fits t p (let k : length t + length p ≤ capacity = omega arith in k))
-    (added-all ps (t ++ p) (rw length-append (omega arith)) ∙ append-assoc t p (concat ps))
+    (added-all ps (t ++ p) (rw length-append (omega arith)) ∙ append-assoc t p (flatten ps))
 
 -- nothing is filled in before a piece that is long enough
 pub filled-long : (c w : ℕ) (p : List ℕ) → w ≤ length p → filled c w p ≡ p

@@ -1,4 +1,4 @@
--- A number in decimal digits, in ASCII, and the number that digits make. Assumes nothing.
+-- A number in decimal digits, in ASCII, and the number that digits make.
 use Prim.Native.Nat.{ℕ, zero, suc, _+_, _*_, _-_, _/_, _%_}
 use mathlib.Core.Bool.{Bool, cond, _&&_}
 use mathlib.Core.List.{List, [], _∷_, _++_}

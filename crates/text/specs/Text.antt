@@ -1,4 +1,4 @@
--- A text in the making, and what adding to it gives. Assumes nothing.
+-- A text in the making, and what adding to it gives.
 use Prim.Native.Nat.{ℕ, _+_, _-_}
 use mathlib.Core.Bool.{cond}
 use mathlib.Core.List.{List, [], _∷_, _++_}
@@ -17,11 +17,6 @@ text t = take (t .used) (t .bytes)
 -- a text and one more piece, which is left out where it has no room
 unfoldable pub added : List ℕ → List ℕ → List ℕ
 added t p = cond (leb (length t + length p) capacity) (t ++ p) t
-
--- pieces one after the other
-unfoldable pub concat : List (List ℕ) → List ℕ
-concat [] = []
-concat (p ∷ ps) = p ++ concat ps
 
 -- a piece with as many c before it as make it w long; a longer one is not cut
 unfoldable pub filled : ℕ → ℕ → List ℕ → List ℕ

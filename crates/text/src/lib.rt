@@ -1,5 +1,5 @@
 // A text in the making, by value: pieces and decimal numbers are added to it, and what has no room is left out.
-// Every call is total. Assumes nothing.
+// Every call is total.
 ghost use mathlib.Core.Path.{_≡_};
 ghost use mathlib.Core.List.{[]};
 ghost use Prim.Native.Nat.{_+_, _<_};

@@ -1,4 +1,4 @@
--- Two copies of one device that hold the same record with the same time. Assumes nothing.
+-- Two copies of one device that hold the same record with the same time.
 use Prim.Native.Nat.{ℕ}
 use mathlib.Core.Path.{_≡_, refl, ap, ap₂, _∙_}
 use mathlib.Core.Bool.{true}

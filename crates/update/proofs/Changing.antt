@@ -1,7 +1,7 @@
--- A block with one entry changed keeps every other byte but the CRC's. Assumes nothing.
+-- A block with one entry changed keeps every other byte but the CRC's.
 use Prim.Native.Nat.{ℕ, _+_, _-_, _≤_, _<_}
 use mathlib.Core.Path.{_≡_, refl, sym, ap, ap₂, _∙_}
-use mathlib.Core.List.{List, [], _∷_, _++_, append-assoc}
+use mathlib.Core.List.{List, [], _∷_, _++_, append-assoc, flatten}
 use native.Mathlib.Decide.{decLe}
 use native.Mathlib.Omega.{arith}
 use lib.ListN.{length, getD, length-append, List·getD-append}
@@ -16,8 +16,8 @@ use Rattle.layout.specs.declared.Area.the-variants.{A, B}
 use Rattle.block.specs.declared.Entry.{Entry}
 use Rattle.block.specs.declared.Entry.the-variants.{Used}
 use Rattle.block.specs.declared.BlockFields.{BlockFields}
-use Rattle.block.specs.Block.{signatureBytes, poolOf, uuidOf, fieldsOf}
-use Rattle.block.specs.Writing.{holdingOf, join, bodyFields, blockOf}
+use Rattle.block.specs.Block.{signatureBytes, poolOf, blockdevOf, fieldsOf}
+use Rattle.block.specs.Writing.{holdingOf, bodyFields, blockOf}
 use Rattle.block.proofs.Readings.{accepted-length}
 use Rattle.block.proofs.Exactly.{obeys}
 use Rattle.block.proofs.Written.{written-accepted}
@@ -47,10 +47,10 @@ outside x m n q i e out =
         ∙ getD-append-add (x ++ m) q (i - (length x + length m)) 0
 
 -- lists joined in two steps
-join-append : (xs ys : List (List ℕ)) → join (xs ++ ys) ≡ join xs ++ join ys
-unfolding join
+join-append : (xs ys : List (List ℕ)) → flatten (xs ++ ys) ≡ flatten xs ++ flatten ys
+unfolding flatten
 join-append [] ys = refl
-join-append (x ∷ xs) ys = ap (_++_ x) (join-append xs ys) ∙ sym (append-assoc x (join xs) (join ys))
+join-append (x ∷ xs) ys = ap (_++_ x) (join-append xs ys) ∙ sym (append-assoc x (flatten xs) (flatten ys))
 
 three : (x m z : List ℕ) → length (x ++ (m ++ (z ++ []))) ≡ length x + (length m + (length z + 0))
 three x m z =
@@ -61,8 +61,8 @@ three x m z =
 abbrev entryFields : Entry → List (List ℕ)
 entryFields e = toLe 8 (holdingOf e .seconds) ∷ toLe 4 (holdingOf e .nanoseconds) ∷ toLe 4 (holdingOf e .bytes) ∷ toLe 4 (holdingOf e .checksum) ∷ []
 
-length-entry : (e : Entry) → length (join (entryFields e)) ≡ 20
-unfolding join
+length-entry : (e : Entry) → length (flatten (entryFields e)) ≡ 20
+unfolding flatten
 length-entry e = simp (length-append, length-toLe)
 
 module _ (p u : List ℕ) (hp : length p ≡ 32) (hu : length u ≡ 32) (f : BlockFields) where
@@ -72,8 +72,8 @@ module _ (p u : List ℕ) (hp : length p ≡ 32) (hu : length u ≡ 32) (f : Blo
   abbrev last : List (List ℕ)
   last = zeros 12 ∷ toLe 4 (f .device .metadata) ∷ toLe 4 (f .device .reserved) ∷ zeros 344 ∷ []
 
-  length-before : length (join before) ≡ 92
-  unfolding join signatureBytes
+  length-before : length (flatten before) ≡ 92
+  unfolding flatten signatureBytes
   length-before = simp (length-append, length-toLe, length-zeros, hp, hu)
 
   -- what stands before an area's entry, and after it
@@ -85,16 +85,16 @@ module _ (p u : List ℕ) (hp : length p ≡ 32) (hu : length u ≡ 32) (f : Blo
   tail A = zeros 12 ∷ (entryFields (f .b) ++ last)
   tail B = last
 
-  length-head : (y : Area) → 4 + length (join (head y)) ≡ entryPlace y
-  unfolding join
+  length-head : (y : Area) → 4 + length (flatten (head y)) ≡ entryPlace y
+  unfolding flatten
   length-head A = ap (_+_ 4) length-before
   length-head B =
-      ap (λ (s : List ℕ). 4 + length s) (join-append before (entryFields (f .a) ++ (zeros 12 ∷ [])) ∙ ap (_++_ (join before)) (join-append (entryFields (f .a)) (zeros 12 ∷ [])))
-      ∙ (let a : length (join before) ≡ 92 = length-before in
-      let b : length (join (entryFields (f .a))) ≡ 20 = length-entry (f .a) in
+      ap (λ (s : List ℕ). 4 + length s) (join-append before (entryFields (f .a) ++ (zeros 12 ∷ [])) ∙ ap (_++_ (flatten before)) (join-append (entryFields (f .a)) (zeros 12 ∷ [])))
+      ∙ (let a : length (flatten before) ≡ 92 = length-before in
+      let b : length (flatten (entryFields (f .a))) ≡ 20 = length-entry (f .a) in
       let z : length (zeros 12) ≡ 12 = length-zeros 12 in
-      let t : length (join before ++ (join (entryFields (f .a)) ++ (zeros 12 ++ []))) ≡ length (join before) + (length (join (entryFields (f .a))) + (length (zeros 12) + 0)) =
-      three (join before) (join (entryFields (f .a))) (zeros 12) in
+      let t : length (flatten before ++ (flatten (entryFields (f .a)) ++ (zeros 12 ++ []))) ≡ length (flatten before) + (length (flatten (entryFields (f .a))) + (length (zeros 12) + 0)) =
+      three (flatten before) (flatten (entryFields (f .a))) (zeros 12) in
       omega arith)
 
   laid : (y : Area) (e : Entry) → bodyFields p u (withEntry f y e) ≡ head y ++ (entryFields e ++ tail y)
@@ -106,22 +106,22 @@ module _ (p u : List ℕ) (hp : length p ≡ 32) (hu : length u ≡ 32) (f : Blo
       → getD (blockOf p u (withEntry f y e)) i 0 ≡ getD (blockOf p u (withEntry f y g)) i 0
   unfolding blockOf
   same-outside y e g i h out =
-      body (checksum (join (bodyFields p u (withEntry f y e)))) e ∙ (middle ∙ sym (body (checksum (join (bodyFields p u (withEntry f y g)))) g))
+      body (checksum (flatten (bodyFields p u (withEntry f y e)))) e ∙ (middle ∙ sym (body (checksum (flatten (bodyFields p u (withEntry f y g)))) g))
     where
-      body : (c : ℕ) (e : Entry) → getD (toLe 4 c ++ join (bodyFields p u (withEntry f y e))) i 0
-          ≡ getD (join (head y) ++ (join (entryFields e) ++ join (tail y))) (i - 4) 0
+      body : (c : ℕ) (e : Entry) → getD (toLe 4 c ++ flatten (bodyFields p u (withEntry f y e))) i 0
+          ≡ getD (flatten (head y) ++ (flatten (entryFields e) ++ flatten (tail y))) (i - 4) 0
       body c e =
           let l : length (toLe 4 c) ≡ 4 = length-toLe 4 c in
-          ap (λ (j : ℕ). getD (toLe 4 c ++ join (bodyFields p u (withEntry f y e))) j 0) (let j : i ≡ length (toLe 4 c) + (i - 4) = omega arith in j)
-          ∙ (getD-append-add (toLe 4 c) (join (bodyFields p u (withEntry f y e))) (i - 4) 0
+          ap (λ (j : ℕ). getD (toLe 4 c ++ flatten (bodyFields p u (withEntry f y e))) j 0) (let j : i ≡ length (toLe 4 c) + (i - 4) = omega arith in j)
+          ∙ (getD-append-add (toLe 4 c) (flatten (bodyFields p u (withEntry f y e))) (i - 4) 0
           ∙ ap (λ (s : List ℕ). getD s (i - 4) 0)
-          (ap join (laid y e) ∙ (join-append (head y) (entryFields e ++ tail y) ∙ ap (_++_ (join (head y))) (join-append (entryFields e) (tail y)))))
+          (ap flatten (laid y e) ∙ (join-append (head y) (entryFields e ++ tail y) ∙ ap (_++_ (flatten (head y))) (join-append (entryFields e) (tail y)))))
 
-      middle : getD (join (head y) ++ (join (entryFields e) ++ join (tail y))) (i - 4) 0 ≡ getD (join (head y) ++ (join (entryFields g) ++ join (tail y))) (i - 4) 0
+      middle : getD (flatten (head y) ++ (flatten (entryFields e) ++ flatten (tail y))) (i - 4) 0 ≡ getD (flatten (head y) ++ (flatten (entryFields g) ++ flatten (tail y))) (i - 4) 0
       middle =
-          let a : 4 + length (join (head y)) ≡ entryPlace y = length-head y in
-          let b : length (join (entryFields e)) ≡ 20 = length-entry e in
-          outside (join (head y)) (join (entryFields e)) (join (entryFields g)) (join (tail y)) (i - 4) (length-entry e ∙ sym (length-entry g))
+          let a : 4 + length (flatten (head y)) ≡ entryPlace y = length-head y in
+          let b : length (flatten (entryFields e)) ≡ 20 = length-entry e in
+          outside (flatten (head y)) (flatten (entryFields e)) (flatten (entryFields g)) (flatten (tail y)) (i - 4) (length-entry e ∙ sym (length-entry g))
           (λ k l. out (omega arith) (omega arith))
 
 -- an entry put back
@@ -134,10 +134,10 @@ unfolding newBlock
 changing c t r i bytes ok h out =
     let b : List ℕ = blockIn c in
     let n : length (blockIn c) ≡ 512 = accepted-length (blockIn c) ok in
-    let w : blockOf (poolOf (blockIn c)) (uuidOf (blockIn c)) (fieldsOf (blockIn c)) ≡ blockIn c =
-    written-accepted (blockIn c) (poolOf (blockIn c)) (uuidOf (blockIn c)) (fieldsOf (blockIn c)) (write-after-read (blockIn c) (blockIn c) bytes (obeys (blockIn c) ok) n .0)
+    let w : blockOf (poolOf (blockIn c)) (blockdevOf (blockIn c)) (fieldsOf (blockIn c)) ≡ blockIn c =
+    written-accepted (blockIn c) (poolOf (blockIn c)) (blockdevOf (blockIn c)) (fieldsOf (blockIn c)) (write-after-read (blockIn c) (blockIn c) bytes (obeys (blockIn c) ok) n .0)
     ∙ write-after-read (blockIn c) (blockIn c) bytes (obeys (blockIn c) ok) n .1 in
-    same-outside (poolOf (blockIn c)) (uuidOf (blockIn c)) (length-window-fits (blockIn c) 32 32 (omega arith)) (length-window-fits (blockIn c) 64 32 (omega arith))
+    same-outside (poolOf (blockIn c)) (blockdevOf (blockIn c)) (length-window-fits (blockIn c) 32 32 (omega arith)) (length-window-fits (blockIn c) 64 32 (omega arith))
     (fieldsOf (blockIn c)) (spare c) (Used (holdingFor t r)) (entryIn (fieldsOf (blockIn c)) (spare c)) i h out
     ∙ ap (λ (s : List ℕ). getD s i 0)
-    (ap (blockOf (poolOf (blockIn c)) (uuidOf (blockIn c))) (put-back (fieldsOf (blockIn c)) (spare c)) ∙ w)
+    (ap (blockOf (poolOf (blockIn c)) (blockdevOf (blockIn c))) (put-back (fieldsOf (blockIn c)) (spare c)) ∙ w)

@@ -1,4 +1,4 @@
--- Which case of the answers applies, from what the code has tested. Assumes nothing.
+-- Which case of the answers applies, from what the code has tested.
 use Prim.Native.Nat.{ℕ, _+_, _-_, _*_, _≤_, _<_}
 use mathlib.Core.Path.{_≡_, refl, sym, ap, ap₂, _∙_}
 use mathlib.Core.Bool.{Bool, true, false, cond, not, _&&_}
@@ -14,7 +14,7 @@ use Rattle.refusal.proofs.Order.{first-pass, first-fail, first-all, answer-no, 
 use Rattle.layout.specs.Limits.{lengthAllowed}
 use Rattle.layout.specs.Places.{copyBytes}
 use Rattle.block.specs.declared.BlockFields.{BlockFields}
-use Rattle.block.specs.Block.{poolOf, uuidOf}
+use Rattle.block.specs.Block.{poolOf, blockdevOf}
 use Rattle.block.specs.Writing.{writeTests, written}
 use Rattle.discovery.specs.Copy.{blockIn}
 use Rattle.discovery.specs.Discovery.{sized}
@@ -52,9 +52,9 @@ module _ (p : Plan) (i : ℕ) where
             rw (le-ltb i (p .sectors) a, lt-leb i (p .sectors) b, lt-leb i (2 * (p .sectors)) c, sym (ap (ltb i) e), le-ltb i n h)
 
 -- a block that was written, or refused
-module _ (s : ℕ) (g : BlockFields) (c out q u : List ℕ) (eq : q ≡ poolOf (blockIn c)) (eu : u ≡ uuidOf (blockIn c)) (n : ℕ)
+module _ (s : ℕ) (g : BlockFields) (c out q u : List ℕ) (eq : q ≡ poolOf (blockIn c)) (eu : u ≡ blockdevOf (blockIn c)) (n : ℕ)
     (en : n ≡ first (writeTests out q u g)) (w : List ℕ) (ew : w ≡ written out q u g) where
-  number : n ≡ first (writeTests out (poolOf (blockIn c)) (uuidOf (blockIn c)) g)
+  number : n ≡ first (writeTests out (poolOf (blockIn c)) (blockdevOf (blockIn c)) g)
   number = en ∙ ap₂ (λ (y z : List ℕ). first (writeTests out y z g)) eq eu
 
   bytes : w ≡ blockBytes g c out
@@ -84,8 +84,8 @@ module _ (p : Part) (k : ℕ) (c r : List ℕ) (j : ℕ) (out : List ℕ) where
   )
 
 -- what is given: a block that the writer takes, and a part's sectors and block
-pub block-given : (s : ℕ) (g : BlockFields) (c out b : List ℕ) → first (writeTests out (poolOf (blockIn c)) (uuidOf (blockIn c)) g) ≡ 0
-    → written out (poolOf (blockIn c)) (uuidOf (blockIn c)) g ≡ b → (blockAnswer s g c out ≡ Given.At s) × (blockBytes g c out ≡ b)
+pub block-given : (s : ℕ) (g : BlockFields) (c out b : List ℕ) → first (writeTests out (poolOf (blockIn c)) (blockdevOf (blockIn c)) g) ≡ 0
+    → written out (poolOf (blockIn c)) (blockdevOf (blockIn c)) g ≡ b → (blockAnswer s g c out ≡ Given.At s) × (blockBytes g c out ≡ b)
 block-given s g c out b z e = (sym (block-stored s g c out _ _ refl refl 0 (sym z) _ refl refl .0), e)
 
 module _ (p : Part) (k : ℕ) (c r : List ℕ) (j : ℕ) (out : List ℕ) where

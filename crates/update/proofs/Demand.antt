@@ -1,4 +1,4 @@
--- Demand 3, proved: one claim over every start, update and cut. Assumes nothing.
+-- Demand 3, proved: one claim over every start, update and cut.
 use Prim.Native.Nat.{ℕ, zero, suc, _+_, _-_, _*_, _^_, _≤_, _<_}
 use mathlib.Core.Path.{_≡_, refl, sym, ap, subst, _∙_}
 use mathlib.Core.Bool.{true}
@@ -25,16 +25,16 @@ use Rattle.block.specs.declared.BlockFields.{BlockFields}
 use Rattle.block.specs.declared.Reading.{Reading}
 use Rattle.block.specs.declared.Verdict.the-variants as Verdict
 use Rattle.block.specs.Entry.{laterThan, timeOf}
-use Rattle.block.specs.Block.{poolOf, uuidOf, fieldsOf, reading}
+use Rattle.block.specs.Block.{poolOf, blockdevOf, fieldsOf, reading}
 use Rattle.block.proofs.Readings.{accepted-length}
 use Rattle.discovery.specs.declared.Other.the-variants.{Both}
 use Rattle.discovery.specs.declared.Answer.{Answer}
 use Rattle.discovery.specs.declared.Answer.the-variants.{Found}
 use Rattle.discovery.specs.Copy.{blockIn, entryIn, newest, readingIn}
 use Rattle.discovery.specs.Discovery.{recordAt, sameDevice, sized, discovery}
-use Rattle.device.specs.Device.{Sectors, Sound, Store, Cut, Groups, stores, storeIn, groupStart, CutIn, areaSectors, copyFrom}
-use Rattle.device.proofs.Landing.{landed-size}
-use Rattle.device.proofs.Copies.{limit-small}
+use Rattle.crash.specs.Crash.{Sectors, Sound, Store, Cut, Groups, stores, storeIn, groupStart, CutIn, areaSectors, copyFrom}
+use Rattle.crash.proofs.Landing.{landed-size}
+use Rattle.crash.proofs.Copies.{limit-small}
 use Rattle.update.specs.Update.{deviceIn, numberAfter, updateTests, updateNumber, sectorsOf, sectorOf, holdingFor, withEntry, spare, newBlock}
 use Rattle.update.specs.declared.Part.{Part}
 use Rattle.update.specs.declared.Plan.{Plan}
@@ -84,11 +84,11 @@ module _ (v : Device) (d : Sectors) (t : Time) (r : List ℕ) (s : Start v d t r
   -- a side's copy holds the old record, or the new one
   abbrev OldHeld : Side → Sectors → Type 0
   OldHeld w e =
-      Holds (copyFrom w v e) (fields w) (poolOf (blockIn (copy Front))) (uuidOf (blockIn (copy Front))) (present w) (heldIn (copy w)) (recordIn (copy Front))
+      Holds (copyFrom w v e) (fields w) (poolOf (blockIn (copy Front))) (blockdevOf (blockIn (copy Front))) (present w) (heldIn (copy w)) (recordIn (copy Front))
 
   abbrev NewHeld : Side → Sectors → Type 0
   NewHeld w e =
-      Holds (copyFrom w v e) (newFields w) (poolOf (blockIn (copy Front))) (uuidOf (blockIn (copy Front))) (spare (copy w)) (holdingFor t r) r
+      Holds (copyFrom w v e) (newFields w) (poolOf (blockIn (copy Front))) (blockdevOf (blockIn (copy Front))) (spare (copy w)) (holdingFor t r) r
 
   -- a side's block stands in its old version, in its new one, or is refused
   abbrev IsOld : Side → Sectors → Type 0
@@ -154,7 +154,7 @@ module _ (v : Device) (d : Sectors) (t : Time) (r : List ℕ) (s : Start v d t r
   holds-new : (w : Side) (e : Sectors) → Sound e → e (blockSector w v) ≡ newBlock (copy w) t r
       → ((i : ℕ) → i < k → e (areaSector w (spare (copy w)) v + i) ≡ sectorOf r i) → NewHeld w e
   holds-new w e se b a =
-      renamed (stepped .pool w) (stepped .uuid w) refl
+      renamed (stepped .pool w) (stepped .blockdev w) refl
       (new-held w v d (s .sound) its-sizes (stepped .accepted w) (stepped .newest-whole w) e se t r (s .fits) its-time its-length (its-later w) b a)
 
   new-device : (w : Side) → newFields w .device ≡ fields w .device

@@ -1,4 +1,4 @@
--- What discovery gives where a copy holds a record and the other does, or is refused. Assumes nothing.
+-- What discovery gives where a copy holds a record and the other does, or is refused.
 use Prim.Native.Nat.{ℕ, _+_}
 use mathlib.Core.Path.{_≡_, refl, sym, ap, ap₂, _∙_}
 use mathlib.Core.Bool.{Bool, true, cond}

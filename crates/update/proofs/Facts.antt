@@ -1,4 +1,4 @@
--- What times, verdicts and copies that hold a record have to say, on no device in particular. Assumes nothing.
+-- What times, verdicts and copies that hold a record have to say, on no device in particular.
 use Prim.Native.Nat.{ℕ}
 use mathlib.Core.Path.{_≡_, refl, sym, ap, ap₂, _∙_}
 use mathlib.Core.Bool.{Bool, true, false, true≢false}
@@ -30,8 +30,8 @@ use Rattle.block.proofs.Readings.{refused-reading}
 use Rattle.block.proofs.Times.{same-test}
 use Rattle.discovery.specs.Copy.{blockIn, areaBytes, entryIn, otherArea, newest}
 use Rattle.discovery.specs.Discovery.{sized}
-use Rattle.device.specs.Device.{Sectors, Sound, copyFrom}
-use Rattle.device.proofs.Copies.{length-copy}
+use Rattle.crash.specs.Crash.{Sectors, Sound, copyFrom}
+use Rattle.crash.proofs.Copies.{length-copy}
 use Rattle.update.specs.Demand.{heldIn, recordIn}
 use Rattle.update.proofs.Holding.{Holds}
 use Rattle.update.proofs.InStep.{verdict-facts}
@@ -53,7 +53,7 @@ renamed {c} {f} {p} {q} {u} {w} {x} {h} {r} {s} a b e k =
     }
   where
     reading-of : BlockFields → List ℕ → List ℕ → Reading
-    reading-of f y z = record { verdict = Verdict.Accepted f; pool = y; device = z }
+    reading-of f y z = record { verdict = Verdict.Accepted f; pool = y; blockdev = z }
 
 pub same-time-refl : (t : Time) → sameTime t t ≡ true
 same-time-refl t = same-test t t refl refl

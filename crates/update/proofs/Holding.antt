@@ -1,4 +1,4 @@
--- A copy that holds a record as its present one. Assumes nothing.
+-- A copy that holds a record as its present one.
 use Prim.Native.Nat.{ℕ}
 use mathlib.Core.Path.{_≡_, refl, sym, ap, _∙_}
 use mathlib.Core.Bool.{Bool, true, false, cond}
@@ -22,7 +22,7 @@ use Rattle.discovery.proofs.Presence.{present-newest}
 use Rattle.update.specs.Update.{withEntry}
 
 pub record Holds (c : List ℕ) (f : BlockFields) (p u : List ℕ) (x : Area) (h : Holding) (r : List ℕ) : Type 0 where
-  pub reads : readingIn c ≡ record { verdict = Verdict.Accepted f; pool = p; device = u }
+  pub reads : readingIn c ≡ record { verdict = Verdict.Accepted f; pool = p; blockdev = u }
   pub area : newest f ≡ x
   pub entry : entryIn f x ≡ Used h
   pub bytes : areaBytes c x (h .bytes) ≡ r

@@ -1,4 +1,4 @@
--- What it means that two copies are in step, fact by fact. Assumes nothing.
+-- What it means that two copies are in step, fact by fact.
 use Prim.Native.Nat.{ℕ}
 use mathlib.Core.Path.{_≡_, refl, sym, ap, ap₂, _∙_}
 use mathlib.Core.Bool.{Bool, true, false, _&&_, true≢false}
@@ -22,7 +22,7 @@ use Rattle.block.specs.declared.Reading.{Reading}
 use Rattle.block.specs.declared.Verdict.{Verdict}
 use Rattle.block.specs.declared.Verdict.the-variants as Verdict
 use Rattle.block.specs.Entry.{sameTime, timeOf}
-use Rattle.block.specs.Block.{poolOf, uuidOf, fieldsOf, readTests, reading, acceptedReading}
+use Rattle.block.specs.Block.{poolOf, blockdevOf, fieldsOf, readTests, reading, acceptedReading}
 use Rattle.block.specs.Writing.{holdingOf}
 use Rattle.block.proofs.Readings.{accepted-reading, refused-reading}
 use Rattle.block.proofs.Times.{same-facts}
@@ -54,7 +54,7 @@ pub record Stepped (c : Side → List ℕ) : Type 0 where
   pub accepted : (w : Side) → first (readTests (blockIn (c w))) ≡ 0
   pub newest-whole : (w : Side) → whole (c w) (fieldsOf (blockIn (c w))) (newest (fieldsOf (blockIn (c w)))) ≡ true
   pub pool : (w : Side) → poolOf (blockIn (c w)) ≡ poolOf (blockIn (c Front))
-  pub uuid : (w : Side) → uuidOf (blockIn (c w)) ≡ uuidOf (blockIn (c Front))
+  pub blockdev : (w : Side) → blockdevOf (blockIn (c w)) ≡ blockdevOf (blockIn (c Front))
   pub times : (w : Side) → timeOf (heldIn (c w)) ≡ timeOf (heldIn (c Front))
   pub records : (w : Side) → recordIn (c w) ≡ recordIn (c Front)
 
@@ -113,7 +113,7 @@ module _ (c : Side → List ℕ) where
       let rf : acceptedReading (blockIn f) ≡ readingIn f = accepted-reading (blockIn f) (fx .0) in
       let rb : acceptedReading (blockIn b) ≡ readingIn b = accepted-reading (blockIn b) (fy .0) in
       let sp : Bool = same (poolOf (blockIn f)) (poolOf (blockIn b)) in
-      let su : Bool = same (uuidOf (blockIn f)) (uuidOf (blockIn b)) in
+      let su : Bool = same (blockdevOf (blockIn f)) (blockdevOf (blockIn b)) in
       let uu : (sp && su) ≡ true = ap₂ sameUuids rf rb ∙ (sym k ∙ and-right (sameDevice x y) u i) in
       record {
         sizes = z;
@@ -122,7 +122,7 @@ module _ (c : Side → List ℕ) where
         newest-whole =
             each (λ (w : Side). whole (c w) (fieldsOf (blockIn (c w))) (newest (fieldsOf (blockIn (c w)))) ≡ true) (and-left wf (wb && (st && sb)) s) (and-left wb (st && sb) s2);
         pool = each (λ (w : Side). poolOf (blockIn (c w)) ≡ poolOf (blockIn f)) refl (sym (same-equal (poolOf (blockIn f)) (poolOf (blockIn b)) (and-left sp su uu)));
-        uuid = each (λ (w : Side). uuidOf (blockIn (c w)) ≡ uuidOf (blockIn f)) refl (sym (same-equal (uuidOf (blockIn f)) (uuidOf (blockIn b)) (and-right sp su uu)));
+        blockdev = each (λ (w : Side). blockdevOf (blockIn (c w)) ≡ blockdevOf (blockIn f)) refl (sym (same-equal (blockdevOf (blockIn f)) (blockdevOf (blockIn b)) (and-right sp su uu)));
         times = each (λ (w : Side). timeOf (heldIn (c w)) ≡ timeOf (heldIn f)) refl (sym (same-time-is (timeOf (heldIn f)) (timeOf (heldIn b)) (and-left st sb s3)));
         records = each (λ (w : Side). recordIn (c w) ≡ recordIn f) refl (sym (same-equal (recordIn f) (recordIn b) (and-right st sb s3)));
       }

@@ -1,4 +1,4 @@
--- A record laid into a lent copy. Assumes nothing.
+-- A record laid into a lent copy.
 use Prim.Native.Nat.{ℕ, _+_, _-_, _*_, _/_, _≤_}
 use mathlib.Core.Path.{_≡_, sym, ap, ap₂, _∙_}
 use mathlib.Core.Bool.{Bool, true, false, cond, not}

@@ -1,4 +1,4 @@
--- A block that is written again with other entries is accepted; and so is the new block of a copy. Assumes nothing.
+-- A block that is written again with other entries is accepted; and so is the new block of a copy.
 use Prim.Native.Nat.{ℕ, _+_, _^_, _<_}
 use mathlib.Core.Path.{_≡_, refl, sym, ap, subst, _∙_}
 use mathlib.Core.Bool.{Bool, true, false, cond, not, _&&_}
@@ -25,7 +25,7 @@ use Rattle.block.specs.declared.Entry.the-variants.{Unused, Used}
 use Rattle.block.specs.declared.BlockFields.{BlockFields}
 use Rattle.block.specs.declared.Verdict.the-variants as Verdict
 use Rattle.block.specs.Entry.{laterThan, timeOf, entryOf, entryAllowed, differentTimes, entriesAllowed}
-use Rattle.block.specs.Block.{number, deviceOf, poolOf, uuidOf, entryAt, fieldsOf, limitTests, readTests, reading}
+use Rattle.block.specs.Block.{number, deviceOf, poolOf, blockdevOf, entryAt, fieldsOf, limitTests, readTests, reading}
 use Rattle.block.specs.Writing.{blockOf, writeTests, written}
 use Rattle.block.specs.Demand.{EntryFits}
 use Rattle.block.proofs.Readings.{ascending, accepted-length}
@@ -76,34 +76,34 @@ module _ (b : List ℕ) (ok : first (readTests b) ≡ 0) (g : BlockFields) (same
   size : sizeAllowed (g .device .sectors) ≡ true
   size = ap (λ (v : Device). sizeAllowed (v .sectors)) same ∙ tests .1 .1 .1 .0
 
-  limits : AllHold (limitTests (poolOf b) (uuidOf b) g)
+  limits : AllHold (limitTests (poolOf b) (blockdevOf b) g)
   limits = (
     tests .1 .1 .1 .1 .1 .0,
     (ap (λ (v : Device). metadataAllowed (v .metadata)) same ∙ tests .1 .1 .1 .1 .1 .1 .0, (ap (λ (v : Device). reservedAllowed (v .reserved)) same ∙ tests .1 .1 .1 .1 .1 .1 .1 .0, (w, tt))),
   )
 
   -- it is read back
-  pub again-reads : reading (blockOf (poolOf b) (uuidOf b) g) ≡ record { verdict = Verdict.Accepted g; pool = poolOf b; device = uuidOf b }
+  pub again-reads : reading (blockOf (poolOf b) (blockdevOf b) g) ≡ record { verdict = Verdict.Accepted g; pool = poolOf b; blockdev = blockdevOf b }
   again-reads =
       let n : length b ≡ 512 = accepted-length b ok in
-      read-back (poolOf b) (uuidOf b) g (length-window-fits b 32 32 (omega arith)) (length-window-fits b 64 32 (omega arith))
+      read-back (poolOf b) (blockdevOf b) g (length-window-fits b 32 32 (omega arith)) (length-window-fits b 64 32 (omega arith))
       (subst (λ (v : Device). v .sectors < 2 ^ 64) (sym same) (number-fits b 20 8)) fa fb limits size
 
   -- the writer takes it, and leaves it in 512 lent bytes
   module _ (out : List ℕ) (room : length out ≡ 512) where
-    pub again-writes : first (writeTests out (poolOf b) (uuidOf b) g) ≡ 0
+    pub again-writes : first (writeTests out (poolOf b) (blockdevOf b) g) ≡ 0
     again-writes =
         let n : length b ≡ 512 = accepted-length b ok in
         let p : length (poolOf b) ≡ 32 = length-window-fits b 32 32 (omega arith) in
-        let u : length (uuidOf b) ≡ 32 = length-window-fits b 64 32 (omega arith) in
-        first-all (writeTests out (poolOf b) (uuidOf b) g) (
+        let u : length (blockdevOf b) ≡ 32 = length-window-fits b 64 32 (omega arith) in
+        first-all (writeTests out (poolOf b) (blockdevOf b) g) (
           and-both (eqb (length out) 512) _ (eq-eqb (length out) 512 room)
-              (and-both (eqb (length (poolOf b)) 32) (eqb (length (uuidOf b)) 32) (eq-eqb (length (poolOf b)) 32 p) (eq-eqb (length (uuidOf b)) 32 u)),
+              (and-both (eqb (length (poolOf b)) 32) (eqb (length (blockdevOf b)) 32) (eq-eqb (length (poolOf b)) 32 p) (eq-eqb (length (blockdevOf b)) 32 u)),
           (size, limits),
         )
 
-    pub again-written : written out (poolOf b) (uuidOf b) g ≡ blockOf (poolOf b) (uuidOf b) g
-    again-written = sym (written-accepted out (poolOf b) (uuidOf b) g again-writes)
+    pub again-written : written out (poolOf b) (blockdevOf b) g ≡ blockOf (poolOf b) (blockdevOf b) g
+    again-written = sym (written-accepted out (poolOf b) (blockdevOf b) g again-writes)
 
 -- a changed entry leaves the device numbers
 pub device-kept : (f : BlockFields) (y : Area) (e : Entry) → withEntry f y e .device ≡ f .device
@@ -144,7 +144,7 @@ module _ (c : List ℕ) (ok : first (readTests (blockIn c)) ≡ 0) (h : Holding)
       ≡ record {
         verdict = Verdict.Accepted (withEntry (fieldsOf (blockIn c)) (spare c) (Used (holdingFor t r)));
         pool = poolOf (blockIn c);
-        device = uuidOf (blockIn c);
+        blockdev = blockdevOf (blockIn c);
       }
   unfolding newBlock
   new-reads =
@@ -152,12 +152,12 @@ module _ (c : List ℕ) (ok : first (readTests (blockIn c)) ≡ 0) (h : Holding)
       (device-kept (fieldsOf (blockIn c)) (spare c) (Used (holdingFor t r))) allowed (both-fit .0) (both-fit .1)
 
   module _ (out : List ℕ) (room : length out ≡ 512) where
-    pub new-writes : first (writeTests out (poolOf (blockIn c)) (uuidOf (blockIn c)) (withEntry (fieldsOf (blockIn c)) (spare c) (Used (holdingFor t r)))) ≡ 0
+    pub new-writes : first (writeTests out (poolOf (blockIn c)) (blockdevOf (blockIn c)) (withEntry (fieldsOf (blockIn c)) (spare c) (Used (holdingFor t r)))) ≡ 0
     new-writes =
         again-writes (blockIn c) ok (withEntry (fieldsOf (blockIn c)) (spare c) (Used (holdingFor t r)))
         (device-kept (fieldsOf (blockIn c)) (spare c) (Used (holdingFor t r))) allowed (both-fit .0) (both-fit .1) out room
 
-    pub new-written : written out (poolOf (blockIn c)) (uuidOf (blockIn c)) (withEntry (fieldsOf (blockIn c)) (spare c) (Used (holdingFor t r))) ≡ newBlock c t r
+    pub new-written : written out (poolOf (blockIn c)) (blockdevOf (blockIn c)) (withEntry (fieldsOf (blockIn c)) (spare c) (Used (holdingFor t r))) ≡ newBlock c t r
     unfolding newBlock
     new-written =
         again-written (blockIn c) ok (withEntry (fieldsOf (blockIn c)) (spare c) (Used (holdingFor t r)))

@@ -1,5 +1,5 @@
 -- One copy of a device after a cut: it holds the old record where its block is old, the new one where its block is new and
--- the area has landed. Assumes nothing.
+-- the area has landed.
 use Prim.Native.Nat.{ℕ, suc, _+_, _-_, _*_, _^_, _≤_, _<_}
 use mathlib.Core.Path.{_≡_, refl, sym, ap, _∙_}
 use mathlib.Core.Bool.{true}
@@ -27,11 +27,11 @@ use Rattle.block.specs.declared.Entry.the-variants.{Used}
 use Rattle.block.specs.declared.BlockFields.{BlockFields}
 use Rattle.block.specs.declared.Verdict.the-variants as Verdict
 use Rattle.block.specs.Entry.{laterThan, timeOf, entryAllowed}
-use Rattle.block.specs.Block.{poolOf, uuidOf, fieldsOf, readTests, reading}
+use Rattle.block.specs.Block.{poolOf, blockdevOf, fieldsOf, readTests, reading}
 use Rattle.block.proofs.Readings.{accepted-reading}
 use Rattle.discovery.specs.Copy.{blockIn, entryIn, wholeEntry, whole, newest}
-use Rattle.device.specs.Device.{Sectors, Sound, gather, areaSectors, copyFrom}
-use Rattle.device.proofs.Copies.{length-copy, copy-block, copy-area, gather-same}
+use Rattle.crash.specs.Crash.{Sectors, Sound, gather, areaSectors, copyFrom}
+use Rattle.crash.proofs.Copies.{length-copy, copy-block, copy-area, gather-same}
 use Rattle.update.specs.Update.{sectorsOf, sectorOf, holdingFor, withEntry, spare, newBlock}
 use Rattle.update.specs.Demand.{heldIn, recordIn}
 use Rattle.update.proofs.NewBlock.{entry-allowed, new-reads}
@@ -58,7 +58,7 @@ used-bytes e h d w =
 
 -- a copy read from sectors where a block names a record, and its area begins with the record
 pub holds-at : (s : Side) (v : Device) (e : Sectors) → Sound e → Sizes v → {g : BlockFields} {p u : List ℕ} {x : Area} {h : Holding} {r : List ℕ}
-    → reading (e (blockSector s v)) ≡ record { verdict = Verdict.Accepted g; pool = p; device = u } → newest g ≡ x → entryIn g x ≡ Used h
+    → reading (e (blockSector s v)) ≡ record { verdict = Verdict.Accepted g; pool = p; blockdev = u } → newest g ≡ x → entryIn g x ≡ Used h
     → h .checksum ≡ Crc.checksum r → h .bytes ≡ length r → h .bytes ≤ recordLimit → take (h .bytes) (gather e (areaSector s x v) areaSectors) ≡ r
     → Holds (copyFrom s v e) g p u x h r
 holds-at s v e se z {g} {p} {u} {x} {h} {r} rd ar en su lo sm by =
@@ -107,7 +107,7 @@ module _ (s : Side) (v : Device) (d : Sectors) (sd : Sound d) (z : Sizes v) (ok 
     -- the block is old, and so are the sectors of the present area
     old-held : e (blockSector s v) ≡ d (blockSector s v)
         → ((i : ℕ) → i < areaSectors → e (areaSector s (newest (fieldsOf (blockIn (copyFrom s v d)))) v + i) ≡ d (areaSector s (newest (fieldsOf (blockIn (copyFrom s v d)))) v + i))
-        → Holds (copyFrom s v e) (fieldsOf (blockIn (copyFrom s v d))) (poolOf (blockIn (copyFrom s v d))) (uuidOf (blockIn (copyFrom s v d)))
+        → Holds (copyFrom s v e) (fieldsOf (blockIn (copyFrom s v d))) (poolOf (blockIn (copyFrom s v d))) (blockdevOf (blockIn (copyFrom s v d)))
         (newest (fieldsOf (blockIn (copyFrom s v d)))) (heldIn (copyFrom s v d)) (recordIn (copyFrom s v d))
     old-held b a =
         let x : Area = newest (fieldsOf (blockIn (copyFrom s v d))) in
@@ -122,7 +122,7 @@ module _ (s : Side) (v : Device) (d : Sectors) (sd : Sound d) (z : Sizes v) (ok 
         → e (blockSector s v) ≡ newBlock (copyFrom s v d) t r
         → ((i : ℕ) → i < sectorsOf (length r) → e (areaSector s (spare (copyFrom s v d)) v + i) ≡ sectorOf r i)
         → Holds (copyFrom s v e) (withEntry (fieldsOf (blockIn (copyFrom s v d))) (spare (copyFrom s v d)) (Used (holdingFor t r)))
-        (poolOf (blockIn (copyFrom s v d))) (uuidOf (blockIn (copyFrom s v d))) (spare (copyFrom s v d)) (holdingFor t r) r
+        (poolOf (blockIn (copyFrom s v d))) (blockdevOf (blockIn (copyFrom s v d))) (spare (copyFrom s v d)) (holdingFor t r) r
     new-held t r fits ns len later b a =
         let y : Area = spare (copyFrom s v d) in
         let l : length r ≤ recordLimit = length-facts (length r) len .1 in
@@ -136,6 +136,6 @@ module _ (s : Side) (v : Device) (d : Sectors) (sd : Sound d) (z : Sizes v) (ok 
 pub stepped-held : (v : Device) (d : Sectors) → Sound d → Sizes v → Stepped (λ (w : Side). copyFrom w v d)
     → (w : Side) (e : Sectors) → Sound e → e (blockSector w v) ≡ d (blockSector w v)
     → ((i : ℕ) → i < areaSectors → e (areaSector w (newest (fieldsOf (blockIn (copyFrom w v d)))) v + i) ≡ d (areaSector w (newest (fieldsOf (blockIn (copyFrom w v d)))) v + i))
-    → Holds (copyFrom w v e) (fieldsOf (blockIn (copyFrom w v d))) (poolOf (blockIn (copyFrom Front v d))) (uuidOf (blockIn (copyFrom Front v d)))
+    → Holds (copyFrom w v e) (fieldsOf (blockIn (copyFrom w v d))) (poolOf (blockIn (copyFrom Front v d))) (blockdevOf (blockIn (copyFrom Front v d)))
     (newest (fieldsOf (blockIn (copyFrom w v d)))) (heldIn (copyFrom w v d)) (recordIn (copyFrom Front v d))
-stepped-held v d sd z k w e se b a = renamed (k .pool w) (k .uuid w) (k .records w) (old-held w v d sd z (k .accepted w) (k .newest-whole w) e se b a)
+stepped-held v d sd z k w e se b a = renamed (k .pool w) (k .blockdev w) (k .records w) (old-held w v d sd z (k .accepted w) (k .newest-whole w) e se b a)

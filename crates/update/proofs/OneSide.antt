@@ -1,13 +1,13 @@
 -- What stores and cuts leave of one side's sectors: its present area, the area that the record goes to, its block.
--- The other side's stores do not come near. Assumes nothing.
+-- The other side's stores do not come near.
 use Prim.Native.Nat.{ℕ, _+_, _≤_, _<_}
 use mathlib.Core.Path.{_≡_, sym, ap, _∙_}
 use mathlib.Core.Logic.{_⊎_, inl, inr}
 use mathlib.Core.List.{List}
 use native.Mathlib.Decide.{ℕ-discrete}
 use native.Mathlib.Omega.{arith}
-use Rattle.device.specs.Device.{Sectors, Store, landed, Stored, Cut}
-use Rattle.device.proofs.Landing.{landed-old, landed-new}
+use Rattle.crash.specs.Crash.{Sectors, Store, landed, Stored, Cut}
+use Rattle.crash.proofs.Landing.{landed-old, landed-new}
 use Rattle.update.specs.Update.{sectorOf}
 
 -- The stores of a side: k into an area from sector a on, from number o on, then the block's. Of all stores below `all` only

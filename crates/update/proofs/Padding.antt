@@ -1,4 +1,4 @@
--- A record's sectors, one after the other, begin with the record. Assumes nothing.
+-- A record's sectors, one after the other, begin with the record.
 use Prim.Native.Nat.{ℕ, zero, suc, _+_, _-_, _*_, _≤_, _<_}
 use mathlib.Core.Path.{_≡_, refl, sym, ap, ap₂, _∙_}
 use mathlib.Core.List.{List, _++_, append-assoc}
@@ -11,8 +11,8 @@ use Rattle.endian.specs.Bytes.{window, zeros, splice}
 use Rattle.endian.proofs.Parts.{window-rest, length-window, splice-fits}
 use Rattle.endian.proofs.Tests.{length-zeros, zeros-add}
 use Rattle.layout.specs.Limits.{recordLimit}
-use Rattle.device.specs.Device.{Sectors, gather, areaSectors}
-use Rattle.device.proofs.Copies.{limit-sectors, limit-small}
+use Rattle.crash.specs.Crash.{Sectors, gather, areaSectors}
+use Rattle.crash.proofs.Copies.{limit-sectors, limit-small}
 use Rattle.update.specs.Update.{sectorsOf, sectorOf}
 use Rattle.update.specs.Plan.{sectorIn}
 

@@ -1,5 +1,4 @@
--- Where the sectors of allowed device numbers lie: each side's areas and block are apart, and so are the sides. Assumes
--- nothing.
+-- Where the sectors of allowed device numbers lie: each side's areas and block are apart, and so are the sides.
 use Prim.Native.Nat.{ℕ, _+_, _%_, _≤_, _<_}
 use mathlib.Core.Path.{_≡_, refl}
 use mathlib.Core.Bool.{true}

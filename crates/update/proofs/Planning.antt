@@ -1,4 +1,4 @@
--- A plan, from what the code has worked out. Assumes nothing.
+-- A plan, from what the code has worked out.
 use Prim.Native.Nat.{ℕ, _≤_, _<_, _*_}
 use mathlib.Core.Path.{_≡_, sym, ap, ap₂, _∙_}
 use mathlib.Core.Bool.{Bool, true, false, cond}

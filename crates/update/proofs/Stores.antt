@@ -1,7 +1,7 @@
--- The stores of an update, by side: which number goes to which sector. Assumes nothing.
+-- The stores of an update, by side: which number goes to which sector.
 use Prim.Native.Nat.{ℕ, zero, suc, _+_, _-_, _*_, _≤_, _<_}
 use mathlib.Core.Path.{_≡_, refl, sym, ap, ap₂, subst, _∙_}
-use mathlib.Core.List.{List, [], _∷_, _++_, append-assoc, map}
+use mathlib.Core.List.{List, [], _∷_, _++_, append-assoc, map, flatten}
 use native.Mathlib.Decide.{decLe, ℕ-discrete}
 use native.Mathlib.Nat.{zero-add, add-zero, le-refl}
 use native.Mathlib.Omega.{arith}
@@ -11,8 +11,8 @@ use Rattle.layout.specs.declared.Side.{Side}
 use Rattle.layout.specs.declared.Side.the-variants.{Front, Back}
 use Rattle.layout.specs.Places.{blockSector, areaSector}
 use Rattle.block.specs.declared.Time.{Time}
-use Rattle.device.specs.Device.{Store, Groups, stores, storeIn, groupStart}
-use Rattle.device.proofs.Groups.{total, starts, at-left, at-right, length-from, at-from}
+use Rattle.crash.specs.Crash.{Store, Groups, stores, storeIn, groupStart}
+use Rattle.crash.proofs.Groups.{total, starts, at-left, at-right, length-from, at-from}
 use Rattle.update.specs.Update.{deviceIn, sectorsOf, sectorOf, spare, newBlock, recordStores, blockStore, sideGroups, updateGroups}
 use Rattle.update.specs.declared.Plan.{Plan}
 use Rattle.update.specs.Plan.{groupOf}
@@ -96,7 +96,7 @@ module _ (c : Side → List ℕ) (t : Time) (r : List ℕ) (v : Device) (at : de
 
   -- the front's stores, then the back's
   sides : stores groups ≡ part Front ++ part Back
-  unfolding updateGroups stores
+  unfolding updateGroups flatten
   sides =
       ap (λ (u : Device). stores (sideGroups Front u (c Front) t r ++ sideGroups Back u (c Back) t r)) at
       ∙ sym (append-assoc (areaPart Front) (blockPart Front) (part Back))

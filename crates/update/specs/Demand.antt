@@ -1,5 +1,5 @@
 -- Demand 3: what a cut in an update leaves. `proofs/Demand.antt` proves `Cutting`, `Landing` and `Giving`, and
--- `proofs/Changing.antt` `Changing`. Assumes nothing.
+-- `proofs/Changing.antt` `Changing`.
 use Prim.Native.Nat.{ℕ, suc, _+_, _*_, _^_, _≤_, _<_}
 use mathlib.Core.Path.{_≡_}
 use mathlib.Core.Bool.{true}
@@ -18,12 +18,12 @@ use Rattle.block.specs.declared.Holding.{Holding}
 use Rattle.block.specs.Entry.{timeOf}
 use Rattle.block.specs.Block.{fieldsOf, readTests}
 use Rattle.block.specs.Writing.{holdingOf}
-use Rattle.discovery.specs.declared.Record.{Record}
+use Rattle.discovery.specs.declared.Finding.{Finding}
 use Rattle.discovery.specs.declared.Other.{Other}
 use Rattle.discovery.specs.declared.Answer.the-variants.{Found}
 use Rattle.discovery.specs.Copy.{blockIn, areaBytes, entryIn, newest}
 use Rattle.discovery.specs.Discovery.{discovery, inStep, copyOn, recordBytes, readAnswer, readBytes}
-use Rattle.device.specs.Device.{Sectors, Sound, Groups, stores, storeIn, groupStart, CutIn, allLanded, copyFrom}
+use Rattle.crash.specs.Crash.{Sectors, Sound, Groups, stores, storeIn, groupStart, CutIn, allLanded, copyFrom}
 use Rattle.update.specs.declared.Plan.{Plan}
 use Rattle.update.specs.declared.Planned.the-variants.{Ready}
 use Rattle.update.specs.declared.Given.the-variants.{At, Refused}
@@ -33,7 +33,7 @@ use Rattle.update.specs.Update.{deviceIn, updateNumber, sectorsOf, spare
 -- Document 01's 'discovery gives a record': it answers that length and time, the area it names starts with those bytes, and
 -- reading what it found into a buffer with room copies them to the buffer's start.
 pub record Gives (f b : List ℕ) (t : Time) (r : List ℕ) : Type 0 where
-  pub found : Record
+  pub found : Finding
   pub other : Other
   pub answers : discovery f b ≡ Found found other
   pub long : found .bytes ≡ length r

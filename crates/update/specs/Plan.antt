@@ -1,5 +1,5 @@
 -- What the calls of an update answer: a plan worked out once, and its stores by their number. A plan may be anything a
--- caller makes up; `Demand.Giving` says that the stores of an update's plan are those of `Update.updateGroups`. Assumes nothing.
+-- caller makes up; `Demand.Giving` says that the stores of an update's plan are those of `Update.updateGroups`.
 use Prim.Native.Nat.{ℕ, _+_, _-_, _*_}
 use mathlib.Core.Bool.{Bool, cond, _&&_}
 use mathlib.Core.List.{List, [], _∷_, _++_}
@@ -7,7 +7,7 @@ use lib.Dec.{leb, ltb, eqb}
 use lib.ListN.{length}
 use Rattle.endian.specs.Bytes.{window, zeros, splice}
 use Rattle.refusal.specs.Numbers.{sliceSize, recordLength, noStore}
-use Rattle.refusal.specs.Tests.{Test, _or_, first}
+use Rattle.refusal.specs.Tests.{Test, _elseRefuse_, first}
 use Rattle.layout.specs.declared.Device.{Device}
 use Rattle.layout.specs.declared.Side.{Side}
 use Rattle.layout.specs.declared.Side.the-variants.{Front, Back}
@@ -18,7 +18,7 @@ use Rattle.block.specs.declared.Time.{Time}
 use Rattle.block.specs.declared.Holding.{Holding}
 use Rattle.block.specs.declared.Entry.the-variants.{Used}
 use Rattle.block.specs.declared.BlockFields.{BlockFields}
-use Rattle.block.specs.Block.{poolOf, uuidOf, fieldsOf}
+use Rattle.block.specs.Block.{poolOf, blockdevOf, fieldsOf}
 use Rattle.block.specs.Writing.{writeTests, written}
 use Rattle.discovery.specs.Copy.{blockIn}
 use Rattle.discovery.specs.Discovery.{sized}
@@ -71,10 +71,10 @@ unlessRefused n s = cond (eqb n 0) (Given.At s) (Given.Refused n)
 
 -- a block with these numbers and the UUIDs of a copy's block, to sector s: the sector and the bytes
 abbrev pub blockAnswer : ℕ → BlockFields → List ℕ → List ℕ → Given
-blockAnswer s g c out = unlessRefused (first (writeTests out (poolOf (blockIn c)) (uuidOf (blockIn c)) g)) s
+blockAnswer s g c out = unlessRefused (first (writeTests out (poolOf (blockIn c)) (blockdevOf (blockIn c)) g)) s
 
 abbrev pub blockBytes : BlockFields → List ℕ → List ℕ → List ℕ
-blockBytes g c out = written out (poolOf (blockIn c)) (uuidOf (blockIn c)) g
+blockBytes g c out = written out (poolOf (blockIn c)) (blockdevOf (blockIn c)) g
 
 -- store j of one side's k + 1: the sector and the bytes
 abbrev pub partAnswer : Part → ℕ → List ℕ → ℕ → List ℕ → Given
@@ -94,7 +94,7 @@ lentRight f b out = sized f b && eqb (length out) 512
 -- the tests of a store: the sizes, the record's length, its number
 abbrev pub storeTests : Plan → List ℕ → List ℕ → List ℕ → ℕ → List ℕ → List Test
 storeTests p f b r i out =
-    (lentRight f b out or sliceSize) ∷ (lengthAllowed (length r) or recordLength) ∷ (ltb i (storesIn p) or noStore) ∷ []
+    (lentRight f b out elseRefuse sliceSize) ∷ (lengthAllowed (length r) elseRefuse recordLength) ∷ (ltb i (storesIn p) elseRefuse noStore) ∷ []
 
 -- store i of both sides, the front's and then the back's: the sector and the bytes
 abbrev pub sidesAnswer : Plan → List ℕ → List ℕ → ℕ → List ℕ → Given
@@ -115,7 +115,7 @@ storeBytes p f b r i out = cond (eqb (first (storeTests p f b r i out)) 0) (side
 
 -- a record laid into a copy's area: its bytes at the area's offset, its last sector filled with zeros
 abbrev pub layTests : List ℕ → List ℕ → List Test
-layTests c r = (eqb (length c) copyBytes or sliceSize) ∷ (lengthAllowed (length r) or recordLength) ∷ []
+layTests c r = (eqb (length c) copyBytes elseRefuse sliceSize) ∷ (lengthAllowed (length r) elseRefuse recordLength) ∷ []
 
 unfoldable pub laid : List ℕ → Area → List ℕ → List ℕ
 laid c x r =

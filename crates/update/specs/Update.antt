@@ -1,4 +1,4 @@
--- An update: its refusals, its stores and their groups. Document 01, 'Updates, formatting and mending'. Assumes nothing.
+-- An update: its refusals, its stores and their groups. Document 01, 'Updates, formatting and mending'.
 use Prim.Native.Nat.{ℕ, _+_, _-_, _*_, _/_}
 use mathlib.Core.Bool.{Bool}
 use mathlib.Core.List.{List, [], _∷_, _++_}
@@ -7,7 +7,7 @@ use lib.ListN.{length}
 use Rattle.endian.specs.Bytes.{window, zeros}
 use Rattle.checksum.specs.Crc as Crc
 use Rattle.refusal.specs.Numbers.{notInStep, areaEntry, notLater}
-use Rattle.refusal.specs.Tests.{Test, _or_, first}
+use Rattle.refusal.specs.Tests.{Test, _elseRefuse_, first}
 use Rattle.layout.specs.declared.Device.{Device}
 use Rattle.layout.specs.declared.Side.{Side}
 use Rattle.layout.specs.declared.Side.the-variants.{Front, Back}
@@ -20,7 +20,7 @@ use Rattle.block.specs.declared.Entry.{Entry}
 use Rattle.block.specs.declared.Entry.the-variants.{Used}
 use Rattle.block.specs.declared.BlockFields.{BlockFields}
 use Rattle.block.specs.Entry.{laterThan}
-use Rattle.block.specs.Block.{deviceOf, poolOf, uuidOf, fieldsOf}
+use Rattle.block.specs.Block.{deviceOf, poolOf, blockdevOf, fieldsOf}
 use Rattle.block.specs.Writing.{blockOf}
 use Rattle.record.specs.Accept.{contentTests}
 use Rattle.discovery.specs.declared.Answer.{Answer}
@@ -28,7 +28,7 @@ use Rattle.discovery.specs.declared.Answer.the-variants as Answer
 use Rattle.discovery.specs.Copy.{blockIn, otherArea, newest}
 use Rattle.discovery.specs.Discovery.{discovery, inStep}
 use Rattle.discovery.specs.Newest.{timeAt}
-use Rattle.device.specs.Device.{Store, Groups, storesFrom}
+use Rattle.crash.specs.Crash.{Store, Groups, storesFrom}
 
 -- the device that the copies are of
 abbrev pub deviceIn : List ℕ → Device
@@ -38,7 +38,7 @@ deviceIn f = deviceOf (blockIn f)
 -- nanoseconds of its time, then 14, then those of the record
 abbrev pub testsAfter : Bool → List ℕ → Time → Time → List ℕ → List Test
 testsAfter step f old t r =
-    (step or notInStep) ∷ (leb (t .nanoseconds) 999999999 or areaEntry) ∷ (laterThan t old or notLater) ∷ contentTests (deviceIn f) r
+    (step elseRefuse notInStep) ∷ (leb (t .nanoseconds) 999999999 elseRefuse areaEntry) ∷ (laterThan t old elseRefuse notLater) ∷ contentTests (deviceIn f) r
 
 abbrev pub updateTests : List ℕ → List ℕ → Time → Time → List ℕ → List Test
 updateTests f b old t r = testsAfter (inStep f b) f old t r
@@ -75,7 +75,7 @@ spare c = otherArea (newest (fieldsOf (blockIn c)))
 
 -- the block changes only that area's entry and the CRC
 unfoldable pub newBlock : List ℕ → Time → List ℕ → List ℕ
-newBlock c t r = blockOf (poolOf (blockIn c)) (uuidOf (blockIn c)) (withEntry (fieldsOf (blockIn c)) (spare c) (Used (holdingFor t r)))
+newBlock c t r = blockOf (poolOf (blockIn c)) (blockdevOf (blockIn c)) (withEntry (fieldsOf (blockIn c)) (spare c) (Used (holdingFor t r)))
 
 -- the stores of a record from sector a on
 unfoldable pub recordStores : ℕ → List ℕ → List Store

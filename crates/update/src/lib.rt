@@ -1,4 +1,4 @@
-// An update: its refusal number, and what it stores. The copies are lent as discovery takes them. Assumes nothing.
+// An update: its refusal number, and what it stores. The copies are lent as discovery takes them.
 ghost use mathlib.Core.Path.{_≡_};
 ghost use lib.ListN.{length};
 ghost use Rattle.endian.specs.Bytes.{zeros, splice};

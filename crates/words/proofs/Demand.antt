@@ -1,4 +1,4 @@
--- What holds of the words, proved. Assumes nothing.
+-- What holds of the words, proved.
 use Prim.Native.Nat.{ℕ, zero, suc, _+_, _-_, _*_, _^_, _≤_, _<_}
 use mathlib.Core.Path.{_≡_, refl, sym, ap, ap₂, subst, _∙_}
 use mathlib.Core.Bool.{Bool, true, false, cond, _&&_, _||_, true≢false}
@@ -11,7 +11,7 @@ use borrow.Author.Tests.{lt-ltb, le-ltb, ltb-true, leb-true, le-leb, lt-leb, eqb
 use lib.Dec.{ltb, leb, eqb, lit<}
 use lib.ListN.{length, getD, take, drop, length-append, length-map, take-append-drop, List·getD-map}
 use lib.Seq.{take-at, take-all, take-suc, getD-at, drop-cons, drop-drop, drop-append-add, getD-append-add}
-use Rattle.endian.specs.Bytes.{window, same, all, zeros}
+use Rattle.endian.specs.Bytes.{window, same, allPass, zeros}
 use Rattle.endian.proofs.Tests.{and-left, and-right, all-at, same-equal}
 use Rattle.endian.proofs.Parts.{length-window-fits, window-rest}
 use Rattle.text.specs.Decimal.{decimal, valueAfter, value, isDigit}
@@ -42,25 +42,25 @@ pub digits-alone : DigitsAlone
 unfolding numberOf numberAfter
 digits-alone s n e =
     let o : (ltb 0 (length s) ≡ true) × (numberAfter 0 s ≡ Is n) = said (ltb 0 (length s)) (numberAfter 0 s) n e in
-    let i : (all isDigit s && ltb (value s) (2 ^ 64) ≡ true) × (Is (value s) ≡ Is n) = said (all isDigit s && ltb (value s) (2 ^ 64)) (Is (value s)) n (o .1) in
+    let i : (allPass isDigit s && ltb (value s) (2 ^ 64) ≡ true) × (Is (value s) ≡ Is n) = said (allPass isDigit s && ltb (value s) (2 ^ 64)) (Is (value s)) n (o .1) in
     let v : value s ≡ n = same-is (value s) n (i .1) in
-    let l : value s < 2 ^ 64 = ltb-true (value s) (2 ^ 64) (and-right (all isDigit s) (ltb (value s) (2 ^ 64)) (i .0)) in (
+    let l : value s < 2 ^ 64 = ltb-true (value s) (2 ^ 64) (and-right (allPass isDigit s) (ltb (value s) (2 ^ 64)) (i .0)) in (
       ltb-true 0 (length s) (o .0),
-      and-left (all isDigit s) (ltb (value s) (2 ^ 64)) (i .0),
+      and-left (allPass isDigit s) (ltb (value s) (2 ^ 64)) (i .0),
       v,
       omega arith,
     )
 
-digits-below : (s : List ℕ) → 0 < length s → all isDigit s ≡ true → value s < 2 ^ 64 → numberOf s ≡ Is (value s)
+digits-below : (s : List ℕ) → 0 < length s → allPass isDigit s ≡ true → value s < 2 ^ 64 → numberOf s ≡ Is (value s)
 unfolding numberOf numberAfter
 digits-below s l a h = rw (lt-ltb 0 (length s) l, a, lt-ltb (value s) (2 ^ 64) h)
 
-digits-above : (s : List ℕ) → 0 < length s → all isDigit s ≡ true → 2 ^ 64 ≤ value s → numberOf s ≡ Nothing
+digits-above : (s : List ℕ) → 0 < length s → allPass isDigit s ≡ true → 2 ^ 64 ≤ value s → numberOf s ≡ Nothing
 unfolding numberOf numberAfter
 digits-above s l a h = rw (lt-ltb 0 (length s) l, a, le-ltb (value s) (2 ^ 64) h)
 
 zero-before : (s : List ℕ) → 0 < length s → numberOf (48 ∷ s) ≡ numberOf s
-unfolding numberOf numberAfter valueAfter all
+unfolding numberOf numberAfter valueAfter allPass
 zero-before s l = rw (lt-ltb 0 (length s) l, lt-ltb 0 (length (48 ∷ s)) (let m : 0 < length (48 ∷ s) = omega arith in m))
 
 pub numbers : Numbers
@@ -74,7 +74,7 @@ no-unit x h =
     rw (ne-eqb x 75 (λ e. omega arith), ne-eqb x 77 (λ e. omega arith), ne-eqb x 71 (λ e. omega arith), ne-eqb x 84 (λ e. omega arith))
 
 -- digits alone, and a letter behind them
-module _ (d : List ℕ) (some : 0 < length d) (a : all isDigit d ≡ true) where
+module _ (d : List ℕ) (some : 0 < length d) (a : allPass isDigit d ≡ true) where
   alone : value d < 2 ^ 64 → sectorsOf d ≡ Is (value d)
   unfolding sectorsOf
   alone h = rw (no-unit (last d) (all-at isDigit d a (length d - 1) (omega arith))) (digits-below d some a h)
@@ -158,16 +158,16 @@ size s x e =
       | yes u ↦
           let p : (n : ℕ) × (numberOf (take (length s - 1) s) ≡ Is n) × (x ≡ n * unitOf (last s)) × (x < 2 ^ 64) =
           times-said (unitOf (last s)) (numberOf (take (length s - 1) s)) x (in-units s x e u) in
-          let o : (0 < length (take (length s - 1) s)) × (all isDigit (take (length s - 1) s) ≡ true) × (value (take (length s - 1) s) ≡ p .0) × (p .0 < 2 ^ 64) =
+          let o : (0 < length (take (length s - 1) s)) × (allPass isDigit (take (length s - 1) s) ≡ true) × (value (take (length s - 1) s) ≡ p .0) × (p .0 < 2 ^ 64) =
           digits-alone (take (length s - 1) s) (p .0) (p .1) in
           of-letter (take (length s - 1) s) (last s) (o .0) (o .1) (ends s (some-before s (o .0)))
           (p .2 ∙ ap (λ (z : ℕ). z * unitOf (last s)) (sym (o .2))) (p .3) (unit-letters (last s) u)
       | no u ↦
-          let o : (0 < length s) × (all isDigit s ≡ true) × (value s ≡ x) × (x < 2 ^ 64) = digits-alone s x (in-sectors s x e (omega arith)) in
+          let o : (0 < length s) × (allPass isDigit s ≡ true) × (value s ≡ x) × (x < 2 ^ 64) = digits-alone s x (in-sectors s x e (omega arith)) in
           record { d = s; some = o .0; digits = o .1; form = inl (refl, sym (o .2)); below = o .3 }
     ]
   where
-    of-letter : (d : List ℕ) (c : ℕ) → 0 < length d → all isDigit d ≡ true → s ≡ d ++ (c ∷ []) → x ≡ value d * unitOf c → x < 2 ^ 64
+    of-letter : (d : List ℕ) (c : ℕ) → 0 < length d → allPass isDigit d ≡ true → s ≡ d ++ (c ∷ []) → x ≡ value d * unitOf c → x < 2 ^ 64
         → ((c ≡ 75) × (unitOf c ≡ 2)) ⊎ (((c ≡ 77) × (unitOf c ≡ 2 ^ 11)) ⊎ (((c ≡ 71) × (unitOf c ≡ 2 ^ 21)) ⊎ ((c ≡ 84) × (unitOf c ≡ 2 ^ 31))))
         → Size s x
     of-letter d c l a w v b k = record { d = d; some = l; digits = a; form = inr (go k); below = b }
@@ -183,7 +183,7 @@ size s x e =
         go (inr (inr (inr f))) = inr (inr (inr (to 84 (2 ^ 31) (f .0) (f .1))))
 
 -- a letter whose unit is known
-with-letter : (s : List ℕ) (x : ℕ) (d : List ℕ) (c u : ℕ) → 0 < length d → all isDigit d ≡ true → x < 2 ^ 64 → 0 < u → unitOf c ≡ u
+with-letter : (s : List ℕ) (x : ℕ) (d : List ℕ) (c u : ℕ) → 0 < length d → allPass isDigit d ≡ true → x < 2 ^ 64 → 0 < u → unitOf c ≡ u
     → Lettered s x d c u → sectorsOf s ≡ Is x
 with-letter s x d c u l a b h e r =
     ap sectorsOf (r .word)
@@ -271,11 +271,11 @@ small x h =
           rw (lt-leb x 70 (let k : 70 < x = omega arith in k), and-false (leb 65 x))
     ]
 
-all-small : (s : List ℕ) → all isHex s ≡ true → map lower s ≡ s
-unfolding all
+all-small : (s : List ℕ) → allPass isHex s ≡ true → map lower s ≡ s
+unfolding allPass
 all-small [] h = refl
 all-small (x ∷ s) h =
-    ap₂ (λ (y : ℕ) (ys : List ℕ). y ∷ ys) (small x (and-left (isHex x) (all isHex s) h)) (all-small s (and-right (isHex x) (all isHex s) h))
+    ap₂ (λ (y : ℕ) (ys : List ℕ). y ∷ ys) (small x (and-left (isHex x) (allPass isHex s) h)) (all-small s (and-right (isHex x) (allPass isHex s) h))
 
 -- only 36 characters have dashes
 not-dashed : (s : List ℕ) → length s ≡ 32 → false ≡ dashed s
@@ -421,11 +421,11 @@ own-digits s = go (dashed s) refl
 only-said : (s : List ℕ) → uuidOf s .given ≡ true → Says s (uuidOf s .digits)
 unfolding uuidOf hexUuid
 only-said s h =
-    let g : (eqb (length (undashed s)) 32 ≡ true) × (all isHex (map lower (undashed s)) ≡ true) × (uuidOf s .digits ≡ map lower (undashed s)) =
-    given-both (eqb (length (undashed s)) 32) (all isHex (map lower (undashed s))) (map lower (undashed s)) h in
+    let g : (eqb (length (undashed s)) 32 ≡ true) × (allPass isHex (map lower (undashed s)) ≡ true) × (uuidOf s .digits ≡ map lower (undashed s)) =
+    given-both (eqb (length (undashed s)) 32) (allPass isHex (map lower (undashed s))) (map lower (undashed s)) h in
     record {
       long = ap length (g .2) ∙ (length-map (undashed s) lower ∙ eqb-true (length (undashed s)) 32 (g .0));
-      hex = ap (all isHex) (g .2) ∙ g .1;
+      hex = ap (allPass isHex) (g .2) ∙ g .1;
       own = go (uuidOf s .digits) (g .2) (own-digits s);
     }
   where
@@ -435,7 +435,7 @@ only-said s h =
     go u e (inr f) = inr (f .0, f .1, e ∙ ap (map lower) (f .2))
 
 -- a word of 32 characters that are hex digits, once they are small
-own-said : (s u : List ℕ) → length u ≡ 32 → all isHex u ≡ true → u ≡ map lower s → uuidOf s ≡ record { given = true; digits = u }
+own-said : (s u : List ℕ) → length u ≡ 32 → allPass isHex u ≡ true → u ≡ map lower s → uuidOf s ≡ record { given = true; digits = u }
 unfolding uuidOf hexUuid
 own-said s u l a e =
     let h : length s ≡ 32 = sym (length-map s lower) ∙ (ap length (sym e) ∙ l) in
@@ -453,7 +453,7 @@ said-given s u y = go (y .own)
 
 none-said : (s : List ℕ) → uuidOf s .given ≡ false → uuidOf s .digits ≡ zeros 32
 unfolding uuidOf hexUuid
-none-said s h = not-given (eqb (length (undashed s)) 32) (all isHex (map lower (undashed s))) (map lower (undashed s)) h
+none-said s h = not-given (eqb (length (undashed s)) 32) (allPass isHex (map lower (undashed s))) (map lower (undashed s)) h
 
 -- what is done to each character is done to each part
 module _ (f : ℕ → ℕ) where

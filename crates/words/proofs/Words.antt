@@ -1,5 +1,4 @@
 -- Laws of the words, as the functions that read them have it: results as variables, each with what its call promised.
--- Assumes nothing.
 use Prim.Native.Nat.{ℕ, _+_, _-_, _*_, _/_, _^_, _≤_, _<_}
 use mathlib.Core.Path.{_≡_, refl, sym, ap, ap₂, _∙_}
 use mathlib.Core.Bool.{Bool, true, false, not, _&&_}
@@ -12,7 +11,7 @@ use borrow.Author.Tests.{lt-ltb, le-ltb, ltb-true, ltb-false, le-leb, lt-leb, eq
 use lib.Dec.{leb, ltb}
 use lib.ListN.{length, getD, take, drop, set, length-append, length-map, drop-of-length-le, List·getD-eq-default}
 use lib.Seq.{drop-cons, take-suc, take-all, set-at, append-snoc, length-take-le}
-use Rattle.endian.specs.Bytes.{window, splice, all, zeros}
+use Rattle.endian.specs.Bytes.{window, splice, allPass, zeros}
 use Rattle.endian.proofs.Parts.{length-window-fits, splice-next, splice-whole}
 use Rattle.endian.proofs.Tests.{and-left, length-zeros}
 use Rattle.text.specs.Decimal.{valueAfter, isDigit}
@@ -34,21 +33,21 @@ and-false false = refl
 
 -- the first character: no digit, one digit too many, or a digit
 after-stop : (v x : ℕ) (t : List ℕ) → isDigit x ≡ false → numberAfter v (x ∷ t) ≡ Nothing
-unfolding numberAfter all
+unfolding numberAfter allPass
 after-stop v x t h = rw h
 
 after-over : (v x : ℕ) (t : List ℕ) → 2 ^ 64 ≤ v * 10 + (x - 48) → numberAfter v (x ∷ t) ≡ Nothing
 unfolding numberAfter valueAfter
 after-over v x t h =
     rw
-    (le-ltb (valueAfter (v * 10 + (x - 48)) t) (2 ^ 64) (let l : 2 ^ 64 ≤ valueAfter (v * 10 + (x - 48)) t = omega (arith, value-grows (v * 10 + (x - 48)) t) in l), and-false (all isDigit (x ∷ t)))
+    (le-ltb (valueAfter (v * 10 + (x - 48)) t) (2 ^ 64) (let l : 2 ^ 64 ≤ valueAfter (v * 10 + (x - 48)) t = omega (arith, value-grows (v * 10 + (x - 48)) t) in l), and-false (allPass isDigit (x ∷ t)))
 
 after-next : (v x : ℕ) (t : List ℕ) → isDigit x ≡ true → numberAfter v (x ∷ t) ≡ numberAfter (v * 10 + (x - 48)) t
-unfolding numberAfter valueAfter all
+unfolding numberAfter valueAfter allPass
 after-next v x t h = rw h
 
 after-done : (v : ℕ) → v < 2 ^ 64 → numberAfter v [] ≡ Is v
-unfolding numberAfter valueAfter all
+unfolding numberAfter valueAfter allPass
 after-done v h = rw (lt-ltb v (2 ^ 64) h)
 
 left : (s : List ℕ) (i : ℕ) → i < length s → drop i s ≡ getD s i 0 ∷ drop (i + 1) s
@@ -178,11 +177,11 @@ lower-next d l i w h e f =
 pub lower-done : (d l : List ℕ) (i : ℕ) → length d ≤ i → l ≡ map lower (take i d) ++ drop i d → l ≡ map lower d
 lower-done d l i h f = f ∙ (ap₂ (λ (x y : List ℕ). map lower x ++ y) (take-all i d h) (drop-of-length-le d h) ∙ append-nil (map lower d))
 
-pub hex-none : (l m : List ℕ) (r : Bool) → l ≡ m → r ≡ all isHex l → not r ≡ true → noUuid ≡ hexUuid m
+pub hex-none : (l m : List ℕ) (r : Bool) → l ≡ m → r ≡ allPass isHex l → not r ≡ true → noUuid ≡ hexUuid m
 unfolding hexUuid
 hex-none l m r e t f = rw (← e, ← t, not-true r f)
 
-pub hex-given : (l m : List ℕ) (r : Bool) → l ≡ m → r ≡ all isHex l → not r ≡ false → record { given = true; digits = l } ≡ hexUuid m
+pub hex-given : (l m : List ℕ) (r : Bool) → l ≡ m → r ≡ allPass isHex l → not r ≡ false → record { given = true; digits = l } ≡ hexUuid m
 unfolding hexUuid
 hex-given l m r e t f = rw (← e, ← t, not-false r f)
 

@@ -1,4 +1,4 @@
--- What holds of the words, in other terms. `proofs/Demand.antt` proves it. Assumes nothing.
+-- What holds of the words, in other terms. `proofs/Demand.antt` proves it.
 use Prim.Native.Nat.{ℕ, _+_, _-_, _*_, _^_, _≤_, _<_}
 use Prim.Native.Char.{code}
 use Prim.Native.String.{String, [] as none, _∷_ as _then_}
@@ -8,7 +8,7 @@ use mathlib.Core.Logic.{_⊎_}
 use mathlib.Core.List.{List, [], _∷_, _++_, map}
 use lib.Dec.{leb}
 use lib.ListN.{length}
-use Rattle.endian.specs.Bytes.{all, zeros}
+use Rattle.endian.specs.Bytes.{allPass, zeros}
 use Rattle.text.specs.Decimal.{decimal, value, isDigit}
 use Rattle.block.specs.Block.{isHex}
 use Rattle.words.specs.declared.answers.Number.the-variants.{Is, Nothing}
@@ -20,15 +20,15 @@ ReadBack = (n : ℕ) → n < 2 ^ 64 → numberOf (decimal n) ≡ Is n
 
 -- A word that says a number is that number's digits, leading zeros or none.
 abbrev pub DigitsAlone : Type 0
-DigitsAlone = (s : List ℕ) (n : ℕ) → numberOf s ≡ Is n → (0 < length s) × (all isDigit s ≡ true) × (value s ≡ n) × (n < 2 ^ 64)
+DigitsAlone = (s : List ℕ) (n : ℕ) → numberOf s ≡ Is n → (0 < length s) × (allPass isDigit s ≡ true) × (value s ≡ n) × (n < 2 ^ 64)
 
 -- Every word of digits says the number that they make, leading zeros or none, where it is below 2^64, and else nothing.
 -- No other word says a number.
 pub record Numbers : Type 0 where
   -- digits of a number below 2^64 say it
-  pub below : (s : List ℕ) → 0 < length s → all isDigit s ≡ true → value s < 2 ^ 64 → numberOf s ≡ Is (value s)
+  pub below : (s : List ℕ) → 0 < length s → allPass isDigit s ≡ true → value s < 2 ^ 64 → numberOf s ≡ Is (value s)
   -- digits of any other say nothing
-  pub above : (s : List ℕ) → 0 < length s → all isDigit s ≡ true → 2 ^ 64 ≤ value s → numberOf s ≡ Nothing
+  pub above : (s : List ℕ) → 0 < length s → allPass isDigit s ≡ true → 2 ^ 64 ≤ value s → numberOf s ≡ Nothing
   -- a zero in front changes nothing
   pub leading : (s : List ℕ) → 0 < length s → numberOf (48 ∷ s) ≡ numberOf s
   -- nothing but digits says a number
@@ -52,7 +52,7 @@ pub record Lettered (s : List ℕ) (x : ℕ) (d : List ℕ) (c u : ℕ) : Type 0
 pub record Size (s : List ℕ) (x : ℕ) : Type 0 where
   pub d : List ℕ
   pub some : 0 < length d
-  pub digits : all isDigit d ≡ true
+  pub digits : allPass isDigit d ≡ true
   pub form :
       ((s ≡ d) × (x ≡ value d))
       ⊎ (Lettered s x d 75 2 ⊎ (Lettered s x d 77 (2 ^ 11) ⊎ (Lettered s x d 71 (2 ^ 21) ⊎ Lettered s x d 84 (2 ^ 31))))
@@ -90,7 +90,7 @@ pub record Kinds : Type 0 where
 -- 32 hex digits in small letters come back as they are, also where dashes stand between them.
 abbrev pub Digits : Type 0
 Digits =
-    (s : List ℕ) → length s ≡ 32 → all isHex s ≡ true → uuidOf s ≡ record { given = true; digits = s }
+    (s : List ℕ) → length s ≡ 32 → allPass isHex s ≡ true → uuidOf s ≡ record { given = true; digits = s }
 
 abbrev pub Dashes : Type 0
 Dashes =
@@ -115,7 +115,7 @@ pub record Form (s j : List ℕ) : Type 0 where
 -- a word that says the UUID u: 32 small hex digits, which are the word's own or those of its form, in small letters
 pub record Says (s u : List ℕ) : Type 0 where
   pub long : length u ≡ 32
-  pub hex : all isHex u ≡ true
+  pub hex : allPass isHex u ≡ true
   pub own : (u ≡ map lower s) ⊎ ((j : List ℕ) × Form s j × (u ≡ map lower j))
 
 -- a small letter a to f as a capital

@@ -1,10 +1,10 @@
--- Words of a command line and what they say. Characters are ASCII bytes. Assumes nothing.
+-- Words of a command line and what they say. Characters are ASCII bytes.
 use Prim.Native.Nat.{ℕ, _+_, _-_, _*_, _^_}
 use mathlib.Core.Bool.{Bool, true, false, cond, _&&_, _||_}
 use mathlib.Core.List.{List, [], _∷_, _++_, map}
 use lib.Dec.{leb, ltb, eqb}
 use lib.ListN.{length, getD, take}
-use Rattle.endian.specs.Bytes.{window, same, all, zeros}
+use Rattle.endian.specs.Bytes.{window, same, allPass, zeros}
 use Rattle.text.specs.Decimal.{valueAfter, isDigit}
 use Rattle.block.specs.Block.{isHex}
 use Rattle.words.specs.declared.answers.Number.{Number}
@@ -13,7 +13,7 @@ use Rattle.words.specs.declared.answers.Uuid.{Uuid}
 
 -- what digits say after those that make v: their number, where it is below 2^64
 unfoldable pub numberAfter : ℕ → List ℕ → Number
-numberAfter v s = cond (all isDigit s && ltb (valueAfter v s) (2 ^ 64)) (Is (valueAfter v s)) Nothing
+numberAfter v s = cond (allPass isDigit s && ltb (valueAfter v s) (2 ^ 64)) (Is (valueAfter v s)) Nothing
 
 -- the number that a word says: digits alone, one at least
 unfoldable pub numberOf : List ℕ → Number
@@ -83,7 +83,7 @@ noUuid = record { given = false; digits = zeros 32 }
 
 -- the UUID of 32 characters, where all are hex digits
 unfoldable pub hexUuid : List ℕ → Uuid
-hexUuid d = cond (all isHex d) (record { given = true; digits = d }) noUuid
+hexUuid d = cond (allPass isHex d) (record { given = true; digits = d }) noUuid
 
 -- the UUID that a word says: 32 hex digits, with dashes or with none, in small letters or in capitals
 unfoldable pub uuidOf : List ℕ → Uuid

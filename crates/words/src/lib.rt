@@ -1,5 +1,5 @@
 // Words of a command line, read from bytes: numbers, sizes, kinds of segments and UUIDs.
-// Every call is total. Assumes nothing.
+// Every call is total.
 ghost use mathlib.Core.Path.{_≡_};
 ghost use mathlib.Core.Bool.{_||_};
 ghost use mathlib.Core.List.{map};

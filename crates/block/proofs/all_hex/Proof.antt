@@ -1,4 +1,4 @@
--- `block::all_hex` meets its contract: the bytes passed, and those left. Assumes nothing.
+-- `block::all_hex` meets its contract: the bytes passed, and those left.
 use Prim.Native.Nat.{ℕ, _+_, _-_, _≤_}
 use mathlib.Core.Path.{_≡_, refl, sym, ap, _∙_}
 use mathlib.Core.Bool.{Bool, _&&_}
@@ -6,14 +6,14 @@ use mathlib.Core.List.{List}
 use native.Mathlib.Omega.{arith}
 use borrow.Author.Needs.{needs}
 use lib.ListN.{length, drop}
-use Rattle.endian.specs.Bytes.{all}
+use Rattle.endian.specs.Bytes.{allPass}
 use Rattle.endian.proofs.Tests.{all-next, all-done}
 use Rattle.block.specs.Block.{isHex}
 use Rattle.block.proofs.all_hex.Statement.{statement}
 use Rattle.block.proofs.all_hex.Tie as tie
 
 abbrev Inv-loop : tie.InvT-loop
-Inv-loop s hex₀ i₀ hex i = (i ≤ length s) × ((hex && all isHex (drop i s)) ≡ all isHex s)
+Inv-loop s hex₀ i₀ hex i = (i ≤ length s) × ((hex && allPass isHex (drop i s)) ≡ allPass isHex s)
 
 abbrev μ-loop : tie.MeasureT-loop
 μ-loop s hex₀ i₀ hex i = length s - i
@@ -37,7 +37,7 @@ loop-again : tie.Need-loop-again Inv-loop μ-loop
 loop-again c =
     let s : List ℕ = c .before .before .before .before .before .args .s .now in
     let i : ℕ = c .before .before .before .loop .i in
-    (omega arith, ap (λ (z : Bool). (c .before .before .before .loop .hex && z) && all isHex (drop (i + 1) s)) (c .is-hex .ensures) ∙ all-next isHex s i (c .before .before .before .loop .hex) (omega arith) ∙ c .before .before .before .loop .inv .1)
+    (omega arith, ap (λ (z : Bool). (c .before .before .before .loop .hex && z) && allPass isHex (drop (i + 1) s)) (c .is-hex .ensures) ∙ all-next isHex s i (c .before .before .before .loop .hex) (omega arith) ∙ c .before .before .before .loop .inv .1)
 
 returns : tie.Need-returns Inv-loop μ-loop
 returns c =

@@ -1,4 +1,4 @@
--- `block::all_zero` meets its contract: the bytes passed, and those left. Assumes nothing.
+-- `block::all_zero` meets its contract: the bytes passed, and those left.
 use Prim.Native.Nat.{ℕ, _-_, _≤_}
 use mathlib.Core.Path.{_≡_, refl, sym, _∙_}
 use mathlib.Core.Bool.{_&&_}
@@ -6,14 +6,14 @@ use mathlib.Core.List.{List}
 use native.Mathlib.Omega.{arith}
 use borrow.Author.Needs.{needs}
 use lib.ListN.{length, drop}
-use Rattle.endian.specs.Bytes.{all}
+use Rattle.endian.specs.Bytes.{allPass}
 use Rattle.endian.proofs.Tests.{all-next, all-done}
 use Rattle.block.specs.Block.{isZero, allZero}
 use Rattle.block.proofs.all_zero.Statement.{statement}
 use Rattle.block.proofs.all_zero.Tie as tie
 
 abbrev Inv-loop : tie.InvT-loop
-Inv-loop s zero₀ i₀ zero i = (i ≤ length s) × ((zero && all isZero (drop i s)) ≡ all isZero s)
+Inv-loop s zero₀ i₀ zero i = (i ≤ length s) × ((zero && allPass isZero (drop i s)) ≡ allPass isZero s)
 
 abbrev μ-loop : tie.MeasureT-loop
 μ-loop s zero₀ i₀ zero i = length s - i

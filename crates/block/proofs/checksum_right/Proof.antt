@@ -1,4 +1,4 @@
--- `block::checksum_right` meets its contract. Assumes nothing.
+-- `block::checksum_right` meets its contract.
 use mathlib.Core.Path.{ap, ap₂, _∙_}
 use lib.Dec.{eqb}
 use Rattle.checksum.specs.Crc.{checksum}

@@ -1,4 +1,4 @@
--- `block::differ` meets its contract. Assumes nothing.
+-- `block::differ` meets its contract.
 use mathlib.Core.Path.{ap}
 use mathlib.Core.Bool.{not}
 use borrow.Author.Needs.{needs}

@@ -1,4 +1,4 @@
--- `block::entries_allowed` meets its contract. Assumes nothing.
+-- `block::entries_allowed` meets its contract.
 use borrow.Author.Needs.{needs}
 use Rattle.block.proofs.entries_allowed.Statement.{statement}
 use Rattle.block.proofs.entries_allowed.Tie as tie

@@ -1,4 +1,4 @@
--- `block::entry_allowed` meets its contract. Assumes nothing.
+-- `block::entry_allowed` meets its contract.
 use borrow.Author.Needs.{needs}
 use Rattle.block.proofs.entry_allowed.Statement.{statement}
 use Rattle.block.proofs.entry_allowed.Tie as tie

@@ -1,4 +1,4 @@
--- `block::entry_at` meets its contract. Assumes nothing.
+-- `block::entry_at` meets its contract.
 use mathlib.Core.Path.{_∙_}
 use borrow.Author.Needs.{needs}
 use Rattle.block.proofs.entry_at.Statement.{statement}

@@ -1,4 +1,4 @@
--- `block::entry_of` meets its contract. Assumes nothing.
+-- `block::entry_of` meets its contract.
 use Rattle.block.specs.Entry.{entryOf}
 use Rattle.block.proofs.entry_of.Statement.{statement}
 use Rattle.block.proofs.entry_of.Tie as tie

@@ -1,4 +1,4 @@
--- `block::fields` meets its contract. Assumes nothing.
+-- `block::fields` meets its contract.
 use borrow.Author.Needs.{needs}
 use Rattle.block.proofs.fields.Statement.{statement}
 use Rattle.block.proofs.fields.Tie as tie

@@ -1,4 +1,4 @@
--- `block::holding_of` meets its contract. Assumes nothing.
+-- `block::holding_of` meets its contract.
 use borrow.Author.Needs.{needs}
 use Rattle.block.proofs.holding_of.Statement.{statement}
 use Rattle.block.proofs.holding_of.Tie as tie

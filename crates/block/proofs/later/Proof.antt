@@ -1,4 +1,4 @@
--- `block::later` meets its contract. Assumes nothing.
+-- `block::later` meets its contract.
 use mathlib.Core.Path.{refl}
 use Rattle.block.specs.Entry.{laterThan}
 use Rattle.block.proofs.later.Statement.{statement}

@@ -1,4 +1,4 @@
--- `block::limit_refusal` meets its contract, a test at a time. Assumes nothing.
+-- `block::limit_refusal` meets its contract, a test at a time.
 use mathlib.Core.Path.{sym, ap₂}
 use mathlib.Core.Bool.{Bool, _&&_}
 use Rattle.refusal.proofs.Order.{refused, passed, first-nil}

@@ -1,4 +1,4 @@
--- `block::put_entry` meets its contract. Assumes nothing.
+-- `block::put_entry` meets its contract.
 use Prim.Native.Nat.{ℕ, _+_}
 use mathlib.Core.Path.{ap, _∙_}
 use mathlib.Core.List.{List}

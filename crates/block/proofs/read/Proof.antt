@@ -1,4 +1,4 @@
--- `block::read` meets its contract. Assumes nothing.
+-- `block::read` meets its contract.
 use Prim.Native.Nat.{ℕ}
 use mathlib.Core.Path.{_≡_, ap, sym, _∙_}
 use mathlib.Core.List.{List}
@@ -28,22 +28,22 @@ fields-requires c κs = search needs
 window-requires : tie.Need-window-requires
 window-requires c κs = search needs
 
-uuid-requires : tie.Need-uuid-requires
-uuid-requires c κs =
+uuid-bytes-requires : tie.Need-uuid-bytes-requires
+uuid-bytes-requires c κs =
     rw (c .window .ensures)
     (length-window-fits (c .before .before .before .before .before .args .s .now) 32 32 (omega (arith, accepted-length (c .before .before .before .before .before .args .s .now) (sym (c .before .before .before .read-refusal .ensures) ∙ c .before .before .if1 .left))))
 
 window-requires-2 : tie.Need-window-requires-2
 window-requires-2 c κs = search needs
 
-uuid-requires-2 : tie.Need-uuid-requires-2
-uuid-requires-2 c κs =
+uuid-bytes-requires-2 : tie.Need-uuid-bytes-requires-2
+uuid-bytes-requires-2 c κs =
     rw (c .window2 .ensures)
     (length-window-fits (c .before .before .before .before .before .before .before .args .s .now) 64 32 (omega (arith, accepted-length (c .before .before .before .before .before .before .before .args .s .now) (sym (c .before .before .before .before .before .read-refusal .ensures) ∙ c .before .before .before .before .if1 .left))))
 
 returns-2 : tie.Need-returns-2
 returns-2 c =
-    rw (c .before .before .before .before .fields .ensures, c .before .before .uuid .ensures, c .before .before .before .window .ensures, c .uuid2 .ensures, c .before .window2 .ensures)
+    rw (c .before .before .before .before .fields .ensures, c .before .before .uuid-bytes .ensures, c .before .before .before .window .ensures, c .uuid-bytes2 .ensures, c .before .window2 .ensures)
     (accepted-reading (c .before .before .before .before .before .before .before .before .args .s .now) (sym (c .before .before .before .before .before .before .read-refusal .ensures) ∙ c .before .before .before .before .before .if1 .left))
 
 pub read-spec : {M : Type 1} → statement M
@@ -54,7 +54,7 @@ read-spec =
     returns
     fields-requires
     window-requires
-    uuid-requires
+    uuid-bytes-requires
     window-requires-2
-    uuid-requires-2
+    uuid-bytes-requires-2
     returns-2)

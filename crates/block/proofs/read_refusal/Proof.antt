@@ -1,11 +1,11 @@
--- `block::read_refusal` meets its contract, a test at a time. Assumes nothing.
+-- `block::read_refusal` meets its contract, a test at a time.
 use Prim.Native.Nat.{ℕ}
 use mathlib.Core.Path.{refl, ap, ap₂, _∙_}
 use mathlib.Core.List.{List}
 use Rattle.refusal.specs.Tests.{first}
 use Rattle.refusal.proofs.Order.{refused, passed}
 use Rattle.layout.specs.Limits.{sizeAllowed}
-use Rattle.block.specs.Block.{limitTests, poolOf, uuidOf}
+use Rattle.block.specs.Block.{limitTests, poolOf, blockdevOf}
 use Rattle.block.specs.declared.BlockFields.{BlockFields}
 use borrow.Author.Needs.{needs}
 use Rattle.block.proofs.read_refusal.Statement.{statement}
@@ -75,7 +75,7 @@ returns-6 c =
     (passed _ _ 4 _ (c .before .before .before .before .before .before .before .size-allowed .ensures ∙ ap sizeAllowed (c .before .before .before .before .before .before .before .before .read-u64 .ensures)) (c .before .before .before .before .before .before .if4 .left) _
     (passed _ _ 5 _ (c .before .before .before .before .before .zero-fields .ensures) (c .before .before .before .before .if5 .left) _
     (c .limit-refusal .ensures ∙ (ap₂ (λ (p u : List ℕ). first (limitTests p u (c .before .fields .result))) (c .before .before .before .window .ensures) (c .before .before .window2 .ensures)
-    ∙ ap (λ (f : BlockFields). first (limitTests (poolOf (c .before .before .before .before .before .before .before .before .before .before .before .before .before .before .before .args .s .now)) (uuidOf (c .before .before .before .before .before .before .before .before .before .before .before .before .before .before .before .args .s .now)) f)) (c .before .fields .ensures)))))))
+    ∙ ap (λ (f : BlockFields). first (limitTests (poolOf (c .before .before .before .before .before .before .before .before .before .before .before .before .before .before .before .args .s .now)) (blockdevOf (c .before .before .before .before .before .before .before .before .before .before .before .before .before .before .before .args .s .now)) f)) (c .before .fields .ensures)))))))
 
 pub read-refusal-spec : {M : Type 1} → statement M
 read-refusal-spec =

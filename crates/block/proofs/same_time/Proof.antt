@@ -1,4 +1,4 @@
--- `block::same_time` meets its contract. Assumes nothing.
+-- `block::same_time` meets its contract.
 use mathlib.Core.Path.{refl}
 use Rattle.block.specs.Entry.{sameTime}
 use Rattle.block.proofs.same_time.Statement.{statement}

@@ -1,4 +1,4 @@
--- `block::seal` meets its contract. Assumes nothing.
+-- `block::seal` meets its contract.
 use Prim.Native.Nat.{ℕ}
 use mathlib.Core.Path.{ap, _∙_}
 use Rattle.endian.specs.Bytes.{toLe, splice}

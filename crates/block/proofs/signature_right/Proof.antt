@@ -1,4 +1,4 @@
--- `block::signature_right` meets its contract. Assumes nothing.
+-- `block::signature_right` meets its contract.
 use Prim.Native.Nat.{ℕ}
 use mathlib.Core.Path.{ap, _∙_}
 use mathlib.Core.List.{List}

@@ -1,4 +1,4 @@
--- `block::write` meets its contract. Assumes nothing.
+-- `block::write` meets its contract.
 use Prim.Native.Nat.{ℕ}
 use mathlib.Core.Path.{_≡_, sym, ap, _∙_}
 use mathlib.Core.List.{List}
@@ -21,7 +21,7 @@ same-length c = search needs
 returns : tie.Need-returns
 returns c = (
   c .before .write-refusal .ensures,
-  written-refused (c .before .before .before .before .before .before .args .out .now) (c .before .before .before .before .before .before .args .pool .now) (c .before .before .before .before .before .before .args .uuid .now) (c .before .before .before .before .before .before .args .f) (c .before .write-refusal .result)
+  written-refused (c .before .before .before .before .before .before .args .out .now) (c .before .before .before .before .before .before .args .pool .now) (c .before .before .before .before .before .before .args .blockdev .now) (c .before .before .before .before .before .before .args .f) (c .before .write-refusal .result)
       (c .before .write-refusal .ensures) (c .if1 .taken),
 )
 
@@ -38,7 +38,7 @@ returns-2 : tie.Need-returns-2
 returns-2 c =
     let out : List ℕ = c .before .before .before .before .before .before .before .before .before .before .before .before .before .before .args .out .now in
     let p : List ℕ = c .before .before .before .before .before .before .before .before .before .before .before .before .before .before .args .pool .now in
-    let u : List ℕ = c .before .before .before .before .before .before .before .before .before .before .before .before .before .before .args .uuid .now in
+    let u : List ℕ = c .before .before .before .before .before .before .before .before .before .before .before .before .before .before .args .blockdev .now in
     let f : BlockFields = c .before .before .before .before .before .before .before .before .before .before .before .before .before .before .args .f in
     let z : first (writeTests out p u f) ≡ 0 = sym (c .before .before .before .before .before .before .before .before .before .write-refusal .ensures) ∙ c .before .before .before .before .before .before .before .before .if1 .left in
     let sizes : (length out ≡ 512) × (length p ≡ 32) × (length u ≡ 32) = write-sizes out p u f z in (

@@ -1,4 +1,4 @@
--- `block::write_refusal` meets its contract, a test at a time. Assumes nothing.
+-- `block::write_refusal` meets its contract, a test at a time.
 use mathlib.Core.Path.{refl}
 use Rattle.refusal.proofs.Order.{refused, passed}
 use borrow.Author.Needs.{needs}

@@ -1,4 +1,4 @@
--- `block::zero_fields` meets its contract. Assumes nothing.
+-- `block::zero_fields` meets its contract.
 use borrow.Author.Needs.{needs}
 use Rattle.block.proofs.zero_fields.Statement.{statement}
 use Rattle.block.proofs.zero_fields.Tie as tie

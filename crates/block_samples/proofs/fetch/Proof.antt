@@ -1,4 +1,4 @@
--- `block_samples::fetch` is safe and ends. Assumes nothing.
+-- `block_samples::fetch` is safe and ends.
 use borrow.Author.Needs.{needs}
 use native.Mathlib.Omega.{arith}
 use lib.ListN.{length-take}

@@ -1,4 +1,4 @@
--- `block_samples::samples` is safe and ends: at most so many samples are left. Assumes nothing.
+-- `block_samples::samples` is safe and ends: at most so many samples are left.
 use borrow.Author.Needs.{needs}
 use Prim.Native.Nat.{_+_, _-_, _≤_}
 use Rattle.block_samples.proofs.samples.Statement.{statement}

@@ -1,4 +1,4 @@
--- `block_samples::subjects` is safe and ends. Assumes nothing.
+-- `block_samples::subjects` is safe and ends.
 use borrow.Author.Needs.{needs}
 use Prim.Native.Nat.{_+_, _-_, _≤_}
 use Rattle.block_samples.proofs.subjects.Statement.{statement}

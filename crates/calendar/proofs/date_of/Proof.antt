@@ -1,4 +1,4 @@
--- `calendar::date_of` meets its contract. Assumes nothing.
+-- `calendar::date_of` meets its contract.
 use Prim.Native.Nat.{_/_}
 use native.Mathlib.Omega.{arith}
 use Rattle.calendar.proofs.Dates.{year-place, month-place, past, date}

@@ -1,4 +1,4 @@
--- `calendar::leap` meets its contract. Assumes nothing.
+-- `calendar::leap` meets its contract.
 use mathlib.Core.Path.{refl}
 use Rattle.calendar.specs.Calendar.{leap}
 use Rattle.calendar.proofs.leap.Statement.{statement}

@@ -1,4 +1,4 @@
--- `calendar::month_length` meets its contract. Assumes nothing.
+-- `calendar::month_length` meets its contract.
 use mathlib.Core.Path.{sym, _∙_}
 use borrow.Author.Tests.{eq-eqb, ne-eqb}
 use Rattle.calendar.specs.Calendar.{monthIn}

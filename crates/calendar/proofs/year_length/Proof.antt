@@ -1,4 +1,4 @@
--- `calendar::year_length` meets its contract. Assumes nothing.
+-- `calendar::year_length` meets its contract.
 use mathlib.Core.Path.{sym, _∙_}
 use Rattle.calendar.specs.Calendar.{yearLength}
 use borrow.Author.Needs.{needs}

@@ -1,4 +1,4 @@
--- `calendar::year_of` meets its contract: the days left, from the year that is reached on, fall where all do. Assumes nothing.
+-- `calendar::year_of` meets its contract: the days left, from the year that is reached on, fall where all do.
 use Prim.Native.Nat.{_-_, _<_}
 use mathlib.Core.Path.{_≡_, refl}
 use native.Mathlib.Omega.{arith}

@@ -1,4 +1,4 @@
--- `check_values::cuts` is safe and ends. Assumes nothing.
+-- `check_values::cuts` is safe and ends.
 use borrow.Author.Needs.{needs}
 use Prim.Native.Nat.{_+_, _-_, _≤_}
 use mathlib.Core.Path.{_≡_}

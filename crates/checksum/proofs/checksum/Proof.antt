@@ -1,4 +1,4 @@
--- `checksum::checksum` meets its contract. Assumes nothing.
+-- `checksum::checksum` meets its contract.
 use mathlib.Core.Path.{ap}
 use Rattle.checksum.specs.Crc.{checksum, invert}
 use borrow.Author.Needs.{needs}

@@ -1,4 +1,4 @@
--- `checksum::continued` meets its contract. Assumes nothing.
+-- `checksum::continued` meets its contract.
 use mathlib.Core.Path.{ap}
 use Rattle.checksum.specs.Crc.{continued, invert}
 use borrow.Author.Needs.{needs}

@@ -1,4 +1,4 @@
--- `checksum::eight` meets its contract. Assumes nothing.
+-- `checksum::eight` meets its contract.
 use mathlib.Core.Path.{ap, ap₂, _∙_}
 use lib.Bits.{bitXor}
 use Rattle.checksum.specs.Crc.{shifts}

@@ -1,5 +1,4 @@
 -- `checksum::eights` meets its contract: from where it stands, the bytes left bring the register where all of them do.
--- Assumes nothing.
 use Prim.Native.Nat.{ℕ, _+_, _-_, _%_, _≤_}
 use mathlib.Core.Path.{_≡_, refl, sym, ap, _∙_}
 use mathlib.Core.List.{List}

@@ -1,4 +1,4 @@
--- `checksum::far` meets its contract. Assumes nothing.
+-- `checksum::far` meets its contract.
 use Prim.Native.Nat.{_%_}
 use native.Mathlib.Nat.{mod-lt}
 use lib.Dec.{lit<}

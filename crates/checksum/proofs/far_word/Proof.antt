@@ -1,4 +1,4 @@
--- `checksum::far_word` meets its contract. Assumes nothing.
+-- `checksum::far_word` meets its contract.
 use Rattle.checksum.proofs.Lookup.{far-word-law}
 use borrow.Author.Needs.{needs}
 use Rattle.checksum.proofs.far_word.Statement.{statement}

@@ -1,4 +1,4 @@
--- `checksum::few` meets its contract. Assumes nothing.
+-- `checksum::few` meets its contract.
 use Prim.Native.Nat.{ℕ, _-_}
 use mathlib.Core.Path.{sym, ap, ap₂, _∙_}
 use mathlib.Core.List.{List}

@@ -1,4 +1,4 @@
--- `checksum::near` meets its contract. Assumes nothing.
+-- `checksum::near` meets its contract.
 use Prim.Native.Nat.{_%_}
 use native.Mathlib.Nat.{mod-lt}
 use lib.Dec.{lit<}

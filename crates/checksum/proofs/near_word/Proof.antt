@@ -1,4 +1,4 @@
--- `checksum::near_word` meets its contract. Assumes nothing.
+-- `checksum::near_word` meets its contract.
 use Rattle.checksum.proofs.Lookup.{near-word-law}
 use borrow.Author.Needs.{needs}
 use Rattle.checksum.proofs.near_word.Statement.{statement}

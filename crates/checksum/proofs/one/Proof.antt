@@ -1,4 +1,4 @@
--- `checksum::one` meets its contract. Assumes nothing.
+-- `checksum::one` meets its contract.
 use mathlib.Core.Path.{refl}
 use Rattle.checksum.proofs.Lookup.{one-law}
 use borrow.Author.Needs.{needs}

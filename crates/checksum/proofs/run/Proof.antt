@@ -1,4 +1,4 @@
--- `checksum::run` meets its contract. Assumes nothing.
+-- `checksum::run` meets its contract.
 use Prim.Native.Nat.{ℕ, _*_, _/_, _-_}
 use mathlib.Core.Path.{sym, ap, ap₂, _∙_}
 use mathlib.Core.List.{List}

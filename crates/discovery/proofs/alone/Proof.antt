@@ -1,4 +1,4 @@
--- `discovery::alone` meets its contract. Assumes nothing.
+-- `discovery::alone` meets its contract.
 use borrow.Author.Needs.{needs}
 use Rattle.discovery.proofs.alone.Statement.{statement}
 use Rattle.discovery.proofs.alone.Tie as tie

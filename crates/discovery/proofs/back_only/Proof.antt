@@ -1,4 +1,4 @@
--- `discovery::back_only` meets its contract. Assumes nothing.
+-- `discovery::back_only` meets its contract.
 use mathlib.Core.Path.{ap, _∙_}
 use Rattle.layout.specs.declared.Side.the-variants.{Back}
 use Rattle.discovery.specs.declared.Present.{Present}

@@ -1,4 +1,4 @@
--- `discovery::current` meets its contract. Assumes nothing.
+-- `discovery::current` meets its contract.
 use mathlib.Core.Path.{_∙_}
 use borrow.Author.Needs.{needs}
 use Rattle.discovery.proofs.current.Statement.{statement}

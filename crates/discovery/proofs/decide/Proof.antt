@@ -1,4 +1,4 @@
--- `discovery::decide` meets its contract. Assumes nothing.
+-- `discovery::decide` meets its contract.
 use Rattle.discovery.proofs.Deciding.{decide-back, decide-front, decide-differ, decide-same}
 use Rattle.discovery.specs.Discovery.{aloneOf, sameUuids}
 use Rattle.discovery.specs.declared.Present.{Present}

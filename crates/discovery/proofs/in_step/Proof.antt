@@ -1,4 +1,4 @@
--- `discovery::in_step` meets its contract. Assumes nothing.
+-- `discovery::in_step` meets its contract.
 use mathlib.Core.Path.{ap}
 use Rattle.discovery.specs.declared.View.{View}
 use borrow.Author.Needs.{needs}

@@ -1,4 +1,4 @@
--- `discovery::newer` meets its contract. Assumes nothing.
+-- `discovery::newer` meets its contract.
 use borrow.Author.Needs.{needs}
 use Rattle.discovery.proofs.newer.Statement.{statement}
 use Rattle.discovery.proofs.newer.Tie as tie

@@ -1,4 +1,4 @@
--- `discovery::newest` meets its contract. Assumes nothing.
+-- `discovery::newest` meets its contract.
 use mathlib.Core.Path.{sym, ap, _∙_}
 use mathlib.Core.Bool.{Bool, cond}
 use Rattle.layout.specs.declared.Area.the-variants.{A, B}

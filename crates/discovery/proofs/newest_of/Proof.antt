@@ -1,4 +1,4 @@
--- `discovery::newest_of` meets its contract. Assumes nothing.
+-- `discovery::newest_of` meets its contract.
 use Prim.Native.Nat.{ℕ}
 use mathlib.Core.Path.{sym, ap, ap₂, _∙_}
 use Rattle.endian.specs.Bytes.{window, same}

@@ -1,4 +1,4 @@
--- `discovery::one_time` meets its contract. Assumes nothing.
+-- `discovery::one_time` meets its contract.
 use mathlib.Core.Path.{_∙_}
 use borrow.Author.Needs.{needs}
 use Rattle.discovery.proofs.one_time.Statement.{statement}

@@ -1,4 +1,4 @@
--- `discovery::present_in` meets its contract. Assumes nothing.
+-- `discovery::present_in` meets its contract.
 use mathlib.Core.Path.{sym, ap, _∙_}
 use Rattle.block.specs.Writing.{holdingOf}
 use Rattle.discovery.proofs.Presence.{present-newest, present-other, present-none}

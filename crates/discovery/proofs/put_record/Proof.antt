@@ -1,4 +1,4 @@
--- `discovery::put_record` meets its contract. Assumes nothing.
+-- `discovery::put_record` meets its contract.
 use mathlib.Core.Path.{ap, _∙_}
 use Rattle.endian.specs.Bytes.{splice}
 use borrow.Author.Needs.{needs}

@@ -1,4 +1,4 @@
--- `discovery::read_found` meets its contract. Assumes nothing.
+-- `discovery::read_found` meets its contract.
 use mathlib.Core.Path.{refl, ap, _∙_}
 use lib.ListN.{length}
 use Rattle.discovery.specs.declared.Answer.{Answer}

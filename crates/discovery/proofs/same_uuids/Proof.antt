@@ -1,4 +1,4 @@
--- `discovery::same_uuids` meets its contract. Assumes nothing.
+-- `discovery::same_uuids` meets its contract.
 use borrow.Author.Needs.{needs}
 use Rattle.discovery.proofs.same_uuids.Statement.{statement}
 use Rattle.discovery.proofs.same_uuids.Tie as tie

@@ -1,4 +1,4 @@
--- `discovery::survey` meets its contract. Assumes nothing.
+-- `discovery::survey` meets its contract.
 use Prim.Native.Nat.{ℕ}
 use mathlib.Core.Path.{refl, sym, ap, ap₂, _∙_}
 use mathlib.Core.Bool.{false, _&&_}

@@ -1,4 +1,4 @@
--- `discovery::survey_both` meets its contract. Assumes nothing.
+-- `discovery::survey_both` meets its contract.
 use Rattle.discovery.proofs.Surveying.{survey-both}
 use borrow.Author.Needs.{needs}
 use Rattle.discovery.proofs.survey_both.Statement.{statement}

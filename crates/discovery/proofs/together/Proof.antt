@@ -1,4 +1,4 @@
--- `discovery::together` meets its contract. Assumes nothing.
+-- `discovery::together` meets its contract.
 use borrow.Author.Needs.{needs}
 use Rattle.discovery.proofs.together.Statement.{statement}
 use Rattle.discovery.proofs.together.Tie as tie

@@ -1,4 +1,4 @@
--- `discovery::whole` meets its contract. Assumes nothing.
+-- `discovery::whole` meets its contract.
 use mathlib.Core.Path.{ap, _∙_}
 use Rattle.discovery.specs.Copy.{wholeEntry}
 use borrow.Author.Needs.{needs}

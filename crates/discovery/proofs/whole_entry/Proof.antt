@@ -1,4 +1,4 @@
--- `discovery::whole_entry` meets its contract. Assumes nothing.
+-- `discovery::whole_entry` meets its contract.
 use borrow.Author.Needs.{needs}
 use Rattle.discovery.proofs.whole_entry.Statement.{statement}
 use Rattle.discovery.proofs.whole_entry.Tie as tie

@@ -1,4 +1,4 @@
--- `dump_line::add_area` meets its contract. Assumes nothing.
+-- `dump_line::add_area` meets its contract.
 use borrow.Author.Needs.{needs}
 use Rattle.dump_line.proofs.add_area.Statement.{statement}
 use Rattle.dump_line.proofs.add_area.Tie as tie

@@ -1,4 +1,4 @@
--- `dump_line::add_other` meets its contract. Assumes nothing.
+-- `dump_line::add_other` meets its contract.
 use borrow.Author.Needs.{needs}
 use Rattle.dump_line.proofs.add_other.Statement.{statement}
 use Rattle.dump_line.proofs.add_other.Tie as tie

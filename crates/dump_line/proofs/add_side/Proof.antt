@@ -1,4 +1,4 @@
--- `dump_line::add_side` meets its contract. Assumes nothing.
+-- `dump_line::add_side` meets its contract.
 use borrow.Author.Needs.{needs}
 use Rattle.dump_line.proofs.add_side.Statement.{statement}
 use Rattle.dump_line.proofs.add_side.Tie as tie

@@ -1,4 +1,4 @@
--- `dump_line::dump_line` meets its contract. Assumes nothing.
+-- `dump_line::dump_line` meets its contract.
 use Prim.Native.Nat.{ℕ}
 use mathlib.Core.Path.{_≡_, ap, ap₂, _∙_}
 use mathlib.Core.List.{List}

@@ -1,4 +1,4 @@
--- `dump_line::found` meets its contract. Assumes nothing.
+-- `dump_line::found` meets its contract.
 use Rattle.text.proofs.Texts.{addedAll}
 use Rattle.dump_line.proofs.Lengths.{line-text}
 use Rattle.discovery.specs.declared.Answer.the-variants as Answer

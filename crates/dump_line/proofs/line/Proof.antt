@@ -1,4 +1,4 @@
--- `dump_line::line` meets its contract. Assumes nothing.
+-- `dump_line::line` meets its contract.
 use Prim.Native.Nat.{ℕ}
 use mathlib.Core.Path.{_≡_, ap, _∙_}
 use mathlib.Core.List.{List}

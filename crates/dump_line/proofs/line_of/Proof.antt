@@ -1,4 +1,4 @@
--- `dump_line::line_of` meets its contract. Assumes nothing.
+-- `dump_line::line_of` meets its contract.
 use borrow.Author.Needs.{needs}
 use Rattle.dump_line.proofs.line_of.Statement.{statement}
 use Rattle.dump_line.proofs.line_of.Tie as tie

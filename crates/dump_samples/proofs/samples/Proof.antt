@@ -1,4 +1,4 @@
--- `dump_samples::samples` meets its contract: each sample ends after it begins. Assumes nothing.
+-- `dump_samples::samples` meets its contract: each sample ends after it begins.
 use Prim.Native.Nat.{_-_}
 use mathlib.Core.Path.{_≡_}
 use lib.ListN.{length}

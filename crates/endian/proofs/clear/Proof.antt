@@ -1,4 +1,4 @@
--- `endian::clear` meets its contract: zeros up to i. Assumes nothing.
+-- `endian::clear` meets its contract: zeros up to i.
 use Prim.Native.Nat.{ℕ, _-_, _≤_}
 use mathlib.Core.Path.{_≡_, refl, ap, _∙_}
 use mathlib.Core.List.{List, _++_, append-nil}

@@ -1,4 +1,4 @@
--- `endian::fill` meets its contract: the bytes written and those left are the number's. Assumes nothing.
+-- `endian::fill` meets its contract: the bytes written and those left are the number's.
 use Prim.Native.Nat.{ℕ, suc, _+_, _-_, _*_, _%_, _≤_, _<_}
 use mathlib.Core.Path.{_≡_, refl, sym, _∙_}
 use mathlib.Core.List.{List, _++_, append-assoc, append-nil}

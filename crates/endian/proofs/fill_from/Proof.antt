@@ -1,4 +1,4 @@
--- `endian::fill_from` meets its contract: the bytes written and those left are the source's. Assumes nothing.
+-- `endian::fill_from` meets its contract: the bytes written and those left are the source's.
 use Prim.Native.Nat.{ℕ, suc, _+_, _-_, _≤_, _<_}
 use mathlib.Core.Path.{_≡_, refl, sym, ap, ap₂, _∙_}
 use mathlib.Core.List.{List, [], _∷_, _++_, append-assoc, append-nil}

@@ -1,4 +1,4 @@
--- `endian::number` meets its contract: the number so far is that of the bytes from i on. Assumes nothing.
+-- `endian::number` meets its contract: the number so far is that of the bytes from i on.
 use Prim.Native.Nat.{ℕ, _+_, _-_, _*_, _^_, _≤_, _<_}
 use mathlib.Core.Path.{_≡_, sym, ap, _∙_}
 use native.Mathlib.Omega.{arith}

@@ -1,4 +1,4 @@
--- `endian::put` meets its contract. Assumes nothing.
+-- `endian::put` meets its contract.
 use mathlib.Core.Path.{refl}
 use native.Mathlib.Omega.{arith}
 use lib.ListN.{length}

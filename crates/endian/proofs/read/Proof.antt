@@ -1,4 +1,4 @@
--- `endian::read` meets its contract. Assumes nothing.
+-- `endian::read` meets its contract.
 use Prim.Native.Nat.{ℕ, _+_, _-_, _^_, _<_}
 use mathlib.Core.Path.{_≡_, ap, _∙_}
 use mathlib.Core.List.{List}

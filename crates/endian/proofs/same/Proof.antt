@@ -1,4 +1,4 @@
--- `endian::same` meets its contract: the bytes passed, and those left. Assumes nothing.
+-- `endian::same` meets its contract: the bytes passed, and those left.
 use Prim.Native.Nat.{ℕ, _-_, _≤_}
 use mathlib.Core.Path.{_≡_, refl, sym, _∙_}
 use mathlib.Core.Bool.{_&&_}

@@ -1,4 +1,4 @@
--- `endian::window` meets its contract. Assumes nothing.
+-- `endian::window` meets its contract.
 use Prim.Native.Nat.{ℕ, _-_}
 use mathlib.Core.Path.{sym}
 use mathlib.Core.List.{List}

@@ -1,4 +1,4 @@
--- `endian::write` meets its contract. Assumes nothing.
+-- `endian::write` meets its contract.
 use Prim.Native.Nat.{ℕ, _+_, _-_}
 use mathlib.Core.Path.{_≡_, ap, _∙_}
 use mathlib.Core.List.{List}

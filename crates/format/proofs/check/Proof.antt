@@ -1,4 +1,4 @@
--- `format::check` meets its contract. Assumes nothing.
+-- `format::check` meets its contract.
 use Rattle.format.proofs.Checking.{wrong-size, right-size}
 use borrow.Author.Needs.{needs}
 use Rattle.format.proofs.check.Statement.{statement}

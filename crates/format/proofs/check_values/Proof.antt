@@ -1,4 +1,4 @@
--- `format::check_values` meets its contract, a test at a time. Assumes nothing.
+-- `format::check_values` meets its contract, a test at a time.
 use mathlib.Core.Path.{refl, ap₂}
 use mathlib.Core.Bool.{Bool, _&&_}
 use Rattle.refusal.proofs.Order.{refused, passed}

@@ -1,4 +1,4 @@
--- `format::fill` meets its contract. Assumes nothing.
+-- `format::fill` meets its contract.
 use Rattle.format.proofs.Filling.{part-fits, copy-filled}
 use borrow.Author.Needs.{needs}
 use Rattle.format.proofs.fill.Statement.{statement}
@@ -26,7 +26,7 @@ same-length : tie.Need-same-length
 same-length c = search needs
 
 returns : tie.Need-returns
-returns c = copy-filled (c .before .before .before .before .before .before .before .before .before .before .before .before .before .before .before .before .args .c .now) (c .before .before .before .before .before .before .before .before .before .before .before .before .before .before .before .before .pre) _ (c .before .before .before .before .before .before .before .before .before .before .clear .ensures) (c .before .before .before .before .before .before .before .before .before .before .before .before .before .before .before .before .args .pool .now) (c .before .before .before .before .before .before .before .before .before .before .before .before .before .before .before .before .args .uuid .now) (c .before .before .before .before .before .before .before .before .before .before .before .before .before .before .before .before .args .x) (c .before .before .before .before .before .before .before .before .before .before .before .before .before .before .before .before .args .r .now) _ _ (c .before .before .before .before .before .before .write .ensures .1) (c .before .before .lay .ensures .1)
+returns c = copy-filled (c .before .before .before .before .before .before .before .before .before .before .before .before .before .before .before .before .args .c .now) (c .before .before .before .before .before .before .before .before .before .before .before .before .before .before .before .before .pre) _ (c .before .before .before .before .before .before .before .before .before .before .clear .ensures) (c .before .before .before .before .before .before .before .before .before .before .before .before .before .before .before .before .args .pool .now) (c .before .before .before .before .before .before .before .before .before .before .before .before .before .before .before .before .args .blockdev .now) (c .before .before .before .before .before .before .before .before .before .before .before .before .before .before .before .before .args .x) (c .before .before .before .before .before .before .before .before .before .before .before .before .before .before .before .before .args .r .now) _ _ (c .before .before .before .before .before .before .write .ensures .1) (c .before .before .lay .ensures .1)
 
 pub fill-spec : {M : Type 1} → statement M
 fill-spec =

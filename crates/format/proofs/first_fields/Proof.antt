@@ -1,4 +1,4 @@
--- `format::first_fields` meets its contract. Assumes nothing.
+-- `format::first_fields` meets its contract.
 use lib.ListN.{length}
 use Rattle.layout.proofs.Laws.{length-fits}
 use Rattle.format.proofs.Filling.{fields-made}

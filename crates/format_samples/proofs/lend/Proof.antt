@@ -1,4 +1,4 @@
--- `format_samples::lend` is safe. Assumes nothing.
+-- `format_samples::lend` is safe.
 use mathlib.Core.Path.{sym}
 use lib.Seq.{length-take-le}
 use borrow.Author.Needs.{needs}

@@ -1,4 +1,4 @@
--- `format_samples::samples` meets its contract: each sample ends after it begins. Assumes nothing.
+-- `format_samples::samples` meets its contract: each sample ends after it begins.
 use Prim.Native.Nat.{_-_}
 use mathlib.Core.Path.{_≡_}
 use lib.ListN.{length}

@@ -1,4 +1,4 @@
--- `items::allowed` meets its contract. Assumes nothing.
+-- `items::allowed` meets its contract.
 use mathlib.Core.Path.{ap, _∙_}
 use Rattle.items.specs.Head.{isSegment}
 use Rattle.items.specs.Head.{allows}

@@ -1,4 +1,4 @@
--- `items::begin` meets its contract. Assumes nothing.
+-- `items::begin` meets its contract.
 use Rattle.items.proofs.Making.{begin-short, begin-form, begin-unknown, begin-written, plain-size}
 use Rattle.items.specs.Head.{headSize}
 use lib.ListN.{length}

@@ -1,4 +1,4 @@
--- `items::block_size` meets its contract. Assumes nothing.
+-- `items::block_size` meets its contract.
 use Rattle.items.specs.Head.{blockSize}
 use borrow.Author.Needs.{needs}
 use Rattle.items.proofs.block_size.Statement.{statement}

@@ -1,4 +1,4 @@
--- `items::count_in` meets its contract. Assumes nothing.
+-- `items::count_in` meets its contract.
 use Rattle.items.proofs.Items.{length-segments}
 use mathlib.Core.Path.{sym}
 use Rattle.items.proofs.count_in.Statement.{statement}

@@ -1,4 +1,4 @@
--- `items::count_of` meets its contract. Assumes nothing.
+-- `items::count_of` meets its contract.
 use Rattle.items.specs.Items.{segmentsIn}
 use lib.ListN.{length}
 use mathlib.Core.List.{List}

@@ -1,4 +1,4 @@
--- `items::framed` meets its contract. Assumes nothing.
+-- `items::framed` meets its contract.
 use Rattle.items.proofs.Items.{framed-short, framed-long}
 use Rattle.items.specs.Head.{headOf, headSize}
 use mathlib.Core.Path.{_≡_, sym, ap, _∙_}

@@ -1,4 +1,4 @@
--- `items::head_allowed` meets its contract. Assumes nothing.
+-- `items::head_allowed` meets its contract.
 use Rattle.items.specs.Head.{headAllowed}
 use borrow.Author.Needs.{needs}
 use Rattle.items.proofs.head_allowed.Statement.{statement}

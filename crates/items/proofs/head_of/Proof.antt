@@ -1,4 +1,4 @@
--- `items::head_of` meets its contract. Assumes nothing.
+-- `items::head_of` meets its contract.
 use Rattle.items.specs.Head.{headAs, headOf}
 use mathlib.Core.Path.{sym, ap, _∙_}
 use Rattle.items.specs.declared.Item.{Item}

@@ -1,4 +1,4 @@
--- `items::head_right` meets its contract. Assumes nothing.
+-- `items::head_right` meets its contract.
 use mathlib.Core.Path.{ap, sym, _∙_}
 use Rattle.items.specs.declared.Head.{Head}
 use Rattle.items.specs.Head.{headAllowed, headRight}

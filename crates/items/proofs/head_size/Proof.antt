@@ -1,4 +1,4 @@
--- `items::head_size` meets its contract. Assumes nothing.
+-- `items::head_size` meets its contract.
 use Rattle.items.specs.Head.{headSize}
 use borrow.Author.Needs.{needs}
 use Rattle.items.proofs.head_size.Statement.{statement}

@@ -1,4 +1,4 @@
--- `items::item_at` meets its contract. Assumes nothing.
+-- `items::item_at` meets its contract.
 use Rattle.endian.proofs.Parts.{window-part}
 use Rattle.items.specs.Head.{itemBytes}
 use Prim.Native.Nat.{_*_}

@@ -1,4 +1,4 @@
--- `items::item_of` meets its contract. Assumes nothing.
+-- `items::item_of` meets its contract.
 use Rattle.items.proofs.Heads.{item-unknown}
 use Rattle.items.specs.Head.{itemOf}
 use mathlib.Core.Path.{sym}

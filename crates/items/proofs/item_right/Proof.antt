@@ -1,4 +1,4 @@
--- `items::item_right` meets its contract. Assumes nothing.
+-- `items::item_right` meets its contract.
 use mathlib.Core.List.{List}
 use Prim.Native.Nat.{ℕ}
 use Rattle.items.proofs.Items.{size-item, kind-item}

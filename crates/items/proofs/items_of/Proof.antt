@@ -1,4 +1,4 @@
--- `items::items_of` meets its contract. Assumes nothing.
+-- `items::items_of` meets its contract.
 use Rattle.items.proofs.Items.{items-past, items-are, length-items}
 use Rattle.items.specs.Head.{headOf, headSize}
 use Rattle.items.specs.Items.{itemsOf}

@@ -1,4 +1,4 @@
--- `items::items_right` meets its contract: what was passed is right. Assumes nothing.
+-- `items::items_right` meets its contract: what was passed is right.
 use Rattle.items.specs.Items.{segmentsIn, itemRight}
 use Rattle.items.proofs.Items.{length-segments}
 use Rattle.search.specs.Search.{every}

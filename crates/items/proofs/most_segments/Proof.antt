@@ -1,4 +1,4 @@
--- `items::most_segments` meets its contract. Assumes nothing.
+-- `items::most_segments` meets its contract.
 use Rattle.items.specs.Head.{mostSegments}
 use Rattle.layout.specs.Limits.{recordLimit}
 use Rattle.items.proofs.Heads.{head-small}

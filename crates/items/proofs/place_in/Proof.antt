@@ -1,4 +1,4 @@
--- `items::place_in` meets its contract. Assumes nothing.
+-- `items::place_in` meets its contract.
 use Rattle.items.proofs.Heads.{head-small}
 use Rattle.layout.specs.Limits.{recordLimit}
 use Rattle.items.specs.Head.{headOf, headSize}

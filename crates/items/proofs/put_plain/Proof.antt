@@ -1,4 +1,4 @@
--- `items::put_plain` meets its contract. Assumes nothing.
+-- `items::put_plain` meets its contract.
 use Rattle.items.proofs.Making.{head-written}
 use mathlib.Core.Path.{ap, _∙_}
 use mathlib.Core.List.{List}

@@ -1,4 +1,4 @@
--- `items::put_segment` meets its contract. Assumes nothing.
+-- `items::put_segment` meets its contract.
 use Rattle.items.proofs.Making.{put-short, put-written}
 use native.Mathlib.Omega.{arith}
 use Prim.Native.Nat.{_+_, _<_, _≤_}

@@ -1,4 +1,4 @@
--- `items::range_for` meets its contract. Assumes nothing.
+-- `items::range_for` meets its contract.
 use Rattle.items.specs.Head.{rangeFor}
 use borrow.Author.Needs.{needs}
 use Rattle.items.proofs.range_for.Statement.{statement}

@@ -1,4 +1,4 @@
--- `items::segment_at` meets its contract. Assumes nothing.
+-- `items::segment_at` meets its contract.
 use Rattle.items.specs.Items.{segmentsIn}
 use Rattle.segments.specs.Segments.{nth}
 use mathlib.Core.List.{List}

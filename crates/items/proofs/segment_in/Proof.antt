@@ -1,4 +1,4 @@
--- `items::segment_in` meets its contract. Assumes nothing.
+-- `items::segment_in` meets its contract.
 use Rattle.items.proofs.Items.{nth-segments, nth-past}
 use Rattle.items.specs.Head.{itemBytes}
 use mathlib.Core.Path.{sym, ap, _∙_}

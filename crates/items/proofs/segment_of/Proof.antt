@@ -1,4 +1,4 @@
--- `items::segment_of` meets its contract. Assumes nothing.
+-- `items::segment_of` meets its contract.
 use Rattle.items.specs.Items.{segmentOf}
 use borrow.Author.Needs.{needs}
 use Rattle.items.proofs.segment_of.Statement.{statement}

@@ -1,4 +1,4 @@
--- `items::well_formed` meets its contract. Assumes nothing.
+-- `items::well_formed` meets its contract.
 use Rattle.items.specs.Items.{itemRight, segmentsIn, wellFormed}
 use Rattle.search.specs.Search.{every}
 use lib.ListN.{length}

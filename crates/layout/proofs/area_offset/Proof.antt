@@ -1,4 +1,4 @@
--- `layout::area_offset` meets its contract. Assumes nothing.
+-- `layout::area_offset` meets its contract.
 use Rattle.layout.specs.Limits.{recordLimit}
 use Rattle.layout.specs.Places.{areaOffset}
 use borrow.Author.Needs.{needs}

@@ -1,4 +1,4 @@
--- `layout::block_sector` meets its contract. Assumes nothing.
+-- `layout::block_sector` meets its contract.
 use borrow.Author.Needs.{needs}
 use Rattle.layout.proofs.block_sector.Statement.{statement}
 use Rattle.layout.proofs.block_sector.Tie as tie
@@ -9,14 +9,14 @@ enum-told c = search needs
 enum-told-2 : tie.Need-enum-told-2
 enum-told-2 c = search needs
 
-less-requires : tie.Need-less-requires
-less-requires c κs = search needs
+saturating-sub-requires : tie.Need-saturating-sub-requires
+saturating-sub-requires c κs = search needs
 
 returns : tie.Need-returns
 returns c = search needs
 
 returns-2 : tie.Need-returns-2
-returns-2 c = rw (c .before .enum-told2 .given .1) (c .less .ensures)
+returns-2 c = rw (c .before .enum-told2 .given .1) (c .saturating-sub .ensures)
 
 pub block-sector-spec : {M : Type 1} → statement M
-block-sector-spec = tie.close (tie.spec enum-told enum-told-2 less-requires returns returns-2)
+block-sector-spec = tie.close (tie.spec enum-told enum-told-2 saturating-sub-requires returns returns-2)

@@ -1,4 +1,4 @@
--- `layout::check` meets its contract, a test at a time. Assumes nothing.
+-- `layout::check` meets its contract, a test at a time.
 use mathlib.Core.Path.{sym}
 use Rattle.refusal.proofs.Order.{refused, passed, first-nil}
 use borrow.Author.Needs.{needs}

@@ -1,4 +1,4 @@
--- `layout::copy_bytes` meets its contract. Assumes nothing.
+-- `layout::copy_bytes` meets its contract.
 use mathlib.Core.Path.{refl}
 use Rattle.layout.specs.Limits.{recordLimit}
 use Rattle.layout.specs.Places.{copyBytes}

@@ -1,5 +1,4 @@
 -- `layout::length_allowed` meets its contract; with the constant in src/, the one place that looks at the limit's value.
--- Assumes nothing.
 use mathlib.Core.Path.{refl}
 use Rattle.layout.specs.Limits.{recordLimit, lengthAllowed}
 use Rattle.layout.proofs.length_allowed.Statement.{statement}

@@ -1,12 +1,12 @@
--- `layout::locate` meets its contract. Assumes nothing.
+-- `layout::locate` meets its contract.
 use Prim.Native.Nat.{ℕ}
 use mathlib.Core.Path.{_≡_, sym, ap, _∙_}
 use mathlib.Core.Bool.{Bool, cond}
 use borrow.Author.Tests.{ne-eqb}
 use Rattle.refusal.specs.Tests.{first}
-use Rattle.layout.specs.declared.Placement.the-variants.{At, Refused}
+use Rattle.layout.specs.declared.Located.the-variants.{At, Refused}
 use Rattle.layout.specs.Limits.{deviceTests}
-use Rattle.layout.specs.Places.{placesOf, placed}
+use Rattle.layout.specs.Places.{mapOf, locatedAt}
 use borrow.Author.Needs.{needs}
 use Rattle.layout.proofs.locate.Statement.{statement}
 use Rattle.layout.proofs.locate.Tie as tie
@@ -17,8 +17,8 @@ check-requires c κs = search needs
 returns : tie.Need-returns
 returns c =
     let n : ℕ = c .before .check .result in
-    ap (λ (b : Bool). cond b (At (placesOf (c .before .before .args .d))) (Refused n)) (sym (ne-eqb n 0 (c .if1 .taken)))
-    ∙ ap (λ (m : ℕ). placed m (placesOf (c .before .before .args .d))) (c .before .check .ensures)
+    ap (λ (b : Bool). cond b (At (mapOf (c .before .before .args .d))) (Refused n)) (sym (ne-eqb n 0 (c .if1 .taken)))
+    ∙ ap (λ (m : ℕ). locatedAt m (mapOf (c .before .before .args .d))) (c .before .check .ensures)
 
 cast-l : tie.Need-cast-l
 cast-l c = search needs
@@ -35,8 +35,8 @@ area-sector-requires-2 c κs = search needs
 add-t15 : tie.Need-add-t15
 add-t15 c = search needs
 
-less-requires : tie.Need-less-requires
-less-requires c κs = search needs
+saturating-sub-requires : tie.Need-saturating-sub-requires
+saturating-sub-requires c κs = search needs
 
 block-sector-requires-2 : tie.Need-block-sector-requires-2
 block-sector-requires-2 c κs = search needs
@@ -64,7 +64,7 @@ returns-2 c =
       c .before .before .before .before .before .before .before .before .before .block-sector .ensures,
       c .before .before .before .before .before .before .before .before .area-sector .ensures,
       c .before .before .before .before .before .before .before .area-sector2 .ensures,
-      c .before .before .before .before .before .before .less .ensures,
+      c .before .before .before .before .before .before .saturating-sub .ensures,
       c .before .before .before .before .before .block-sector2 .ensures,
       c .before .before .before .before .area-sector3 .ensures,
       c .before .before .before .area-sector4 .ensures,
@@ -84,7 +84,7 @@ locate-spec =
     area-sector-requires
     area-sector-requires-2
     add-t15
-    less-requires
+    saturating-sub-requires
     block-sector-requires-2
     area-sector-requires-3
     area-sector-requires-4

@@ -1,4 +1,4 @@
--- `mend::count` meets its contract. Assumes nothing.
+-- `mend::count` meets its contract.
 use Rattle.mend.proofs.Choosing.{count-fits, needed-count}
 use borrow.Author.Needs.{needs}
 use Rattle.mend.proofs.count.Statement.{statement}

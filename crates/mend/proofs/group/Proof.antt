@@ -1,4 +1,4 @@
--- `mend::group` meets its contract. Assumes nothing.
+-- `mend::group` meets its contract.
 use Rattle.mend.proofs.Choosing.{needed-group}
 use borrow.Author.Needs.{needs}
 use Rattle.mend.proofs.group.Statement.{statement}

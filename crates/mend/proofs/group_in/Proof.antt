@@ -1,4 +1,4 @@
--- `mend::group_in` meets its contract. Assumes nothing.
+-- `mend::group_in` meets its contract.
 use Rattle.mend.proofs.Choosing.{past-last, in-first, in-record, in-second, in-last}
 use borrow.Author.Needs.{needs}
 use Rattle.mend.proofs.group_in.Statement.{statement}

@@ -1,4 +1,4 @@
--- `mend::last_store` meets its contract. Assumes nothing.
+-- `mend::last_store` meets its contract.
 use Rattle.mend.proofs.Planning.{last-absent, last-blank}
 use borrow.Author.Needs.{needs}
 use Rattle.mend.proofs.last_store.Statement.{statement}

@@ -1,4 +1,4 @@
--- `mend::plan_for` meets its contract. Assumes nothing.
+-- `mend::plan_for` meets its contract.
 use Rattle.mend.proofs.Planning.{rewrite-made}
 use borrow.Author.Needs.{needs}
 use Rattle.mend.proofs.plan_for.Statement.{statement}

@@ -1,4 +1,4 @@
--- `mend::put_last` meets its contract. Assumes nothing.
+-- `mend::put_last` meets its contract.
 use Rattle.mend.proofs.Choosing.{absent-put, blank-put}
 use borrow.Author.Needs.{needs}
 use Rattle.mend.proofs.put_last.Statement.{statement}

@@ -1,4 +1,4 @@
--- `mend::put_rewrite` meets its contract. Assumes nothing.
+-- `mend::put_rewrite` meets its contract.
 use Rattle.mend.proofs.Choosing.{first-store, part-store, last-stored, no-such}
 use borrow.Author.Needs.{needs}
 use Rattle.mend.proofs.put_rewrite.Statement.{statement}

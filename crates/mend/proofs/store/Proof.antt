@@ -1,4 +1,4 @@
--- `mend::store` meets its contract. Assumes nothing.
+-- `mend::store` meets its contract.
 use mathlib.Core.Path.{refl}
 use Rattle.update.proofs.Choosing.{sizes-wrong, sizes-right}
 use Rattle.mend.specs.declared.Mending.the-variants as Mending

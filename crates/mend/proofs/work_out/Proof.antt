@@ -1,4 +1,4 @@
--- `mend::work_out` meets its contract. Assumes nothing.
+-- `mend::work_out` meets its contract.
 use Rattle.mend.proofs.Planning.{mend-refused, mend-none, mend-needed}
 use Rattle.discovery.specs.declared.View.{View}
 use mathlib.Core.Path.{ap}

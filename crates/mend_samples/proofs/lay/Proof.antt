@@ -1,4 +1,4 @@
--- `mend_samples::lay` meets its contract: a patch takes at most 65,540 bytes of s. Assumes nothing.
+-- `mend_samples::lay` meets its contract: a patch takes at most 65,540 bytes of s.
 use Prim.Native.Nat.{_+_, _*_, _≤_}
 use mathlib.Core.Path.{_≡_}
 use lib.ListN.{length}

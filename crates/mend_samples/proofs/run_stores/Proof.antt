@@ -1,4 +1,4 @@
--- `mend_samples::run_stores` is safe and ends: i counts up to n. Assumes nothing.
+-- `mend_samples::run_stores` is safe and ends: i counts up to n.
 use Prim.Native.Nat.{_-_, _≤_}
 use mathlib.Core.Path.{_≡_}
 use lib.ListN.{length}

@@ -1,4 +1,4 @@
--- `mend_samples::samples` meets its contract: each sample ends after it begins. Assumes nothing.
+-- `mend_samples::samples` meets its contract: each sample ends after it begins.
 use Prim.Native.Nat.{_-_}
 use mathlib.Core.Path.{_≡_}
 use lib.ListN.{length}

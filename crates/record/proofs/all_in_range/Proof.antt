@@ -1,4 +1,4 @@
--- `record::all_in_range` meets its contract: what was passed lies in its range. Assumes nothing.
+-- `record::all_in_range` meets its contract: what was passed lies in its range.
 use Rattle.layout.specs.declared.Device.{Device}
 use Rattle.items.specs.declared.Head.{Head}
 use Rattle.record.specs.Accept.{rangeAt, allInRange}

@@ -1,4 +1,4 @@
--- `record::check_content` meets its contract. Assumes nothing.
+-- `record::check_content` meets its contract.
 use Rattle.record.proofs.Checking.{checked-number}
 use borrow.Author.Needs.{needs}
 use Rattle.record.proofs.check_content.Statement.{statement}

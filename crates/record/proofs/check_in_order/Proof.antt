@@ -1,4 +1,4 @@
--- `record::check_in_order` meets its contract. Assumes nothing.
+-- `record::check_in_order` meets its contract.
 use Rattle.record.proofs.Checking.{checked-no}
 use Rattle.record.proofs.Testing.{check-no, check-yes}
 use Rattle.record.specs.Accept.{contentTests, checked}

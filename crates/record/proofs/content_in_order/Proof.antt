@@ -1,4 +1,4 @@
--- `record::content_in_order` meets its contract, a test at a time. Assumes nothing.
+-- `record::content_in_order` meets its contract, a test at a time.
 use Rattle.record.proofs.Checking.{checked-no, checked-yes, ordered-apart, tested}
 use Rattle.refusal.proofs.Order.{refused, passed, first-nil}
 use Rattle.record.specs.Accept.{allInRange, contentTests}

@@ -1,4 +1,4 @@
--- `record::first_clash` meets its contract. Assumes nothing.
+-- `record::first_clash` meets its contract.
 use mathlib.Core.Path.{refl}
 use Rattle.refusal.proofs.Order.{refused, passed, first-nil, answer-no, answer-yes}
 use Rattle.refusal.specs.Tests.{first}

@@ -1,4 +1,4 @@
--- `record::read_count` meets its contract. Assumes nothing.
+-- `record::read_count` meets its contract.
 use Rattle.refusal.proofs.Order.{answer-no, answer-yes}
 use Rattle.refusal.specs.Tests.{first}
 use Rattle.record.specs.Accept.{recordTests}

@@ -1,4 +1,4 @@
--- `record::read_segment` meets its contract. Assumes nothing.
+-- `record::read_segment` meets its contract.
 use Rattle.refusal.proofs.Order.{answer-no, answer-yes}
 use Rattle.record.proofs.Testing.{more-no, more-yes, position-past, position-there}
 use Rattle.refusal.specs.Tests.{first}

@@ -1,4 +1,4 @@
--- `record::read_segments` meets its contract. Assumes nothing.
+-- `record::read_segments` meets its contract.
 use borrow.Author.Needs.{needs}
 use Rattle.record.proofs.Handing.{hands-refused, hands-none, hands-short, hands-some}
 use Rattle.record.proofs.read_segments.Statement.{statement}

@@ -1,4 +1,4 @@
--- `record::refused` meets its contract. Assumes nothing.
+-- `record::refused` meets its contract.
 use borrow.Author.Needs.{needs}
 use Rattle.record.proofs.refused.Statement.{statement}
 use Rattle.record.proofs.refused.Tie as tie

@@ -1,4 +1,4 @@
--- `record_samples::fill` is safe and ends. Assumes nothing.
+-- `record_samples::fill` is safe and ends.
 use lib.ListN.{length}
 use borrow.Author.Needs.{needs}
 use native.Mathlib.Omega.{arith}

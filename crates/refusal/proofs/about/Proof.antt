@@ -1,4 +1,4 @@
--- `refusal::about` meets its contract, an arm at a time. Assumes nothing.
+-- `refusal::about` meets its contract, an arm at a time.
 use mathlib.Core.Path.{sym}
 use lib.ListN.{List·getD-eq-default}
 use Rattle.refusal.specs.declared.Subject.the-variants.{Unknown}

@@ -1,6 +1,6 @@
 -- `run_table_samples::fill` meets its contract: a walk of its MIR, by hand, since the borrow checker covers no slice of
 -- structs. The array is lent for a lifetime that is made for the call, and is taken back at the entries that `free_runs_of`
--- left. All that the proof knows of `free_runs_of` is that it meets its contract. Assumes nothing.
+-- left. All that the proof knows of `free_runs_of` is that it meets its contract.
 use mathlib.Core.Path.{_≡_, refl, sym, subst, _∙_}
 use Prim.Native.Nat.{ℕ, _<_, _^_}
 use mathlib.Core.List.{List, [], _∷_, map}
@@ -53,15 +53,15 @@ use Rattle.layout.specs.declared.Device.{Device}
 use Rattle.runs.specs.declared.Run.{Run}
 use Rattle.runs.proofs.Run as R
 use Rattle.runs.proofs.Run.Laws as R′
-use Rattle.room.specs.declared.RunCount.{RunCount}
-use Rattle.room.specs.Answers.{tableAnswer, tableLeft}
-use Rattle.room.proofs.Hand.{word, half, bytes, lent}
-use Rattle.room.proofs.RunCount as N
-use Rattle.room.proofs.RunCount.Laws as N′
-use Rattle.room.proofs.free_runs_of as free-runs-of
-use Rattle.room.proofs.free_runs_of.Symbol as free-runs-of-def
-use Rattle.room.proofs.free_runs_of.Symbol.{name as #room·free-runs-of}
-use Rattle.room.proofs.free_runs_of.Met as free-runs-of-thm
+use Rattle.allocation.specs.declared.RunCount.{RunCount}
+use Rattle.allocation.specs.Answers.{tableAnswer, tableLeft}
+use Rattle.allocation.proofs.Hand.{word, half, bytes, lent}
+use Rattle.allocation.proofs.RunCount as N
+use Rattle.allocation.proofs.RunCount.Laws as N′
+use Rattle.allocation.proofs.free_runs_of as free-runs-of
+use Rattle.allocation.proofs.free_runs_of.Symbol as free-runs-of-def
+use Rattle.allocation.proofs.free_runs_of.Symbol.{name as #allocation·free-runs-of}
+use Rattle.allocation.proofs.free_runs_of.Met as free-runs-of-thm
 use Rattle.run_table_samples.specs.declared.Filled.{Filled}
 use Rattle.run_table_samples.proofs.Filled as F
 use Rattle.run_table_samples.proofs.Filled.Laws as F′
@@ -194,7 +194,7 @@ module _ {M : Type 1} (𝓤 : URA M) (H : Heap 𝓤) (A : Atoms 𝓤) (W : Given
         owned ! u32 (Is u32) (uint-makes 𝓤 H A W w32) n _ (refl, n-fits) $ fjoin ! $ owned ! u32 (Is u32) (uint-makes 𝓤 H A W w32) m _ (refl, m-fits) $ fjoin ! $ owned ! u64 (Is u64) (uint-makes 𝓤 H A W w64) x _ (refl, x-fits) $ fjoin ! $ frame ! $
         owned ! F.the-row (Is F.the-row) (LL.makes F.the-type F′.the-plain 𝓤 H A) (result r zs) _ (is-result r zs w v is-r is-z) $ done !
 
-    module _ (𝓣 : Tables 𝓤 H) (known-runs : Triple 𝓤 (𝓣 .C #room·free-runs-of) (FreeRunsOf 𝓤 H A mem′ run)) (l₀ l₁ l₂ l₃ l₄ l₅ l₆ l₇ l₈ l₉ l₁₀ : ℕ) where
+    module _ (𝓣 : Tables 𝓤 H) (known-runs : Triple 𝓤 (𝓣 .C #allocation·free-runs-of) (FreeRunsOf 𝓤 H A mem′ run)) (l₀ l₁ l₂ l₃ l₄ l₅ l₆ l₇ l₈ l₉ l₁₀ : ℕ) where
       abbrev C : Calls 𝓤 H
       C = 𝓣 .C
 
@@ -244,7 +244,7 @@ module _ {M : Type 1} (𝓤 : URA M) (H : Heap 𝓤) (A : Atoms 𝓤) (W : Given
           move ! (25 ∷ 26 ∷ []) $ free1 ! $ move ! (23 ∷ 24 ∷ []) $ free1 ! $ move ! (21 ∷ 22 ∷ []) $ free1 ! $ move ! (19 ∷ 20 ∷ []) $ free1 ! $ move ! (17 ∷ 18 ∷ []) $ free1 ! $ move ! (15 ∷ 16 ∷ []) $ free1 ! $ move ! (0 ∷ 14 ∷ []) $ free1 ! $ move ! (11 ∷ 12 ∷ []) $ free1 ! $ move ! (9 ∷ 10 ∷ []) $ free1 ! $ move ! (7 ∷ 8 ∷ []) $ free1 ! $ move ! (5 ∷ 6 ∷ []) $ free1 ! $ free0 ! $
           keep ! (1 ∷ 4 ∷ []) $ by ! (exits r (zs .1 .1 .1 .1 .0) w v is-r is-z f g)))))))))))))
 
-    walk : (𝓣 : Tables 𝓤 H) → Triple 𝓤 (𝓣 .C #room·free-runs-of) (FreeRunsOf 𝓤 H A mem′ run)
+    walk : (𝓣 : Tables 𝓤 H) → Triple 𝓤 (𝓣 .C #allocation·free-runs-of) (FreeRunsOf 𝓤 H A mem′ run)
         → ent 𝓤 (onEntry 𝓤 H A fill.signature (κ, tt) (q, tt) a vals) (WpFn 𝓤 H (𝓣 .C) (𝓣 .Λ) function (vint w64 x ∷ vint w32 m ∷ vint w32 n ∷ sv ∷ av ∷ []) Post)
     walk 𝓣 known-runs =
         qed W ((‵ (flft κ q) ⊛ ‵ ftrue) ∷ ‵ (owns (u64 ∷ u32 ∷ u32 ∷ ShrSlice (named 0) κ u8 ∷ Three ∷ []) a vals) ∷ []) ∵ enter ! (𝓣 .C) (𝓣 .Λ) function (vint w64 x ∷ vint w32 m ∷ vint w32 n ∷ sv ∷ av ∷ []) _ $
@@ -252,7 +252,7 @@ module _ {M : Type 1} (𝓤 : URA M) (H : Heap 𝓤) (A : Atoms 𝓤) (W : Given
         pass1 ! (init ! 18 refl (tt, record { fits = x-fits })) $ pass1 ! (init ! 16 refl (tt, record { fits = m-fits })) $ pass1 ! (init ! 14 refl (tt, record { fits = n-fits })) $ pass1 ! (init ! 12 refl (shr-slice-lawful 𝓤 H A W (named 0) κ u8 .typed s (sv ∷ []) is-s .0)) $ pass1 ! (init ! 10 refl (array-lawful 𝓤 H A W R.the-row (LL.lawful R.the-type R′.the-laws 𝓤 H A W) 3 .typed ys (av ∷ []) is-t .0)) $ pass0 ! $
         by ! (starts 𝓣 known-runs l₀ l₁ l₂ l₃ l₄ l₅ l₆ l₇ l₈ l₉ l₁₀))))))))))))
 
-module _ {M : Type 1} (𝓤 : URA M) (H : Heap 𝓤) (A : Atoms 𝓤) (W : Given 𝓤 H A) (mem : Memory → SProp 𝓤) (run : Routine → Fun 𝓤) (𝓣 : Tables 𝓤 H) (known-runs : Triple 𝓤 (𝓣 .C #room·free-runs-of) (FreeRunsOf 𝓤 H A mem run)) where
+module _ {M : Type 1} (𝓤 : URA M) (H : Heap 𝓤) (A : Atoms 𝓤) (W : Given 𝓤 H A) (mem : Memory → SProp 𝓤) (run : Routine → Fun 𝓤) (𝓣 : Tables 𝓤 H) (known-runs : Triple 𝓤 (𝓣 .C #allocation·free-runs-of) (FreeRunsOf 𝓤 H A mem run)) where
   fill-walks : Walks 𝓤 H A fill.ended stayed (WpFn 𝓤 H (𝓣 .C) (𝓣 .Λ) function) (fill.clauses 𝓤 H A mem run)
   fill-walks = walked 𝓤 H A fill.ended stayed (fill.clauses 𝓤 H A mem run) (WpFn 𝓤 H (𝓣 .C) (𝓣 .Λ) function)
       (λ κs. (uint-vals w64, (uint-vals w32, (uint-vals w32, (slice-vals, (array-vals (LL.vals R.the-type R′.the-laws), tt)))))) (λ κs. (uint-tells w64, (uint-tells w32, (uint-tells w32, (shr-slice-tells (named 0) (κs .0) u8, (array-tells R.the-row (LL.vals R.the-type R′.the-laws) (LL.tells R.the-type R′.the-laws) 3, tt))))))
@@ -273,4 +273,4 @@ fill-spec 𝓤 H 𝓜 𝓖 𝓡 =
     (tables 𝓤 H 𝓜 𝓡 code.env .C) (tables 𝓤 H 𝓜 𝓡 code.env .Λ) #fill code.function (code.unfolded 𝓤 H 𝓜 𝓡)
     (subst (λ (f : Fn). Meets 𝓤 H (𝓖 .A) fill.signature (WpFn 𝓤 H (tables 𝓤 H 𝓜 𝓡 code.env .C) (tables 𝓤 H 𝓜 𝓡 code.env .Λ) f) (fill.spec 𝓤 H (𝓖 .A) (𝓜 .mem) (𝓡 .run))) function-is
     (fill-meets 𝓤 H (𝓖 .A) (givenOf 𝓤 H 𝓜 𝓖) (𝓜 .mem) (𝓡 .run) (tablesOf 𝓤 H 𝓜 (tables 𝓤 H 𝓜 𝓡 code.env))
-    (cited 𝓤 H (FreeRunsOf 𝓤 H (𝓖 .A) (𝓜 .mem) (𝓡 .run)) 𝓜 𝓡 code.env #room·free-runs-of free-runs-of-def.routine code.calls-room·free-runs-of (free-runs-of-thm.met 𝓤 H 𝓜 𝓖 𝓡))))
+    (cited 𝓤 H (FreeRunsOf 𝓤 H (𝓖 .A) (𝓜 .mem) (𝓡 .run)) 𝓜 𝓡 code.env #allocation·free-runs-of free-runs-of-def.routine code.calls-allocation·free-runs-of (free-runs-of-thm.met 𝓤 H 𝓜 𝓖 𝓡))))

@@ -1,4 +1,4 @@
--- `sectors::all_pass` meets its contract: the sectors passed pass. Assumes nothing.
+-- `sectors::all_pass` meets its contract: the sectors passed pass.
 use Prim.Native.Nat.{_≤_, _-_}
 use mathlib.Core.Path.{_≡_, ap₂}
 use mathlib.Core.Bool.{Bool, true, not, _||_}

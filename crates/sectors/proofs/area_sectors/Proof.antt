@@ -1,7 +1,7 @@
--- `sectors::area_sectors` meets its contract. Assumes nothing.
+-- `sectors::area_sectors` meets its contract.
 use mathlib.Core.Path.{refl}
 use Rattle.layout.specs.Limits.{recordLimit}
-use Rattle.device.specs.Device.{areaSectors}
+use Rattle.crash.specs.Crash.{areaSectors}
 use Rattle.sectors.proofs.area_sectors.Statement.{statement}
 use Rattle.sectors.proofs.area_sectors.Tie as tie
 

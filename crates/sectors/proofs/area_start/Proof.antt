@@ -1,4 +1,4 @@
--- `sectors::area_start` meets its contract. Assumes nothing.
+-- `sectors::area_start` meets its contract.
 use Prim.Native.Nat.{ℕ, _/_}
 use mathlib.Core.Path.{ap}
 use Rattle.sectors.specs.Sectors.{areaStart}

@@ -1,4 +1,4 @@
--- `sectors::copy_sectors` meets its contract. Assumes nothing.
+-- `sectors::copy_sectors` meets its contract.
 use Prim.Native.Nat.{ℕ, _/_}
 use mathlib.Core.Path.{ap}
 use Rattle.sectors.specs.Sectors.{copySectors}

@@ -1,4 +1,4 @@
--- `sectors::header_sector` meets its contract. Assumes nothing.
+-- `sectors::header_sector` meets its contract.
 use native.Mathlib.Omega.{arith}
 use borrow.Author.Needs.{needs}
 use Rattle.sectors.proofs.header_sector.Statement.{statement}

@@ -1,4 +1,4 @@
--- `sectors::is_read` meets its contract. Assumes nothing.
+-- `sectors::is_read` meets its contract.
 use Rattle.sectors.proofs.Calls.{mark-there, mark-missing}
 use borrow.Author.Needs.{needs}
 use Rattle.sectors.proofs.is_read.Statement.{statement}

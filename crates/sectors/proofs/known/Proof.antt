@@ -1,4 +1,4 @@
--- `sectors::known` meets its contract. Assumes nothing.
+-- `sectors::known` meets its contract.
 use mathlib.Core.Path.{ap, _∙_}
 use Rattle.block.specs.Block.{reading}
 use Rattle.sectors.proofs.Calls.{known-by}

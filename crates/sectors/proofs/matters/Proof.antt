@@ -1,4 +1,4 @@
--- `sectors::matters` meets its contract. Assumes nothing.
+-- `sectors::matters` meets its contract.
 use mathlib.Core.Path.{ap, _∙_}
 use Rattle.block.specs.Block.{reading}
 use Rattle.sectors.proofs.Calls.{matters-by}

@@ -1,4 +1,4 @@
--- `sectors::matters_for` meets its contract. Assumes nothing.
+-- `sectors::matters_for` meets its contract.
 use borrow.Author.Needs.{needs}
 use Rattle.sectors.proofs.matters_for.Statement.{statement}
 use Rattle.sectors.proofs.matters_for.Tie as tie

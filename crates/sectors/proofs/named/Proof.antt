@@ -1,4 +1,4 @@
--- `sectors::named` meets its contract. Assumes nothing.
+-- `sectors::named` meets its contract.
 use Rattle.sectors.proofs.Calls.{fewest}
 use borrow.Author.Needs.{needs}
 use Rattle.sectors.proofs.named.Statement.{statement}

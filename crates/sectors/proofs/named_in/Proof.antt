@@ -1,4 +1,4 @@
--- `sectors::named_in` meets its contract. Assumes nothing.
+-- `sectors::named_in` meets its contract.
 use Rattle.sectors.proofs.Calls.{by-before, by-past, by-inside}
 use borrow.Author.Needs.{needs}
 use Rattle.sectors.proofs.named_in.Statement.{statement}

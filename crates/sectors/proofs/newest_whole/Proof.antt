@@ -1,4 +1,4 @@
--- `sectors::newest_whole` meets its contract. Assumes nothing.
+-- `sectors::newest_whole` meets its contract.
 use borrow.Author.Needs.{needs}
 use Rattle.sectors.proofs.newest_whole.Statement.{statement}
 use Rattle.sectors.proofs.newest_whole.Tie as tie

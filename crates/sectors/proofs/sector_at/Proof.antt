@@ -1,4 +1,4 @@
--- `sectors::sector_at` meets its contract. Assumes nothing.
+-- `sectors::sector_at` meets its contract.
 use Rattle.sectors.proofs.Calls.{at-none, at-header, at-area-a, at-area-b}
 use borrow.Author.Needs.{needs}
 use Rattle.sectors.proofs.sector_at.Statement.{statement}

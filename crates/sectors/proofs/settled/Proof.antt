@@ -1,4 +1,4 @@
--- `sectors::settled` meets its contract. Assumes nothing.
+-- `sectors::settled` meets its contract.
 use mathlib.Core.Path.{ap₂}
 use mathlib.Core.Bool.{Bool, _&&_}
 use Rattle.sectors.specs.Sectors.{settled}

@@ -1,4 +1,4 @@
--- `sectors::sum_below` meets its contract. Assumes nothing.
+-- `sectors::sum_below` meets its contract.
 use native.Mathlib.Omega.{arith}
 use Rattle.sectors.proofs.Calls.{below-past, below-is}
 use borrow.Author.Needs.{needs}

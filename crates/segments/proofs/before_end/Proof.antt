@@ -1,4 +1,4 @@
--- `segments::before_end` meets its contract. Assumes nothing.
+-- `segments::before_end` meets its contract.
 use Prim.Native.Nat.{_<_, _+_}
 use Rattle.segments.proofs.Segments.{ltb-shift}
 use borrow.Author.Tests.{lt-ltb}

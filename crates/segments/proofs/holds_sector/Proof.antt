@@ -1,4 +1,4 @@
--- `segments::holds_sector` meets its contract. Assumes nothing.
+-- `segments::holds_sector` meets its contract.
 use Rattle.segments.specs.Segments.{holds}
 use borrow.Author.Needs.{needs}
 use Rattle.segments.proofs.holds_sector.Statement.{statement}

@@ -1,4 +1,4 @@
--- `segments::in_range` meets its contract. Assumes nothing.
+-- `segments::in_range` meets its contract.
 use Rattle.segments.proofs.Segments.{range-past, range-by}
 use Prim.Native.Nat.{_<_, _≤_}
 use mathlib.Core.Path.{sym}

@@ -1,4 +1,4 @@
--- `segments::meet` meets its contract. Assumes nothing.
+-- `segments::meet` meets its contract.
 use Rattle.segments.specs.Segments.{meets}
 use borrow.Author.Needs.{needs}
 use Rattle.segments.proofs.meet.Statement.{statement}

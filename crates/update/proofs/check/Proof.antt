@@ -1,4 +1,4 @@
--- `update::check` meets its contract. Assumes nothing.
+-- `update::check` meets its contract.
 use mathlib.Core.Path.{ap, _∙_}
 use Rattle.refusal.specs.Tests.{first}
 use Rattle.discovery.specs.declared.View.{View}

@@ -1,4 +1,4 @@
--- `update::check_after` meets its contract, a test at a time. Assumes nothing.
+-- `update::check_after` meets its contract, a test at a time.
 use Rattle.record.specs.Accept.{contentTests}
 use Rattle.block.specs.Block.{fieldsOf}
 use Rattle.block.specs.declared.BlockFields.{BlockFields}

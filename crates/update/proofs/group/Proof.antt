@@ -1,4 +1,4 @@
--- `update::group` meets its contract. Assumes nothing.
+-- `update::group` meets its contract.
 use Rattle.update.proofs.Choosing.{in-front-area, in-front-block, in-back-area, in-back-block, in-none}
 use borrow.Author.Needs.{needs}
 use Rattle.update.proofs.group.Statement.{statement}

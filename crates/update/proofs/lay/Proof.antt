@@ -1,4 +1,4 @@
--- `update::lay` meets its contract. Assumes nothing.
+-- `update::lay` meets its contract.
 use Prim.Native.Nat.{ℕ, _+_, _*_, _/_, _≤_}
 use mathlib.Core.Path.{ap}
 use native.Mathlib.Omega.{arith}

@@ -1,4 +1,4 @@
--- `update::put_block` meets its contract. Assumes nothing.
+-- `update::put_block` meets its contract.
 use Prim.Native.Nat.{ℕ}
 use mathlib.Core.Path.{ap, _∙_}
 use mathlib.Core.List.{List}

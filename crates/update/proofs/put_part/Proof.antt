@@ -1,4 +1,4 @@
--- `update::put_part` meets its contract. Assumes nothing.
+-- `update::put_part` meets its contract.
 use Rattle.update.proofs.Choosing.{no-number, area-sector, part-block}
 use borrow.Author.Needs.{needs}
 use Rattle.update.proofs.put_part.Statement.{statement}

@@ -1,4 +1,4 @@
--- `update::put_sector` meets its contract. Assumes nothing.
+-- `update::put_sector` meets its contract.
 use Prim.Native.Nat.{ℕ}
 use mathlib.Core.Path.{ap₂, _∙_}
 use mathlib.Core.List.{List}

@@ -1,4 +1,4 @@
--- `update::sectors` meets its contract. Assumes nothing.
+-- `update::sectors` meets its contract.
 use mathlib.Core.Path.{refl}
 use Rattle.update.specs.Update.{sectorsOf}
 use borrow.Author.Needs.{needs}

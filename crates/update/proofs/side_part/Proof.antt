@@ -1,4 +1,4 @@
--- `update::side_part` meets its contract. Assumes nothing.
+-- `update::side_part` meets its contract.
 use Rattle.update.proofs.Planning.{part-made}
 use borrow.Author.Needs.{needs}
 use Rattle.update.proofs.side_part.Statement.{statement}

@@ -1,4 +1,4 @@
--- `update::store` meets its contract. Assumes nothing.
+-- `update::store` meets its contract.
 use Rattle.update.proofs.Choosing.{test-fails, test-holds, sizes-wrong, sizes-right, wrong-size, wrong-length, no-store, front-store, back-store}
 use borrow.Author.Needs.{needs}
 use Rattle.update.proofs.store.Statement.{statement}

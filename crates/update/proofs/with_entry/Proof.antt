@@ -1,4 +1,4 @@
--- `update::with_entry` meets its contract. Assumes nothing.
+-- `update::with_entry` meets its contract.
 use mathlib.Core.Path.{sym, ap}
 use Rattle.layout.specs.declared.Area.{Area}
 use Rattle.update.specs.Update.{withEntry}

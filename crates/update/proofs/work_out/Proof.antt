@@ -1,4 +1,4 @@
--- `update::work_out` meets its contract. Assumes nothing.
+-- `update::work_out` meets its contract.
 use Rattle.update.proofs.Planning.{record-small, plan-refused, plan-ready}
 use borrow.Author.Needs.{needs}
 use Rattle.update.proofs.work_out.Statement.{statement}

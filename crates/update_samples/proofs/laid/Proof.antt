@@ -1,4 +1,4 @@
--- `update_samples::laid` is safe. Assumes nothing.
+-- `update_samples::laid` is safe.
 use Prim.Native.Nat.{_≤_}
 use native.Mathlib.Omega.{arith}
 use lib.ListN.{length, length-take}

@@ -1,4 +1,4 @@
--- `update_samples::print_plan` is safe and ends: i counts up to n. Assumes nothing.
+-- `update_samples::print_plan` is safe and ends: i counts up to n.
 use Prim.Native.Nat.{_-_, _≤_}
 use borrow.Author.Needs.{needs}
 use Rattle.update_samples.proofs.print_plan.Statement.{statement}

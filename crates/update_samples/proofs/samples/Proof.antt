@@ -1,4 +1,4 @@
--- `update_samples::samples` meets its contract: each update ends after it begins. Assumes nothing.
+-- `update_samples::samples` meets its contract: each update ends after it begins.
 use Prim.Native.Nat.{_-_, _≤_}
 use lib.ListN.{length}
 use borrow.Author.Needs.{needs}

@@ -1,4 +1,4 @@
--- `words::dash` meets its contract. Assumes nothing.
+-- `words::dash` meets its contract.
 use mathlib.Core.Path.{refl}
 use Rattle.words.specs.Words.{dash}
 use Rattle.words.proofs.Words.{no-dash}

@@ -1,4 +1,4 @@
--- `words::dashed` meets its contract. Assumes nothing.
+-- `words::dashed` meets its contract.
 use Rattle.words.specs.Words.{dashed}
 use borrow.Author.Needs.{needs}
 use Rattle.words.proofs.dashed.Statement.{statement}

@@ -1,4 +1,4 @@
--- `words::either` meets its contract. Assumes nothing.
+-- `words::either` meets its contract.
 use mathlib.Core.Path.{ap₂}
 use mathlib.Core.Bool.{_||_}
 use borrow.Author.Needs.{needs}

@@ -1,4 +1,4 @@
--- `words::fits` meets its contract. Assumes nothing.
+-- `words::fits` meets its contract.
 use Prim.Native.Nat.{_+_, _*_, _^_}
 use mathlib.Core.Path.{sym}
 use borrow.Author.Tests.{le-ltb}

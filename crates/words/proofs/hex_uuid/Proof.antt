@@ -1,4 +1,4 @@
--- `words::hex_uuid` meets its contract. Assumes nothing.
+-- `words::hex_uuid` meets its contract.
 use Rattle.endian.specs.Bytes.{zeros}
 use Rattle.words.proofs.Words.{hex-none, hex-given}
 use borrow.Author.Needs.{needs}

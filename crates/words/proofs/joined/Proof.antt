@@ -1,4 +1,4 @@
--- `words::joined` meets its contract. Assumes nothing.
+-- `words::joined` meets its contract.
 use mathlib.Core.Path.{refl}
 use Rattle.words.proofs.Words.{joined-parts}
 use borrow.Author.Needs.{needs}

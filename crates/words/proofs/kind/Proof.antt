@@ -1,4 +1,4 @@
--- `words::kind` meets its contract. Assumes nothing.
+-- `words::kind` meets its contract.
 use mathlib.Core.Path.{sym, _∙_}
 use Rattle.words.specs.Words.{kindOf}
 use borrow.Author.Needs.{needs}

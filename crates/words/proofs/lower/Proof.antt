@@ -1,4 +1,4 @@
--- `words::lower` meets its contract. Assumes nothing.
+-- `words::lower` meets its contract.
 use Prim.Native.Nat.{_≤_}
 use native.Mathlib.Omega.{arith}
 use Rattle.words.specs.Words.{lower}

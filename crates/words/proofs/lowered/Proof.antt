@@ -1,4 +1,4 @@
--- `words::lowered` meets its contract: what is passed is small, and the rest as it was. Assumes nothing.
+-- `words::lowered` meets its contract: what is passed is small, and the rest as it was.
 use Prim.Native.Nat.{_+_, _-_, _≤_}
 use mathlib.Core.Path.{_≡_, refl}
 use mathlib.Core.List.{_++_, map}

@@ -1,4 +1,4 @@
--- `words::number` meets its contract: the digits left give what the whole word says. Assumes nothing.
+-- `words::number` meets its contract: the digits left give what the whole word says.
 use Prim.Native.Nat.{_+_, _-_, _*_, _^_, _≤_, _<_}
 use mathlib.Core.Path.{_≡_}
 use native.Mathlib.Omega.{arith}

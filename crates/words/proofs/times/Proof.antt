@@ -1,4 +1,4 @@
--- `words::times` meets its contract. Assumes nothing.
+-- `words::times` meets its contract.
 use Rattle.words.proofs.Words.{times-none, times-fits, times-over, times-is}
 use borrow.Author.Needs.{needs}
 use Rattle.words.proofs.times.Statement.{statement}

@@ -1,4 +1,4 @@
--- `words::unit` meets its contract. Assumes nothing.
+-- `words::unit` meets its contract.
 use borrow.Author.Tests.{eq-eqb, ne-eqb}
 use Rattle.words.specs.Words.{unitOf}
 use Rattle.words.proofs.unit.Statement.{statement}

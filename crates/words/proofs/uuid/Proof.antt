@@ -1,4 +1,4 @@
--- `words::uuid` meets its contract. Assumes nothing.
+-- `words::uuid` meets its contract.
 use Rattle.endian.specs.Bytes.{zeros}
 use Rattle.words.proofs.Words.{dashed-length, uuid-dashed, uuid-none, uuid-plain}
 use borrow.Author.Needs.{needs}

@@ -1,4 +1,4 @@
--- `capi::blocks::amseokbin_block_read` meets its contract. Assumes nothing.
+-- `capi::blocks::amseokbin_block_read` meets its contract.
 use Rattle.capi.proofs.Told.{unsized, unsized-left}
 use Rattle.capi.proofs.Answered.{numbers-long, block-told, pool-filled, device-filled}
 use mathlib.Core.Path.{refl}

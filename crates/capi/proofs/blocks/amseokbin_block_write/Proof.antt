@@ -1,4 +1,4 @@
--- `capi::blocks::amseokbin_block_write` meets its contract. Assumes nothing.
+-- `capi::blocks::amseokbin_block_write` meets its contract.
 use Rattle.capi.proofs.Answered.{block-written}
 use borrow.Author.Needs.{needs}
 use Rattle.capi.proofs.blocks.amseokbin_block_write.Statement.{statement}

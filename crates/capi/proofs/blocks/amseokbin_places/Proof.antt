@@ -1,7 +1,7 @@
--- `capi::blocks::amseokbin_places` meets its contract. Assumes nothing.
+-- `capi::blocks::amseokbin_places` meets its contract.
 use Rattle.capi.proofs.Told.{unsized, unsized-left, answered, whole, long}
-use Rattle.capi.specs.Answers.{placementLeft}
-use Rattle.layout.specs.Answers.{placementNumber}
+use Rattle.capi.specs.Answers.{locatedLeft}
+use Rattle.layout.specs.Answers.{locatedNumber}
 use mathlib.Core.Path.{refl, _∙_}
 use Rattle.capi.specs.Lent.{has}
 use borrow.Author.Needs.{needs}
@@ -29,7 +29,7 @@ set-requires c κs = search needs
 returns-2 : tie.Need-returns-2
 returns-2 c =
     let start = c .before .before .before .before .before .before in
-    answered placementNumber placementLeft (start .args .places .now) (has (start .args .places .now) 12) (c .before .before .before .before .if1 .left) _ _ _ (c .before .before .before .locate .ensures) (c .before .p .given .1) _ _ refl refl
+    answered locatedNumber locatedLeft (start .args .places .now) (has (start .args .places .now) 12) (c .before .before .before .before .if1 .left) _ _ _ (c .before .before .before .locate .ensures) (c .before .p .given .1) _ _ refl refl
 
 same-length : tie.Need-same-length
 same-length c = search needs
@@ -38,7 +38,7 @@ returns-3 : tie.Need-returns-3
 returns-3 c =
     let p1 = c .before .before .before .before .before .before .before .before .before .before .before in
     let start = p1 .before .before in
-    answered placementNumber placementLeft (start .args .places .now) (has (start .args .places .now) 12) (p1 .if1 .left) _ _ _ (c .before .before .before .before .before .before .before .before .before .before .locate .ensures) (c .before .before .before .before .before .before .before .before .p2 .given .1) _ _ refl (c .before .before .set .ensures ∙ whole (start .args .places .now) _ (long (start .args .places .now) 12 (p1 .if1 .left)))
+    answered locatedNumber locatedLeft (start .args .places .now) (has (start .args .places .now) 12) (p1 .if1 .left) _ _ _ (c .before .before .before .before .before .before .before .before .before .before .locate .ensures) (c .before .before .before .before .before .before .before .before .p2 .given .1) _ _ refl (c .before .before .set .ensures ∙ whole (start .args .places .now) _ (long (start .args .places .now) 12 (p1 .if1 .left)))
 
 pub amseokbin-places-spec : {M : Type 1} → statement M
 amseokbin-places-spec =

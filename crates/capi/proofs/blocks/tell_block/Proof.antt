@@ -1,4 +1,4 @@
--- `capi::blocks::tell_block` meets its contract. Assumes nothing.
+-- `capi::blocks::tell_block` meets its contract.
 use Rattle.capi.proofs.Answered.{block-numbers}
 use borrow.Author.Needs.{needs}
 use Rattle.capi.proofs.blocks.tell_block.Statement.{statement}

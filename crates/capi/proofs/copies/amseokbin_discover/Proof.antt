@@ -1,4 +1,4 @@
--- `capi::copies::amseokbin_discover` meets its contract. Assumes nothing.
+-- `capi::copies::amseokbin_discover` meets its contract.
 use Rattle.capi.proofs.Told.{unsized, unsized-left, long, answered}
 use Rattle.capi.specs.Answers.{answerLeft}
 use Rattle.discovery.specs.Answers.{answerNumber}

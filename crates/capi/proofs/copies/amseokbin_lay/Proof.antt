@@ -1,4 +1,4 @@
--- `capi::copies::amseokbin_lay` meets its contract. Assumes nothing.
+-- `capi::copies::amseokbin_lay` meets its contract.
 use mathlib.Core.Path.{ap, _∙_}
 use Rattle.layout.specs.declared.Area.{Area}
 use Rattle.update.specs.Plan.{laid}

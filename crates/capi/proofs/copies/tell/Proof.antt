@@ -1,4 +1,4 @@
--- `capi::copies::tell` meets its contract. Assumes nothing.
+-- `capi::copies::tell` meets its contract.
 use Rattle.capi.proofs.Answered.{found-told}
 use borrow.Author.Needs.{needs}
 use Rattle.capi.proofs.copies.tell.Statement.{statement}

@@ -1,4 +1,4 @@
--- `capi::lent::set` meets its contract: the numbers written and those left are the source's. Assumes nothing.
+-- `capi::lent::set` meets its contract: the numbers written and those left are the source's.
 use borrow.Author.Needs.{needs}
 use Prim.Native.Nat.{ℕ, suc, _+_, _-_, _≤_}
 use mathlib.Core.Path.{_≡_, refl, sym, ap, ap₂, _∙_}

@@ -1,4 +1,4 @@
--- `capi::mends::amseokbin_mend_count` meets its contract. Assumes nothing.
+-- `capi::mends::amseokbin_mend_count` meets its contract.
 use Rattle.capi.proofs.Coding.{passed-over, chosen}
 use mathlib.Core.Path.{ap, _∙_}
 use lib.ListN.{length}

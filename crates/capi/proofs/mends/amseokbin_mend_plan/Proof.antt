@@ -1,4 +1,4 @@
--- `capi::mends::amseokbin_mend_plan` meets its contract. Assumes nothing.
+-- `capi::mends::amseokbin_mend_plan` meets its contract.
 use Rattle.capi.proofs.Told.{unsized, unsized-left, answered, filled, long}
 use Rattle.mend.specs.Answers.{mendingNumber}
 use Rattle.capi.specs.Plans.{encodedMend}

@@ -1,4 +1,4 @@
--- `capi::mends::amseokbin_mend_store` meets its contract. Assumes nothing.
+-- `capi::mends::amseokbin_mend_store` meets its contract.
 use Rattle.capi.proofs.Told.{unsized, unsized-left, answered-beside, whole, second-long}
 use Rattle.capi.specs.Calls.{givenLeft, mendSized}
 use Rattle.update.specs.Answers.{givenNumber}

@@ -1,4 +1,4 @@
--- `capi::plan::area_of` meets its contract. Assumes nothing.
+-- `capi::plan::area_of` meets its contract.
 use Rattle.capi.proofs.Coding.{chosen, passed-over}
 use Rattle.capi.proofs.plan.area_of.Statement.{statement}
 use Rattle.capi.proofs.plan.area_of.Tie as tie

@@ -1,4 +1,4 @@
--- `capi::plan::byte_at` meets its contract. Assumes nothing.
+-- `capi::plan::byte_at` meets its contract.
 use lib.ListN.{List·getD-eq-default}
 use mathlib.Core.Path.{sym}
 use borrow.Author.Needs.{needs}

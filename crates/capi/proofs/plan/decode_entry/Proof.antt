@@ -1,4 +1,4 @@
--- `capi::plan::decode_entry` meets its contract. Assumes nothing.
+-- `capi::plan::decode_entry` meets its contract.
 use Rattle.capi.proofs.Coding.{entry-read}
 use borrow.Author.Needs.{needs}
 use Rattle.capi.proofs.plan.decode_entry.Statement.{statement}

@@ -1,4 +1,4 @@
--- `capi::plan::decode_fields` meets its contract. Assumes nothing.
+-- `capi::plan::decode_fields` meets its contract.
 use Rattle.capi.proofs.Coding.{fields-read}
 use borrow.Author.Needs.{needs}
 use Rattle.capi.proofs.plan.decode_fields.Statement.{statement}

@@ -1,4 +1,4 @@
--- `capi::plan::decode_last` meets its contract. Assumes nothing.
+-- `capi::plan::decode_last` meets its contract.
 use Rattle.capi.proofs.Coding.{last-absent, last-read}
 use borrow.Author.Needs.{needs}
 use Rattle.capi.proofs.plan.decode_last.Statement.{statement}

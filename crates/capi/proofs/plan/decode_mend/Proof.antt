@@ -1,4 +1,4 @@
--- `capi::plan::decode_mend` meets its contract. Assumes nothing.
+-- `capi::plan::decode_mend` meets its contract.
 use Rattle.capi.proofs.Coding.{mend-needed, mend-in-step}
 use borrow.Author.Needs.{needs}
 use Rattle.capi.proofs.plan.decode_mend.Statement.{statement}

@@ -1,4 +1,4 @@
--- `capi::plan::decode_part` meets its contract. Assumes nothing.
+-- `capi::plan::decode_part` meets its contract.
 use Rattle.capi.proofs.Coding.{part-read}
 use borrow.Author.Needs.{needs}
 use Rattle.capi.proofs.plan.decode_part.Statement.{statement}

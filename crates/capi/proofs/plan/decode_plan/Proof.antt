@@ -1,4 +1,4 @@
--- `capi::plan::decode_plan` meets its contract. Assumes nothing.
+-- `capi::plan::decode_plan` meets its contract.
 use Rattle.capi.proofs.Coding.{plan-read}
 use borrow.Author.Needs.{needs}
 use Rattle.capi.proofs.plan.decode_plan.Statement.{statement}

@@ -1,4 +1,4 @@
--- `capi::plan::decode_rewrite` meets its contract. Assumes nothing.
+-- `capi::plan::decode_rewrite` meets its contract.
 use Rattle.capi.proofs.Coding.{rewrite-read}
 use borrow.Author.Needs.{needs}
 use Rattle.capi.proofs.plan.decode_rewrite.Statement.{statement}

@@ -1,4 +1,4 @@
--- `capi::plan::encode_entry` meets its contract. Assumes nothing.
+-- `capi::plan::encode_entry` meets its contract.
 use Rattle.capi.proofs.Coding.{entry-written}
 use mathlib.Core.Path.{refl}
 use borrow.Author.Needs.{needs}

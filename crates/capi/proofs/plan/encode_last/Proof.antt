@@ -1,4 +1,4 @@
--- `capi::plan::encode_last` meets its contract. Assumes nothing.
+-- `capi::plan::encode_last` meets its contract.
 use Rattle.capi.proofs.Coding.{absent-written, blank-written}
 use mathlib.Core.Path.{refl}
 use borrow.Author.Needs.{needs}

@@ -1,4 +1,4 @@
--- `capi::plan::encode_part` meets its contract. Assumes nothing.
+-- `capi::plan::encode_part` meets its contract.
 use Rattle.capi.proofs.Coding.{part-written}
 use mathlib.Core.Path.{refl}
 use borrow.Author.Needs.{needs}

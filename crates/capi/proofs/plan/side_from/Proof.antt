@@ -1,4 +1,4 @@
--- `capi::plan::side_from` meets its contract. Assumes nothing.
+-- `capi::plan::side_from` meets its contract.
 use Rattle.capi.proofs.Coding.{chosen, passed-over}
 use Rattle.capi.proofs.plan.side_from.Statement.{statement}
 use Rattle.capi.proofs.plan.side_from.Tie as tie

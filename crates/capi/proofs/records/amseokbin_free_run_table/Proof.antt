@@ -1,6 +1,6 @@
 -- `capi::records::amseokbin_free_run_table` meets its contract: a walk of its MIR, by hand, since the borrow checker covers no
 -- slice of structs. `sectors_if` gates the call, `free_runs_of` is called at the table's own lifetime, share and ghost name, and
--- `tell_runs` at those of the array. All that the proof knows of the three is that each meets its contract. Assumes nothing.
+-- `tell_runs` at those of the array. All that the proof knows of the three is that each meets its contract.
 use mathlib.Core.Path.{_≡_, refl, ap, _∙_, subst}
 use Prim.Native.Nat.{ℕ, _<_, _^_}
 use mathlib.Core.Bool.{Bool, true, false, cond}
@@ -43,15 +43,15 @@ use denote.Triple.Walked.{says, Stays, stay-none, stay-none-slice, gave-slice, w
 use Rattle.refusal.specs.Tests.{first}
 use Rattle.runs.specs.declared.Run.{Run}
 use Rattle.runs.proofs.Run as R
-use Rattle.room.specs.declared.RunCount.{RunCount}
-use Rattle.room.specs.Answers.{tableAnswer, tableLeft, runsNumber}
-use Rattle.room.proofs.Hand.{word, half, bytes, entries, lentRef, lent, says-both}
-use Rattle.room.proofs.RunCount as N
-use Rattle.room.proofs.RunCount.Laws as N′
-use Rattle.room.proofs.free_runs_of as free-runs-of
-use Rattle.room.proofs.free_runs_of.Symbol as free-runs-of-def
-use Rattle.room.proofs.free_runs_of.Symbol.{name as #room·free-runs-of}
-use Rattle.room.proofs.free_runs_of.Met as free-runs-of-thm
+use Rattle.allocation.specs.declared.RunCount.{RunCount}
+use Rattle.allocation.specs.Answers.{tableAnswer, tableLeft, runsNumber}
+use Rattle.allocation.proofs.Hand.{word, half, bytes, entries, lentRef, lent, says-both}
+use Rattle.allocation.proofs.RunCount as N
+use Rattle.allocation.proofs.RunCount.Laws as N′
+use Rattle.allocation.proofs.free_runs_of as free-runs-of
+use Rattle.allocation.proofs.free_runs_of.Symbol as free-runs-of-def
+use Rattle.allocation.proofs.free_runs_of.Symbol.{name as #allocation·free-runs-of}
+use Rattle.allocation.proofs.free_runs_of.Met as free-runs-of-thm
 use Rattle.capi.specs.Lent.{has, numberIf, leftIf}
 use Rattle.capi.specs.Answers.{deviceFrom, runsLeft}
 use Rattle.capi.proofs.records.sectors_if as sectors-if
@@ -215,7 +215,7 @@ module _ {M : Type 1} (𝓤 : URA M) (H : Heap 𝓤) (A : Atoms 𝓤) (W : Given
         nothing ! $ move ! (2 ∷ 0 ∷ []) $ fjoin ! $ move ! (2 ∷ 0 ∷ []) $ fjoin ! $ move ! (2 ∷ 0 ∷ []) $ fjoin ! $
         owned ! u32 (Is u32) (uint-makes 𝓤 H A W w32) n _ (refl, n-fits) $ fjoin ! $ owned ! u32 (Is u32) (uint-makes 𝓤 H A W w32) m _ (refl, m-fits) $ fjoin ! $ owned ! u64 (Is u64) (uint-makes 𝓤 H A W w64) x _ (refl, x-fits) $ fjoin ! $ frame ! $ done !
 
-    module _ (𝓣 : Tables 𝓤 H) (known-sectors : Triple 𝓤 (𝓣 .C #sectors-if) (SectorsIf 𝓤 H A mem run)) (known-runs : Triple 𝓤 (𝓣 .C #room·free-runs-of) (FreeRunsOf 𝓤 H A mem run)) (known-tell : Triple 𝓤 (𝓣 .C #tell-runs) (TellRuns 𝓤 H A mem run)) (l₀ l₁ l₂ l₃ l₄ l₅ l₆ l₇ l₈ l₉ l₁₀ l₁₁ l₁₂ l₁₃ : ℕ) where
+    module _ (𝓣 : Tables 𝓤 H) (known-sectors : Triple 𝓤 (𝓣 .C #sectors-if) (SectorsIf 𝓤 H A mem run)) (known-runs : Triple 𝓤 (𝓣 .C #allocation·free-runs-of) (FreeRunsOf 𝓤 H A mem run)) (known-tell : Triple 𝓤 (𝓣 .C #tell-runs) (TellRuns 𝓤 H A mem run)) (l₀ l₁ l₂ l₃ l₄ l₅ l₆ l₇ l₈ l₉ l₁₀ l₁₁ l₁₂ l₁₃ : ℕ) where
       abbrev C : Calls 𝓤 H
       C = 𝓣 .C
 
@@ -279,7 +279,7 @@ module _ {M : Type 1} (𝓤 : URA M) (H : Heap 𝓤) (A : Atoms 𝓤) (W : Given
           (f′ ∙ ap (λ (z : RunCount). leftIf (has ks 1) (runsLeft z ks) ks) e ∙ ap (λ (z : ℕ). leftIf (has ks 1) (runsLeft (answer z) ks) ks) h ∙ gate-runs (eqb (length ks) 1) x m n (s .now) (length ys) ks)
           l l′)))))))))))))))))))
 
-    walk : (𝓣 : Tables 𝓤 H) → Triple 𝓤 (𝓣 .C #sectors-if) (SectorsIf 𝓤 H A mem run) → Triple 𝓤 (𝓣 .C #room·free-runs-of) (FreeRunsOf 𝓤 H A mem run) → Triple 𝓤 (𝓣 .C #tell-runs) (TellRuns 𝓤 H A mem run)
+    walk : (𝓣 : Tables 𝓤 H) → Triple 𝓤 (𝓣 .C #sectors-if) (SectorsIf 𝓤 H A mem run) → Triple 𝓤 (𝓣 .C #allocation·free-runs-of) (FreeRunsOf 𝓤 H A mem run) → Triple 𝓤 (𝓣 .C #tell-runs) (TellRuns 𝓤 H A mem run)
         → ent 𝓤 (onEntry 𝓤 H A run-table.signature (κ, (κ′, (κ″, tt))) (q, (q′, (q″, tt))) a vals) (WpFn 𝓤 H (𝓣 .C) (𝓣 .Λ) function (vint w64 x ∷ vint w32 m ∷ vint w32 n ∷ sv ∷ tv ∷ kv ∷ []) Post)
     walk 𝓣 known-sectors known-runs known-tell =
         qed W ((‵ (flft κ q) ⊛ (‵ (flft κ′ q′) ⊛ (‵ (flft κ″ q″) ⊛ ‵ ftrue))) ∷ ‵ (owns (u64 ∷ u32 ∷ u32 ∷ ShrSlice (named 0) κ u8 ∷ MutSlice (named 1) κ′ R.the-row ∷ MutSlice (named 2) κ″ u64 ∷ []) a vals) ∷ []) ∵ enter ! (𝓣 .C) (𝓣 .Λ) function (vint w64 x ∷ vint w32 m ∷ vint w32 n ∷ sv ∷ tv ∷ kv ∷ []) _ $
@@ -288,7 +288,7 @@ module _ {M : Type 1} (𝓤 : URA M) (H : Heap 𝓤) (A : Atoms 𝓤) (W : Given
         by ! (starts 𝓣 known-sectors known-runs known-tell l₀ l₁ l₂ l₃ l₄ l₅ l₆ l₇ l₈ l₉ l₁₀ l₁₁ l₁₂ l₁₃)))))))))))))))
 
 module _ {M : Type 1} (𝓤 : URA M) (H : Heap 𝓤) (A : Atoms 𝓤) (W : Given 𝓤 H A) (mem : Memory → SProp 𝓤) (run : Routine → Fun 𝓤) (𝓣 : Tables 𝓤 H)
-    (known-sectors : Triple 𝓤 (𝓣 .C #sectors-if) (SectorsIf 𝓤 H A mem run)) (known-runs : Triple 𝓤 (𝓣 .C #room·free-runs-of) (FreeRunsOf 𝓤 H A mem run)) (known-tell : Triple 𝓤 (𝓣 .C #tell-runs) (TellRuns 𝓤 H A mem run)) where
+    (known-sectors : Triple 𝓤 (𝓣 .C #sectors-if) (SectorsIf 𝓤 H A mem run)) (known-runs : Triple 𝓤 (𝓣 .C #allocation·free-runs-of) (FreeRunsOf 𝓤 H A mem run)) (known-tell : Triple 𝓤 (𝓣 .C #tell-runs) (TellRuns 𝓤 H A mem run)) where
   run-table-walks : Walks 𝓤 H A run-table.ended stayed (WpFn 𝓤 H (𝓣 .C) (𝓣 .Λ) function) (run-table.clauses 𝓤 H A mem run)
   run-table-walks = walked 𝓤 H A run-table.ended stayed (run-table.clauses 𝓤 H A mem run) (WpFn 𝓤 H (𝓣 .C) (𝓣 .Λ) function)
       (λ κs. (uint-vals w64, (uint-vals w32, (uint-vals w32, (slice-vals, (slice-vals, (slice-vals, tt))))))) (λ κs. (uint-tells w64, (uint-tells w32, (uint-tells w32, (shr-slice-tells (named 0) (κs .0) u8, (mut-slice-tells (named 1) (κs .1 .0) R.the-row, (mut-slice-tells (named 2) (κs .1 .1 .0) u64, tt)))))))
@@ -311,5 +311,5 @@ amseokbin-free-run-table-spec 𝓤 H 𝓜 𝓖 𝓡 =
     (subst (λ (f : Fn). Meets 𝓤 H (𝓖 .A) run-table.signature (WpFn 𝓤 H (tables 𝓤 H 𝓜 𝓡 code.env .C) (tables 𝓤 H 𝓜 𝓡 code.env .Λ) f) (run-table.spec 𝓤 H (𝓖 .A) (𝓜 .mem) (𝓡 .run))) function-is
     (run-table-meets 𝓤 H (𝓖 .A) (givenOf 𝓤 H 𝓜 𝓖) (𝓜 .mem) (𝓡 .run) (tablesOf 𝓤 H 𝓜 (tables 𝓤 H 𝓜 𝓡 code.env))
     (cited 𝓤 H (SectorsIf 𝓤 H (𝓖 .A) (𝓜 .mem) (𝓡 .run)) 𝓜 𝓡 code.env #sectors-if sectors-if-def.routine code.calls-capi·records·sectors-if (sectors-if-thm.met 𝓤 H 𝓜 𝓖 𝓡))
-    (cited 𝓤 H (FreeRunsOf 𝓤 H (𝓖 .A) (𝓜 .mem) (𝓡 .run)) 𝓜 𝓡 code.env #room·free-runs-of free-runs-of-def.routine code.calls-room·free-runs-of (free-runs-of-thm.met 𝓤 H 𝓜 𝓖 𝓡))
+    (cited 𝓤 H (FreeRunsOf 𝓤 H (𝓖 .A) (𝓜 .mem) (𝓡 .run)) 𝓜 𝓡 code.env #allocation·free-runs-of free-runs-of-def.routine code.calls-allocation·free-runs-of (free-runs-of-thm.met 𝓤 H 𝓜 𝓖 𝓡))
     (cited 𝓤 H (TellRuns 𝓤 H (𝓖 .A) (𝓜 .mem) (𝓡 .run)) 𝓜 𝓡 code.env #tell-runs tell-runs-def.routine code.calls-capi·records·tell-runs (tell-runs-thm.met 𝓤 H 𝓜 𝓖 𝓡))))

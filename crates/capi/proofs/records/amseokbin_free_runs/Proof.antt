@@ -1,7 +1,7 @@
--- `capi::records::amseokbin_free_runs` meets its contract. Assumes nothing.
+-- `capi::records::amseokbin_free_runs` meets its contract.
 use Rattle.capi.proofs.Told.{unsized, unsized-left, answered-beside, whole, long}
 use Rattle.capi.specs.Answers.{runsLeft}
-use Rattle.room.specs.Answers.{runsNumber}
+use Rattle.allocation.specs.Answers.{runsNumber}
 use mathlib.Core.Path.{refl, _∙_}
 use Rattle.capi.specs.Lent.{has}
 use borrow.Author.Needs.{needs}

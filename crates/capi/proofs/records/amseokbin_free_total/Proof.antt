@@ -1,7 +1,7 @@
--- `capi::records::amseokbin_free_total` meets its contract. Assumes nothing.
+-- `capi::records::amseokbin_free_total` meets its contract.
 use Rattle.capi.proofs.Told.{unsized, unsized-left, answered, whole, long}
 use Rattle.capi.specs.Answers.{totalLeft}
-use Rattle.room.specs.Answers.{totalNumber}
+use Rattle.allocation.specs.Answers.{totalNumber}
 use mathlib.Core.Path.{refl, _∙_}
 use Rattle.capi.specs.Lent.{has}
 use borrow.Author.Needs.{needs}

@@ -1,4 +1,4 @@
--- `capi::records::amseokbin_record_head` meets its contract. Assumes nothing.
+-- `capi::records::amseokbin_record_head` meets its contract.
 use Rattle.capi.proofs.Told.{unsized, unsized-left, number-refused, number-made, whole, long}
 use mathlib.Core.Path.{ap, ap₂, _∙_}
 use Rattle.items.specs.Head.{blockSize}

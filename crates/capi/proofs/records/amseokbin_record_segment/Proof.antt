@@ -1,4 +1,4 @@
--- `capi::records::amseokbin_record_segment` meets its contract. Assumes nothing.
+-- `capi::records::amseokbin_record_segment` meets its contract.
 use Rattle.capi.proofs.Told.{unsized, unsized-left, answered, whole, long}
 use Rattle.capi.specs.Answers.{segmentLeft}
 use Rattle.record.specs.Answers.{foundNumber}

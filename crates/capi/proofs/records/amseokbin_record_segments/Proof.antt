@@ -1,4 +1,4 @@
--- `capi::records::amseokbin_record_segments` meets its contract. Assumes nothing.
+-- `capi::records::amseokbin_record_segments` meets its contract.
 use Rattle.capi.proofs.Told.{unsized, unsized-left, answered-beside, whole, long}
 use Rattle.capi.specs.Answers.{handedLeft}
 use Rattle.record.specs.Answers.{countedNumber}

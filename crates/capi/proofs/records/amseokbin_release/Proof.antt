@@ -1,7 +1,7 @@
--- `capi::records::amseokbin_release` meets its contract. Assumes nothing.
+-- `capi::records::amseokbin_release` meets its contract.
 use Rattle.capi.proofs.Told.{unsized, unsized-left, answered-beside, whole, long}
 use Rattle.capi.specs.Answers.{releaseNumbers}
-use Rattle.room.specs.Change.{releaseNumber}
+use Rattle.allocation.specs.Change.{releaseNumber}
 use mathlib.Core.Path.{refl, _∙_}
 use Rattle.capi.specs.Lent.{has}
 use borrow.Author.Needs.{needs}

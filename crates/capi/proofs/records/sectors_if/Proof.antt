@@ -1,4 +1,4 @@
--- `capi::records::sectors_if` meets its contract. Assumes nothing.
+-- `capi::records::sectors_if` meets its contract.
 use borrow.Author.Tests.{eq-eqb, ne-eqb}
 use Rattle.capi.proofs.records.sectors_if.Statement.{statement}
 use Rattle.capi.proofs.records.sectors_if.Tie as tie

@@ -1,6 +1,6 @@
--- `capi::records::tell_runs` meets its contract. Assumes nothing.
+-- `capi::records::tell_runs` meets its contract.
 use Rattle.capi.proofs.Told.{unsized, unsized-left, answered, whole, long}
-use Rattle.room.specs.Answers.{runsNumber}
+use Rattle.allocation.specs.Answers.{runsNumber}
 use Rattle.capi.specs.Answers.{runsLeft}
 use mathlib.Core.Path.{refl, _∙_}
 use Rattle.capi.specs.Lent.{has}

@@ -1,4 +1,4 @@
--- `capi::updates::amseokbin_update_plan` meets its contract. Assumes nothing.
+-- `capi::updates::amseokbin_update_plan` meets its contract.
 use Rattle.capi.proofs.Told.{unsized, unsized-left, answered, filled, long}
 use Rattle.capi.specs.Calls.{plannedLeft}
 use Rattle.update.specs.Answers.{plannedNumber}

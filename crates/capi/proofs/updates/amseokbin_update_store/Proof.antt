@@ -1,4 +1,4 @@
--- `capi::updates::amseokbin_update_store` meets its contract. Assumes nothing.
+-- `capi::updates::amseokbin_update_store` meets its contract.
 use Rattle.capi.proofs.Told.{unsized, unsized-left, answered-beside, whole, second-long}
 use Rattle.capi.specs.Calls.{givenLeft, updateSized}
 use Rattle.update.specs.Answers.{givenNumber}

@@ -1,4 +1,4 @@
--- `checksum::table::entries` meets its contract, by two tests that are computed over the whole table. Assumes nothing.
+-- `checksum::table::entries` meets its contract, by two tests that are computed over the whole table.
 use mathlib.Core.Path.{refl}
 use Rattle.checksum.specs.Crc.{polynomial, shift, shifts}
 use Rattle.checksum.proofs.Lookup.{table-of}

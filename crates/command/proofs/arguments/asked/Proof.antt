@@ -1,4 +1,4 @@
--- `command::arguments::asked` meets its contract. Assumes nothing.
+-- `command::arguments::asked` meets its contract.
 use Prim.Native.Nat.{_≤_, _-_}
 use borrow.Author.Needs.{needs}
 use Rattle.command.proofs.arguments.asked.Statement.{statement}

@@ -1,4 +1,4 @@
--- `command::copies::area_read` meets its contract. Assumes nothing.
+-- `command::copies::area_read` meets its contract.
 use Prim.Native.Nat.{_≤_, _-_}
 use borrow.Author.Needs.{needs}
 use Rattle.command.proofs.copies.area_read.Statement.{statement}

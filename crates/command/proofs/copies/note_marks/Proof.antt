@@ -1,4 +1,4 @@
--- `command::copies::note_marks` meets its contract. Assumes nothing.
+-- `command::copies::note_marks` meets its contract.
 use Prim.Native.Nat.{_≤_, _-_}
 use borrow.Author.Needs.{needs}
 use Rattle.command.proofs.copies.note_marks.Statement.{statement}

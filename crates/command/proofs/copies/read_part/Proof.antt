@@ -1,4 +1,4 @@
--- `command::copies::read_part` meets its contract. Assumes nothing.
+-- `command::copies::read_part` meets its contract.
 use mathlib.Core.Path.{_≡_}
 use lib.ListN.{length}
 use Prim.Native.Nat.{_≤_, _-_}

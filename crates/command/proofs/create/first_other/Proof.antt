@@ -1,4 +1,4 @@
--- `command::create::first_other` meets its contract. Assumes nothing.
+-- `command::create::first_other` meets its contract.
 use lib.ListN.{length}
 use Prim.Native.Nat.{_≤_, _-_}
 use borrow.Author.Needs.{needs}

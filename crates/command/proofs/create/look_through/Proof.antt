@@ -1,4 +1,4 @@
--- `command::create::look_through` meets its contract. Assumes nothing.
+-- `command::create::look_through` meets its contract.
 
 use Prim.Native.Nat.{_≤_, _-_}
 use borrow.Author.Needs.{needs}

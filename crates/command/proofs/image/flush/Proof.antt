@@ -1,4 +1,4 @@
--- `command::image::flush` meets its contract. Assumes nothing.
+-- `command::image::flush` meets its contract.
 use Prim.Native.Nat.{_≤_, _-_}
 use borrow.Author.Needs.{needs}
 use Rattle.command.proofs.image.flush.Statement.{statement}

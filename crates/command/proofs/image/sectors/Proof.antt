@@ -1,4 +1,4 @@
--- `command::image::sectors` meets its contract. Assumes nothing.
+-- `command::image::sectors` meets its contract.
 use Rattle.command.proofs.Signed.{unsigned64}
 use borrow.Author.Needs.{needs}
 use Rattle.command.proofs.image.sectors.Statement.{statement}

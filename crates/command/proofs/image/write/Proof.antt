@@ -1,4 +1,4 @@
--- `command::image::write` meets its contract. Assumes nothing.
+-- `command::image::write` meets its contract.
 use lib.ListN.{length}
 use Prim.Native.Nat.{_≤_, _-_}
 use borrow.Author.Needs.{needs}

@@ -1,4 +1,4 @@
--- `command::picture::fill` meets its contract. Assumes nothing.
+-- `command::picture::fill` meets its contract.
 use mathlib.Core.Path.{_≡_}
 use lib.ListN.{length}
 use Prim.Native.Nat.{_≤_, _-_}

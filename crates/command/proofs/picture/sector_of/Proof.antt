@@ -1,4 +1,4 @@
--- `command::picture::sector_of` meets its contract. Assumes nothing.
+-- `command::picture::sector_of` meets its contract.
 use Prim.Native.Nat.{_≤_, _-_}
 use borrow.Author.Needs.{needs}
 use Rattle.command.proofs.picture.sector_of.Statement.{statement}

@@ -1,4 +1,4 @@
--- `command::picture::stretch_of` meets its contract. Assumes nothing.
+-- `command::picture::stretch_of` meets its contract.
 use Prim.Native.Nat.{_≤_, _-_}
 use borrow.Author.Needs.{needs}
 use Rattle.command.proofs.picture.stretch_of.Statement.{statement}

@@ -1,4 +1,4 @@
--- `command::run::made_name` meets its contract. Assumes nothing.
+-- `command::run::made_name` meets its contract.
 use mathlib.Core.Path.{_≡_}
 use lib.ListN.{length}
 use Prim.Native.Nat.{_≤_, _-_}

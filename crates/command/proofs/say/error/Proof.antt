@@ -1,4 +1,4 @@
--- `command::say::error` meets its contract. Assumes nothing.
+-- `command::say::error` meets its contract.
 use Rattle.command.proofs.Signed.{unsigned32}
 use borrow.Author.Needs.{needs}
 use Rattle.command.proofs.say.error.Statement.{statement}

@@ -1,4 +1,4 @@
--- `command::say::read_all` meets its contract. Assumes nothing.
+-- `command::say::read_all` meets its contract.
 use mathlib.Core.Path.{_≡_}
 use lib.ListN.{length}
 use Prim.Native.Nat.{_≤_, _-_}

@@ -1,4 +1,4 @@
--- `command::say::write_all` meets its contract. Assumes nothing.
+-- `command::say::write_all` meets its contract.
 use lib.ListN.{length}
 use Prim.Native.Nat.{_≤_, _-_}
 use borrow.Author.Needs.{needs}

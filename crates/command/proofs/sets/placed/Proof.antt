@@ -1,4 +1,4 @@
--- `command::sets::placed` meets its contract. Assumes nothing.
+-- `command::sets::placed` meets its contract.
 use Prim.Native.Nat.{_≤_, _-_}
 use borrow.Author.Needs.{needs}
 use Rattle.command.proofs.sets.placed.Statement.{statement}

@@ -1,4 +1,4 @@
--- `command::sets::put_copy` meets its contract. Assumes nothing.
+-- `command::sets::put_copy` meets its contract.
 use mathlib.Core.Path.{_≡_}
 use lib.ListN.{length}
 use Prim.Native.Nat.{_≤_, _-_}

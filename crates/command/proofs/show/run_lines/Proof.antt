@@ -1,4 +1,4 @@
--- `command::show::run_lines` meets its contract. Assumes nothing.
+-- `command::show::run_lines` meets its contract.
 use Prim.Native.Nat.{_≤_, _-_}
 use borrow.Author.Needs.{needs}
 use Rattle.command.proofs.show.run_lines.Statement.{statement}

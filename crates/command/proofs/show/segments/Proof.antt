@@ -1,4 +1,4 @@
--- `command::show::segments` meets its contract. Assumes nothing.
+-- `command::show::segments` meets its contract.
 use Prim.Native.Nat.{_≤_, _-_}
 use borrow.Author.Needs.{needs}
 use Rattle.command.proofs.show.segments.Statement.{statement}

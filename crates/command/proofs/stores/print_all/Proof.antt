@@ -1,4 +1,4 @@
--- `command::stores::print_all` meets its contract. Assumes nothing.
+-- `command::stores::print_all` meets its contract.
 use Prim.Native.Nat.{_≤_, _-_}
 use borrow.Author.Needs.{needs}
 use Rattle.command.proofs.stores.print_all.Statement.{statement}

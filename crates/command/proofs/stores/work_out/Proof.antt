@@ -1,4 +1,4 @@
--- `command::stores::work_out` meets its contract. Assumes nothing.
+-- `command::stores::work_out` meets its contract.
 use mathlib.Core.Path.{_≡_}
 use lib.ListN.{length}
 use Prim.Native.Nat.{_≤_, _-_}

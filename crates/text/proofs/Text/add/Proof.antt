@@ -1,4 +1,4 @@
--- `text::Text::add` meets its contract. Assumes nothing.
+-- `text::Text::add` meets its contract.
 use Prim.Native.Nat.{ℕ, _+_}
 use mathlib.Core.Path.{ap, _∙_}
 use mathlib.Core.List.{List}

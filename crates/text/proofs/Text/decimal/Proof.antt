@@ -1,4 +1,4 @@
--- `text::Text::decimal` meets its contract. Assumes nothing.
+-- `text::Text::decimal` meets its contract.
 use mathlib.Core.Path.{ap, _∙_}
 use native.Mathlib.Omega.{arith}
 use borrow.Author.Needs.{needs}

@@ -1,4 +1,4 @@
--- `text::Text::filled` meets its contract: the digits by themselves, or at the end of a row of c. Assumes nothing.
+-- `text::Text::filled` meets its contract: the digits by themselves, or at the end of a row of c.
 use Prim.Native.Nat.{ℕ, _-_}
 use mathlib.Core.Path.{_≡_, sym, ap, _∙_}
 use mathlib.Core.List.{List}

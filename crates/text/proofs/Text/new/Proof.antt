@@ -1,4 +1,4 @@
--- `text::Text::new` meets its contract. Assumes nothing.
+-- `text::Text::new` meets its contract.
 use mathlib.Core.Path.{refl}
 use Rattle.text.specs.Text.{text}
 use Rattle.text.proofs.Text.new.Statement.{statement}

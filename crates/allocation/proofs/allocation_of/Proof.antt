@@ -1,0 +1,181 @@
+-- `allocation::allocation_of` meets its contract, a test at a time.
+use Rattle.allocation.proofs.Calls.{Ready, ready, number-is, alloc-kind, alloc-zero, alloc-full, alloc-none, alloc-short, alloc-yes, fit-for, range-is}
+use Rattle.refusal.proofs.Order.{answer-no, answer-yes}
+use Rattle.refusal.specs.Tests.{first}
+use Rattle.record.specs.Accept.{recordTests}
+use Rattle.items.specs.declared.Head.{Head}
+use Rattle.items.specs.Head.{headOf, allows, dataRange, itemBytes, mostSegments}
+use Rattle.items.specs.Items.{segmentsIn, segments}
+use Rattle.allocation.specs.Change.{runsFor, ownTests, allocateTests, given, allocation}
+use Rattle.allocation.specs.declared.Allocation.the-variants as Allocation
+use Rattle.runs.specs.declared.Run.{Run}
+use Rattle.runs.specs.Runs.{fitOf}
+use mathlib.Core.List.{List, _++_}
+use lib.ListN.{length}
+use Prim.Native.Nat.{ℕ, _+_, _≤_, _<_}
+use mathlib.Core.Path.{_≡_, refl, sym, ap, _∙_}
+use Rattle.layout.specs.declared.Device.{Device}
+use native.Mathlib.Omega.{arith}
+use Rattle.record.proofs.Testing.{more-no}
+use borrow.Author.Needs.{needs}
+use Rattle.allocation.proofs.allocation_of.Statement.{statement}
+use Rattle.allocation.proofs.allocation_of.Tie as tie
+
+check-in-order-requires : tie.Need-check-in-order-requires
+check-in-order-requires c κs = search needs
+
+returns : tie.Need-returns
+returns c =
+    let d : Device = c .before .before .before .args .d in
+    let s : List ℕ = c .before .before .before .args .s .now in
+    let k : ℕ = c .before .before .before .args .kind in
+    let m : ℕ = c .before .before .before .args .m in
+    let w : ℕ = c .before .before .before .args .w in
+    answer-no (Allocation.Placed (given d s k m .start) (length s + itemBytes)) Allocation.Refused (c .before .check-in-order .result .number) (first (allocateTests d s k m w)) (more-no d s (ownTests d s k m w) (c .before .check-in-order .result .number) (number-is d s (c .before .check-in-order .result) (c .before .check-in-order .ensures)) (c .if1 .taken)) (c .if1 .taken)
+
+head-of-requires : tie.Need-head-of-requires
+head-of-requires c κs = search needs
+
+allowed-requires : tie.Need-allowed-requires
+allowed-requires c κs = search needs
+
+returns-2 : tie.Need-returns-2
+returns-2 c =
+    let d : Device = c .before .before .before .before .before .before .args .d in
+    let s : List ℕ = c .before .before .before .before .before .before .args .s .now in
+    let k : ℕ = c .before .before .before .before .before .before .args .kind in
+    let m : ℕ = c .before .before .before .before .before .before .args .m in
+    let w : ℕ = c .before .before .before .before .before .before .args .w in
+    let z : first (recordTests d s) ≡ 0 = sym (number-is d s (c .before .before .before .before .check-in-order .result) (c .before .before .before .before .check-in-order .ensures)) ∙ c .before .before .before .if1 .left in
+    answer-no (Allocation.Placed (given d s k m .start) (length s + itemBytes)) Allocation.Refused 17 (first (allocateTests d s k m w)) (alloc-kind d s k m w z (c .before .allowed .result) (c .before .allowed .ensures ∙ ap (λ (v : Head). allows v k) (c .before .before .head-of .ensures)) (c .if2 .taken)) (omega arith)
+
+returns-3 : tie.Need-returns-3
+returns-3 c =
+    let d : Device = c .before .before .before .before .before .before .before .args .d in
+    let s : List ℕ = c .before .before .before .before .before .before .before .args .s .now in
+    let k : ℕ = c .before .before .before .before .before .before .before .args .kind in
+    let m : ℕ = c .before .before .before .before .before .before .before .args .m in
+    let w : ℕ = c .before .before .before .before .before .before .before .args .w in
+    let z : first (recordTests d s) ≡ 0 = sym (number-is d s (c .before .before .before .before .before .check-in-order .result) (c .before .before .before .before .before .check-in-order .ensures)) ∙ c .before .before .before .before .if1 .left in
+    answer-no (Allocation.Placed (given d s k m .start) (length s + itemBytes)) Allocation.Refused 18 (first (allocateTests d s k m w)) (alloc-zero d s k m w z (c .before .before .allowed .result) (c .before .before .allowed .ensures ∙ ap (λ (v : Head). allows v k) (c .before .before .before .head-of .ensures)) (c .before .if2 .left) (c .if3 .taken)) (omega arith)
+
+items-of-requires : tie.Need-items-of-requires
+items-of-requires c κs = search needs
+
+count-in-requires : tie.Need-count-in-requires
+count-in-requires c κs = search needs
+
+most-segments-requires : tie.Need-most-segments-requires
+most-segments-requires c κs = search needs
+
+returns-4 : tie.Need-returns-4
+returns-4 c =
+    let d : Device = c .before .before .before .before .before .before .before .before .before .before .before .args .d in
+    let s : List ℕ = c .before .before .before .before .before .before .before .before .before .before .before .args .s .now in
+    let k : ℕ = c .before .before .before .before .before .before .before .before .before .before .before .args .kind in
+    let m : ℕ = c .before .before .before .before .before .before .before .before .before .before .before .args .m in
+    let w : ℕ = c .before .before .before .before .before .before .before .before .before .before .before .args .w in
+    let z : first (recordTests d s) ≡ 0 = sym (number-is d s (c .before .before .before .before .before .before .before .before .before .check-in-order .result) (c .before .before .before .before .before .before .before .before .before .check-in-order .ensures)) ∙ c .before .before .before .before .before .before .before .before .if1 .left in
+    let n : c .before .before .count-in .result ≡ length (segments s) = c .before .before .count-in .ensures ∙ ap (λ (u : List ℕ). length (segmentsIn u)) (c .before .before .before .items-of .ensures) in
+    let mo : c .before .most-segments .result ≡ mostSegments (headOf s) = c .before .most-segments .ensures ∙ ap mostSegments (c .before .before .before .before .before .before .before .head-of .ensures) in
+    answer-no (Allocation.Placed (given d s k m .start) (length s + itemBytes)) Allocation.Refused 21 (first (allocateTests d s k m w)) (alloc-full d s k m w z (c .before .before .before .before .before .before .allowed .result) (c .before .before .before .before .before .before .allowed .ensures ∙ ap (λ (v : Head). allows v k) (c .before .before .before .before .before .before .before .head-of .ensures)) (c .before .before .before .before .before .if2 .left) (c .before .before .before .before .if3 .left) (let l : mostSegments (headOf s) ≤ length (segments s) = omega (arith, c .if4 .taken) in l)) (omega arith)
+
+array-share-prefix-at : tie.Need-array-share-prefix-at
+array-share-prefix-at c =
+    let d : Device = c .before .before .before .before .before .before .before .before .before .before .before .before .before .args .d in
+    let s : List ℕ = c .before .before .before .before .before .before .before .before .before .before .before .before .before .args .s .now in
+    (ready d s (c .before .before .before .before .before .before .before .before .before .before .before .check-in-order .result) (c .before .before .before .before .before .items-of .result .now) (c .before .before .before .before .count-in .result) (dataRange d) (c .before .before .before .before .before .before .before .before .before .before .before .check-in-order .ensures) (c .before .before .before .before .before .before .before .before .before .before .if1 .left) (c .before .before .before .before .before .items-of .ensures) (c .before .before .before .before .count-in .ensures) refl) .inside
+
+slice-aggregate-fit : tie.Need-slice-aggregate-fit
+slice-aggregate-fit c =
+    let d : Device = c .before .before .before .before .before .before .before .before .before .before .before .before .before .before .args .d in
+    let s : List ℕ = c .before .before .before .before .before .before .before .before .before .before .before .before .before .before .args .s .now in
+    (ready d s (c .before .before .before .before .before .before .before .before .before .before .before .before .check-in-order .result) (c .before .before .before .before .before .before .items-of .result .now) (c .before .before .before .before .before .count-in .result) (dataRange d) (c .before .before .before .before .before .before .before .before .before .before .before .before .check-in-order .ensures) (c .before .before .before .before .before .before .before .before .before .before .before .if1 .left) (c .before .before .before .before .before .before .items-of .ensures) (c .before .before .before .before .before .count-in .ensures) refl) .exact
+
+range-for-requires : tie.Need-range-for-requires
+range-for-requires c κs = search needs
+
+fit-requires : tie.Need-fit-requires
+fit-requires c κs =
+    let d : Device = c .before .before .before .before .before .before .before .before .before .before .before .before .before .before .before .args .d in
+    let s : List ℕ = c .before .before .before .before .before .before .before .before .before .before .before .before .before .before .before .args .s .now in
+    let k : ℕ = c .before .before .before .before .before .before .before .before .before .before .before .before .before .before .before .args .kind in
+    let m : ℕ = c .before .before .before .before .before .before .before .before .before .before .before .before .before .before .before .args .m in
+    let w : ℕ = c .before .before .before .before .before .before .before .before .before .before .before .before .before .before .before .args .w in
+    let z : first (recordTests d s) ≡ 0 = sym (number-is d s (c .before .before .before .before .before .before .before .before .before .before .before .before .before .check-in-order .result) (c .before .before .before .before .before .before .before .before .before .before .before .before .before .check-in-order .ensures)) ∙ c .before .before .before .before .before .before .before .before .before .before .before .before .if1 .left in
+    (ready d s (c .before .before .before .before .before .before .before .before .before .before .before .before .before .check-in-order .result) (c .before .before .before .before .before .before .before .items-of .result .now) (c .before .before .before .before .before .before .count-in .result) (c .range-for .result) (c .before .before .before .before .before .before .before .before .before .before .before .before .before .check-in-order .ensures) (c .before .before .before .before .before .before .before .before .before .before .before .before .if1 .left) (c .before .before .before .before .before .before .before .items-of .ensures) (c .before .before .before .before .before .before .count-in .ensures) (range-is d s (c .before .before .before .before .before .before .before .before .before .before .before .head-of .result) (c .range-for .result) k z (c .before .before .before .before .before .before .before .before .before .before .before .head-of .ensures) (c .range-for .ensures))) .chain
+
+returns-5 : tie.Need-returns-5
+returns-5 c =
+    let d : Device = c .before .before .before .before .before .before .before .before .before .before .before .before .before .before .before .before .before .before .args .d in
+    let s : List ℕ = c .before .before .before .before .before .before .before .before .before .before .before .before .before .before .before .before .before .before .args .s .now in
+    let k : ℕ = c .before .before .before .before .before .before .before .before .before .before .before .before .before .before .before .before .before .before .args .kind in
+    let m : ℕ = c .before .before .before .before .before .before .before .before .before .before .before .before .before .before .before .before .before .before .args .m in
+    let w : ℕ = c .before .before .before .before .before .before .before .before .before .before .before .before .before .before .before .before .before .before .args .w in
+    let z : first (recordTests d s) ≡ 0 = sym (number-is d s (c .before .before .before .before .before .before .before .before .before .before .before .before .before .before .before .before .check-in-order .result) (c .before .before .before .before .before .before .before .before .before .before .before .before .before .before .before .before .check-in-order .ensures)) ∙ c .before .before .before .before .before .before .before .before .before .before .before .before .before .before .before .if1 .left in
+    let n : c .before .before .before .before .before .before .before .before .before .count-in .result ≡ length (segments s) = c .before .before .before .before .before .before .before .before .before .count-in .ensures ∙ ap (λ (u : List ℕ). length (segmentsIn u)) (c .before .before .before .before .before .before .before .before .before .before .items-of .ensures) in
+    let mo : c .before .before .before .before .before .before .before .before .most-segments .result ≡ mostSegments (headOf s) = c .before .before .before .before .before .before .before .before .most-segments .ensures ∙ ap mostSegments (c .before .before .before .before .before .before .before .before .before .before .before .before .before .before .head-of .ensures) in
+    let r : Ready d s (c .before .before .before .before .before .before .before .before .before .before .before .before .before .before .before .before .check-in-order .result) (c .before .before .before .before .before .before .before .before .before .before .items-of .result .now) (c .before .before .before .before .before .before .before .before .before .count-in .result) (c .before .before .before .range-for .result) = ready d s (c .before .before .before .before .before .before .before .before .before .before .before .before .before .before .before .before .check-in-order .result) (c .before .before .before .before .before .before .before .before .before .before .items-of .result .now) (c .before .before .before .before .before .before .before .before .before .count-in .result) (c .before .before .before .range-for .result) (c .before .before .before .before .before .before .before .before .before .before .before .before .before .before .before .before .check-in-order .ensures) (c .before .before .before .before .before .before .before .before .before .before .before .before .before .before .before .if1 .left) (c .before .before .before .before .before .before .before .before .before .before .items-of .ensures) (c .before .before .before .before .before .before .before .before .before .count-in .ensures) (range-is d s (c .before .before .before .before .before .before .before .before .before .before .before .before .before .before .head-of .result) (c .before .before .before .range-for .result) k z (c .before .before .before .before .before .before .before .before .before .before .before .before .before .before .head-of .ensures) (c .before .before .before .range-for .ensures)) in
+    let f : c .before .before .fit .result ≡ fitOf m (runsFor d s k) = fit-for d s (c .before .before .before .before .before .before .before .before .before .before .before .before .before .before .before .before .check-in-order .result) (c .before .before .before .before .before .before .before .before .before .before .items-of .result .now) (c .before .before .before .before .before .before .before .before .before .count-in .result) (c .before .before .before .range-for .result) k m (c .before .before .fit .result) r (c .before .before .fit .ensures) in
+    let few : length (segments s) < mostSegments (headOf s) = omega (arith, c .before .before .before .before .before .before .before .if4 .left) in
+    answer-no (Allocation.Placed (given d s k m .start) (length s + itemBytes)) Allocation.Refused 20 (first (allocateTests d s k m w)) (alloc-none d s k m w z (c .before .before .before .before .before .before .before .before .before .before .before .before .before .allowed .result) (c .before .before .before .before .before .before .before .before .before .before .before .before .before .allowed .ensures ∙ ap (λ (v : Head). allows v k) (c .before .before .before .before .before .before .before .before .before .before .before .before .before .before .head-of .ensures)) (c .before .before .before .before .before .before .before .before .before .before .before .before .if2 .left) (c .before .before .before .before .before .before .before .before .before .before .before .if3 .left) few (c .before .before .fit .result) f (c .if5 .taken)) (omega arith)
+
+add-if6 : tie.Need-add-if6
+add-if6 c = search needs
+
+returns-6 : tie.Need-returns-6
+returns-6 c =
+    let d : Device = c .before .before .before .before .before .before .before .before .before .before .before .before .before .before .before .before .before .before .before .args .d in
+    let s : List ℕ = c .before .before .before .before .before .before .before .before .before .before .before .before .before .before .before .before .before .before .before .args .s .now in
+    let k : ℕ = c .before .before .before .before .before .before .before .before .before .before .before .before .before .before .before .before .before .before .before .args .kind in
+    let m : ℕ = c .before .before .before .before .before .before .before .before .before .before .before .before .before .before .before .before .before .before .before .args .m in
+    let w : ℕ = c .before .before .before .before .before .before .before .before .before .before .before .before .before .before .before .before .before .before .before .args .w in
+    let z : first (recordTests d s) ≡ 0 = sym (number-is d s (c .before .before .before .before .before .before .before .before .before .before .before .before .before .before .before .before .before .check-in-order .result) (c .before .before .before .before .before .before .before .before .before .before .before .before .before .before .before .before .before .check-in-order .ensures)) ∙ c .before .before .before .before .before .before .before .before .before .before .before .before .before .before .before .before .if1 .left in
+    let n : c .before .before .before .before .before .before .before .before .before .before .count-in .result ≡ length (segments s) = c .before .before .before .before .before .before .before .before .before .before .count-in .ensures ∙ ap (λ (u : List ℕ). length (segmentsIn u)) (c .before .before .before .before .before .before .before .before .before .before .before .items-of .ensures) in
+    let mo : c .before .before .before .before .before .before .before .before .before .most-segments .result ≡ mostSegments (headOf s) = c .before .before .before .before .before .before .before .before .before .most-segments .ensures ∙ ap mostSegments (c .before .before .before .before .before .before .before .before .before .before .before .before .before .before .before .head-of .ensures) in
+    let r : Ready d s (c .before .before .before .before .before .before .before .before .before .before .before .before .before .before .before .before .before .check-in-order .result) (c .before .before .before .before .before .before .before .before .before .before .before .items-of .result .now) (c .before .before .before .before .before .before .before .before .before .before .count-in .result) (c .before .before .before .before .range-for .result) = ready d s (c .before .before .before .before .before .before .before .before .before .before .before .before .before .before .before .before .before .check-in-order .result) (c .before .before .before .before .before .before .before .before .before .before .before .items-of .result .now) (c .before .before .before .before .before .before .before .before .before .before .count-in .result) (c .before .before .before .before .range-for .result) (c .before .before .before .before .before .before .before .before .before .before .before .before .before .before .before .before .before .check-in-order .ensures) (c .before .before .before .before .before .before .before .before .before .before .before .before .before .before .before .before .if1 .left) (c .before .before .before .before .before .before .before .before .before .before .before .items-of .ensures) (c .before .before .before .before .before .before .before .before .before .before .count-in .ensures) (range-is d s (c .before .before .before .before .before .before .before .before .before .before .before .before .before .before .before .head-of .result) (c .before .before .before .before .range-for .result) k z (c .before .before .before .before .before .before .before .before .before .before .before .before .before .before .before .head-of .ensures) (c .before .before .before .before .range-for .ensures)) in
+    let f : c .before .before .before .fit .result ≡ fitOf m (runsFor d s k) = fit-for d s (c .before .before .before .before .before .before .before .before .before .before .before .before .before .before .before .before .before .check-in-order .result) (c .before .before .before .before .before .before .before .before .before .before .before .items-of .result .now) (c .before .before .before .before .before .before .before .before .before .before .count-in .result) (c .before .before .before .before .range-for .result) k m (c .before .before .before .fit .result) r (c .before .before .before .fit .ensures) in
+    let few : length (segments s) < mostSegments (headOf s) = omega (arith, c .before .before .before .before .before .before .before .before .if4 .left) in
+    answer-no (Allocation.Placed (given d s k m .start) (length s + itemBytes)) Allocation.Refused 1 (first (allocateTests d s k m w)) (alloc-short d s k m w z (c .before .before .before .before .before .before .before .before .before .before .before .before .before .before .allowed .result) (c .before .before .before .before .before .before .before .before .before .before .before .before .before .before .allowed .ensures ∙ ap (λ (v : Head). allows v k) (c .before .before .before .before .before .before .before .before .before .before .before .before .before .before .before .head-of .ensures)) (c .before .before .before .before .before .before .before .before .before .before .before .before .before .if2 .left) (c .before .before .before .before .before .before .before .before .before .before .before .before .if3 .left) few (c .before .before .before .fit .result) f (c .before .if5 .left) (c .if6 .taken)) (omega arith)
+
+add-t20 : tie.Need-add-t20
+add-t20 c = search needs
+
+returns-7 : tie.Need-returns-7
+returns-7 c =
+    let d : Device = c .before .before .before .before .before .before .before .before .before .before .before .before .before .before .before .before .before .before .before .args .d in
+    let s : List ℕ = c .before .before .before .before .before .before .before .before .before .before .before .before .before .before .before .before .before .before .before .args .s .now in
+    let k : ℕ = c .before .before .before .before .before .before .before .before .before .before .before .before .before .before .before .before .before .before .before .args .kind in
+    let m : ℕ = c .before .before .before .before .before .before .before .before .before .before .before .before .before .before .before .before .before .before .before .args .m in
+    let w : ℕ = c .before .before .before .before .before .before .before .before .before .before .before .before .before .before .before .before .before .before .before .args .w in
+    let z : first (recordTests d s) ≡ 0 = sym (number-is d s (c .before .before .before .before .before .before .before .before .before .before .before .before .before .before .before .before .before .check-in-order .result) (c .before .before .before .before .before .before .before .before .before .before .before .before .before .before .before .before .before .check-in-order .ensures)) ∙ c .before .before .before .before .before .before .before .before .before .before .before .before .before .before .before .before .if1 .left in
+    let n : c .before .before .before .before .before .before .before .before .before .before .count-in .result ≡ length (segments s) = c .before .before .before .before .before .before .before .before .before .before .count-in .ensures ∙ ap (λ (u : List ℕ). length (segmentsIn u)) (c .before .before .before .before .before .before .before .before .before .before .before .items-of .ensures) in
+    let mo : c .before .before .before .before .before .before .before .before .before .most-segments .result ≡ mostSegments (headOf s) = c .before .before .before .before .before .before .before .before .before .most-segments .ensures ∙ ap mostSegments (c .before .before .before .before .before .before .before .before .before .before .before .before .before .before .before .head-of .ensures) in
+    let r : Ready d s (c .before .before .before .before .before .before .before .before .before .before .before .before .before .before .before .before .before .check-in-order .result) (c .before .before .before .before .before .before .before .before .before .before .before .items-of .result .now) (c .before .before .before .before .before .before .before .before .before .before .count-in .result) (c .before .before .before .before .range-for .result) = ready d s (c .before .before .before .before .before .before .before .before .before .before .before .before .before .before .before .before .before .check-in-order .result) (c .before .before .before .before .before .before .before .before .before .before .before .items-of .result .now) (c .before .before .before .before .before .before .before .before .before .before .count-in .result) (c .before .before .before .before .range-for .result) (c .before .before .before .before .before .before .before .before .before .before .before .before .before .before .before .before .before .check-in-order .ensures) (c .before .before .before .before .before .before .before .before .before .before .before .before .before .before .before .before .if1 .left) (c .before .before .before .before .before .before .before .before .before .before .before .items-of .ensures) (c .before .before .before .before .before .before .before .before .before .before .count-in .ensures) (range-is d s (c .before .before .before .before .before .before .before .before .before .before .before .before .before .before .before .head-of .result) (c .before .before .before .before .range-for .result) k z (c .before .before .before .before .before .before .before .before .before .before .before .before .before .before .before .head-of .ensures) (c .before .before .before .before .range-for .ensures)) in
+    let f : c .before .before .before .fit .result ≡ fitOf m (runsFor d s k) = fit-for d s (c .before .before .before .before .before .before .before .before .before .before .before .before .before .before .before .before .before .check-in-order .result) (c .before .before .before .before .before .before .before .before .before .before .before .items-of .result .now) (c .before .before .before .before .before .before .before .before .before .before .count-in .result) (c .before .before .before .before .range-for .result) k m (c .before .before .before .fit .result) r (c .before .before .before .fit .ensures) in
+    let few : length (segments s) < mostSegments (headOf s) = omega (arith, c .before .before .before .before .before .before .before .before .if4 .left) in
+    ap (λ (v : Run). Allocation.Placed (v .start) (length s + itemBytes)) f ∙ answer-yes (Allocation.Placed (given d s k m .start) (length s + itemBytes)) Allocation.Refused 0 (first (allocateTests d s k m w)) (alloc-yes d s k m w z (c .before .before .before .before .before .before .before .before .before .before .before .before .before .before .allowed .result) (c .before .before .before .before .before .before .before .before .before .before .before .before .before .before .allowed .ensures ∙ ap (λ (v : Head). allows v k) (c .before .before .before .before .before .before .before .before .before .before .before .before .before .before .before .head-of .ensures)) (c .before .before .before .before .before .before .before .before .before .before .before .before .before .if2 .left) (c .before .before .before .before .before .before .before .before .before .before .before .before .if3 .left) few (c .before .before .before .fit .result) f (c .before .if5 .left) (c .if6 .left)) refl
+
+pub allocation-of-spec : {M : Type 1} → statement M
+allocation-of-spec =
+    tie.close
+    (tie.spec
+    check-in-order-requires
+    returns
+    head-of-requires
+    allowed-requires
+    returns-2
+    returns-3
+    items-of-requires
+    count-in-requires
+    most-segments-requires
+    returns-4
+    array-share-prefix-at
+    slice-aggregate-fit
+    range-for-requires
+    fit-requires
+    returns-5
+    add-if6
+    returns-6
+    add-t20
+    returns-7)

@@ -1,0 +1,2 @@
+-- The crash model.
+pub mod Crash

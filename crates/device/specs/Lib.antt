@@ -1,2 +1,0 @@
--- The crash model.
-pub mod Device

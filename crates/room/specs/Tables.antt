@@ -1,9 +1,0 @@
--- Tables of runs. Assumes nothing.
-use Prim.Native.Nat.{ℕ}
-use mathlib.Core.List.{List, [], _∷_}
-use Rattle.runs.specs.declared.Run.{Run}
-
--- runs as plain numbers: a start and a length for each
-unfoldable pub numbersOf : List Run → List ℕ
-numbersOf [] = []
-numbersOf (r ∷ rs) = r .start ∷ r .sectors ∷ numbersOf rs
