@@ -155,7 +155,7 @@ fn copy(c: layout::CopyMap) {
 }
 
 // Prints both copies' places and the data range.
-fn print_map(p: Places) {
+fn print_map(p: DeviceMap) {
     let front = p.front;
     let back = p.back;
     say(b"front");
