@@ -14,7 +14,7 @@ use Rattle.endian.proofs.Tests.{and-left, and-right, and-both, same-equal, equa
 use Rattle.checksum.specs.Crc as Crc
 use Rattle.refusal.specs.Tests.{first, AllHold}
 use Rattle.refusal.proofs.Order.{first-zero, first-all}
-use Rattle.layout.specs.Limits.{lengthAllowed}
+use Rattle.layout.specs.Limits.{lengthAllowed, mostNanoseconds, nanosecondsAllowed}
 use Rattle.layout.proofs.Laws.{metadata-facts, metadata-test, length-facts, length-test}
 use Rattle.block.specs.declared.Entry.{Entry}
 use Rattle.block.specs.declared.Entry.the-variants.{Unused, Used}
@@ -51,13 +51,13 @@ within-facts : (e : Entry) → entryAllowed e ≡ true → Within e
 within-facts Unused h = tt
 within-facts (Used k) h =
     let l : (1 ≤ k .bytes) × (k .bytes ≤ Rattle.layout.specs.Limits.recordLimit) =
-    length-facts (k .bytes) (and-left (lengthAllowed (k .bytes)) (leb (k .nanoseconds) 999999999) h) in
-    (l .0, l .1, leb-true (k .nanoseconds) 999999999 (and-right (lengthAllowed (k .bytes)) (leb (k .nanoseconds) 999999999) h))
+    length-facts (k .bytes) (and-left (lengthAllowed (k .bytes)) (nanosecondsAllowed (k .nanoseconds)) h) in
+    (l .0, l .1, leb-true (k .nanoseconds) mostNanoseconds (and-right (lengthAllowed (k .bytes)) (nanosecondsAllowed (k .nanoseconds)) h))
 
 within-test : (e : Entry) → Within e → entryAllowed e ≡ true
 within-test Unused h = refl
 within-test (Used k) h =
-    and-both (lengthAllowed (k .bytes)) (leb (k .nanoseconds) 999999999) (length-test (k .bytes) (h .0) (h .1)) (le-leb (k .nanoseconds) 999999999 (h .2))
+    and-both (lengthAllowed (k .bytes)) (nanosecondsAllowed (k .nanoseconds)) (length-test (k .bytes) (h .0) (h .1)) (le-leb (k .nanoseconds) mostNanoseconds (h .2))
 
 apart-facts : (a b : Entry) → differentTimes a b ≡ true → Apart a b
 unfolding sameTime

@@ -16,7 +16,7 @@ use Rattle.endian.proofs.Tests.{and-left, and-right, and-both, equal-same, leng
 use Rattle.refusal.specs.Tests.{AllHold}
 use Rattle.checksum.specs.Crc.{checksum}
 use Rattle.checksum.proofs.Laws.{checksum-below}
-use Rattle.layout.specs.Limits.{sizeAllowed, lengthAllowed}
+use Rattle.layout.specs.Limits.{sizeAllowed, lengthAllowed, mostNanoseconds, nanosecondsAllowed}
 use Rattle.layout.proofs.Laws.{metadata-facts, length-facts, length-fits}
 use Rattle.block.specs.declared.Holding.{Holding}
 use Rattle.block.specs.declared.BlockFields.{BlockFields}
@@ -97,7 +97,7 @@ pub entry-back : (e : Entry) → entryAllowed e ≡ true
 unfolding entryOf
 entry-back Unused h = refl
 entry-back (Used k) h =
-    let l : 1 ≤ k .bytes = length-facts (k .bytes) (and-left (lengthAllowed (k .bytes)) (leb (k .nanoseconds) 999999999) h) .0 in
+    let l : 1 ≤ k .bytes = length-facts (k .bytes) (and-left (lengthAllowed (k .bytes)) (nanosecondsAllowed (k .nanoseconds)) h) .0 in
     let n : eqb (k .bytes) 0 ≡ false = ne-eqb (k .bytes) 0 (λ e. let z : k .bytes ≡ 0 = e in omega arith) in
     ap (λ (x : Bool). cond x Unused (Used k)) (third (eqb (k .seconds) 0) (eqb (k .nanoseconds) 0) (eqb (k .bytes) 0) (eqb (k .checksum) 0) n)
   where
@@ -111,8 +111,8 @@ pub entry-fits : (e : Entry) → entryAllowed e ≡ true → EntryFits e
     → (holdingOf e .seconds < 2 ^ 64) × (holdingOf e .nanoseconds < 2 ^ 32) × (holdingOf e .bytes < 2 ^ 32) × (holdingOf e .checksum < 2 ^ 32)
 entry-fits Unused h k = (lit< tt, lit< tt, lit< tt, lit< tt)
 entry-fits (Used w) h k =
-    let n : w .nanoseconds ≤ 999999999 = leb-true (w .nanoseconds) 999999999 (and-right (lengthAllowed (w .bytes)) (leb (w .nanoseconds) 999999999) h) in
-    (k .0, omega arith, length-fits (w .bytes) (and-left (lengthAllowed (w .bytes)) (leb (w .nanoseconds) 999999999) h), k .1)
+    let n : w .nanoseconds ≤ mostNanoseconds = leb-true (w .nanoseconds) mostNanoseconds (and-right (lengthAllowed (w .bytes)) (nanosecondsAllowed (w .nanoseconds)) h) in
+    (k .0, omega arith, length-fits (w .bytes) (and-left (lengthAllowed (w .bytes)) (nanosecondsAllowed (w .nanoseconds)) h), k .1)
 
 module _ (p u : List ℕ) (f : BlockFields) (hp : length p ≡ 32) (hu : length u ≡ 32) where
   -- the block's fields have the table's widths

@@ -7,7 +7,7 @@ use mathlib.Core.List.{List}
 use lib.ListN.{length, getD}
 use Rattle.endian.specs.Bytes.{window, zeros}
 use Rattle.checksum.specs.Crc as Crc
-use Rattle.layout.specs.Limits.{recordLimit}
+use Rattle.layout.specs.Limits.{recordLimit, mostNanoseconds}
 use Rattle.block.specs.declared.Entry.{Entry}
 use Rattle.block.specs.declared.Entry.the-variants.{Unused, Used}
 use Rattle.block.specs.Block.{signatureBytes, number, poolOf, blockdevOf, entryAt}
@@ -23,7 +23,7 @@ HexBytes s = (i : ℕ) → i < length s → Hex (getD s i 0)
 -- used bytes of a used entry 1 to the record limit, nanoseconds at most 999,999,999
 abbrev pub Within : Entry → Type 0
 Within Unused = Unit {0}
-Within (Used h) = (1 ≤ h .bytes) × (h .bytes ≤ recordLimit) × (h .nanoseconds ≤ 999999999)
+Within (Used h) = (1 ≤ h .bytes) × (h .bytes ≤ recordLimit) × (h .nanoseconds ≤ mostNanoseconds)
 
 -- two used entries have different times
 abbrev pub Apart : Entry → Entry → Type 0

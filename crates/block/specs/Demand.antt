@@ -4,6 +4,7 @@ use mathlib.Core.Path.{_≡_}
 use mathlib.Core.Bool.{true}
 use mathlib.Core.List.{List}
 use lib.ListN.{length}
+use Rattle.layout.specs.Limits.{mostNanoseconds}
 use Rattle.endian.specs.Bytes.{Bytes}
 use Rattle.refusal.specs.Tests.{first, Fails}
 use Rattle.block.specs.declared.Time.{Time}
@@ -54,5 +55,5 @@ nanosecondsIn t = 1000000000 * (t .seconds) + t .nanoseconds
 -- Of two times within the limit, one is later than the other exactly when it is more nanoseconds.
 abbrev pub Later : Type 0
 Later =
-    (t u : Time) → t .nanoseconds ≤ 999999999 → u .nanoseconds ≤ 999999999
+    (t u : Time) → t .nanoseconds ≤ mostNanoseconds → u .nanoseconds ≤ mostNanoseconds
     → (laterThan t u ≡ true → nanosecondsIn u < nanosecondsIn t) × (nanosecondsIn u < nanosecondsIn t → laterThan t u ≡ true)

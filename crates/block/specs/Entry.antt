@@ -2,7 +2,7 @@
 use Prim.Native.Nat.{ℕ}
 use mathlib.Core.Bool.{Bool, true, false, not, cond, _&&_, _||_}
 use lib.Dec.{leb, ltb, eqb}
-use Rattle.layout.specs.Limits.{lengthAllowed}
+use Rattle.layout.specs.Limits.{lengthAllowed, nanosecondsAllowed}
 use Rattle.block.specs.declared.Time.{Time}
 use Rattle.block.specs.declared.Holding.{Holding}
 use Rattle.block.specs.declared.Entry.{Entry}
@@ -29,7 +29,7 @@ entryOf s n u c =
 -- used bytes of a used entry 1 to the record limit; nanoseconds at most 999,999,999
 abbrev pub entryAllowed : Entry → Bool
 entryAllowed Unused = true
-entryAllowed (Used h) = lengthAllowed (h .bytes) && leb (h .nanoseconds) 999999999
+entryAllowed (Used h) = lengthAllowed (h .bytes) && nanosecondsAllowed (h .nanoseconds)
 
 -- two used entries have different times
 abbrev pub differentTimes : Entry → Entry → Bool

@@ -87,7 +87,7 @@ pub fn entry_allowed(e: Entry) -> bool
 {
     match e {
         Entry::Unused => true,
-        Entry::Used(h) => layout::length_allowed(h.bytes as u64) & (h.nanoseconds <= 999999999),
+        Entry::Used(h) => layout::length_allowed(h.bytes as u64) & (h.nanoseconds <= layout::MOST_NANOSECONDS),
     }
 }
 

@@ -13,7 +13,7 @@ use Rattle.layout.specs.declared.Side.{Side}
 use Rattle.layout.specs.declared.Side.the-variants.{Front, Back}
 use Rattle.layout.specs.declared.Area.{Area}
 use Rattle.layout.specs.declared.Area.the-variants.{A, B}
-use Rattle.layout.specs.Limits.{recordLimit, lengthAllowed}
+use Rattle.layout.specs.Limits.{recordLimit, lengthAllowed, nanosecondsAllowed}
 use Rattle.layout.specs.Places.{blockSector, areaSector}
 use Rattle.layout.proofs.Laws.{limit-fits}
 use Rattle.block.specs.declared.Time.{Time}
@@ -76,7 +76,7 @@ module _ (f b : List ℕ) (t : Time) (r : List ℕ) (e : updateNumber f b t r �
   tests = not-refused f b t r e
 
   new-fit : EntryFit (Used (holdingFor t r))
-  new-fit = (and-both (lengthAllowed (length r)) (leb (t .nanoseconds) 999999999) (tests .1 .1 .1 .1 .0) (tests .1 .1 .0), (fits, checksum-below r))
+  new-fit = (and-both (lengthAllowed (length r)) (nanosecondsAllowed (t .nanoseconds)) (tests .1 .1 .1 .1 .0) (tests .1 .1 .0), (fits, checksum-below r))
 
   part-fit : (w : Side) (c : List ℕ) → first (readTests (blockIn c)) ≡ 0 → PartFit (partOf w (deviceIn f) c (holdingFor t r))
   part-fit w c ok = (area-fit (blockIn f) w (spare c), block-fit (blockIn f) w, with-fit (blockIn c) ok (spare c) (Used (holdingFor t r)) new-fit)

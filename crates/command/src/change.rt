@@ -21,7 +21,7 @@ use update::Planned;
 
 // The time one nanosecond after t; t where there is none.
 fn next_time(t: Time) -> Time {
-    if t.nanoseconds < 999999999 {
+    if t.nanoseconds < layout::MOST_NANOSECONDS {
         return Time {
             seconds: t.seconds,
             nanoseconds: t.nanoseconds + 1,

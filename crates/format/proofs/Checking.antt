@@ -11,7 +11,7 @@ use Rattle.endian.proofs.Tests.{and-left, and-right}
 use Rattle.refusal.specs.Tests.{first, AllHold, Ascending}
 use Rattle.refusal.proofs.Order.{refused, passed, first-zero}
 use Rattle.layout.specs.declared.Device.{Device}
-use Rattle.layout.specs.Limits.{sizeAllowed, metadataAllowed, reservedAllowed}
+use Rattle.layout.specs.Limits.{sizeAllowed, metadataAllowed, reservedAllowed, nanosecondsAllowed}
 use Rattle.layout.specs.Places.{copyBytes}
 use Rattle.block.specs.declared.Time.{Time}
 use Rattle.block.specs.Block.{isHex}
@@ -48,7 +48,7 @@ pub record Taken (f b : List ℕ) (v : Device) (p u : List ℕ) (t : Time) (r : 
   pub hex : allPass isHex p && allPass isHex u ≡ true
   pub metadata : metadataAllowed (v .metadata) ≡ true
   pub reserved : reservedAllowed (v .reserved) ≡ true
-  pub ns : leb (t .nanoseconds) 999999999 ≡ true
+  pub ns : nanosecondsAllowed (t .nanoseconds) ≡ true
   pub content : AllHold (contentTests v r)
 
 pub taken : (f b : List ℕ) (v : Device) (p u : List ℕ) (t : Time) (r : List ℕ) → formatNumber f b v p u t r ≡ 0 → Taken f b v p u t r

@@ -16,7 +16,7 @@ use Rattle.refusal.specs.Tests.{first, AllHold}
 use Rattle.refusal.proofs.Order.{first-all, answer-no, answer-yes}
 use Rattle.layout.specs.declared.Device.{Device}
 use Rattle.layout.specs.declared.Area.the-variants.{A}
-use Rattle.layout.specs.Limits.{lengthAllowed}
+use Rattle.layout.specs.Limits.{lengthAllowed, nanosecondsAllowed}
 use Rattle.layout.specs.Places.{copyBytes}
 use Rattle.block.specs.declared.Time.{Time}
 use Rattle.block.specs.declared.Entry.the-variants.{Unused, Used}
@@ -90,7 +90,7 @@ module _ {f b : List ℕ} {v : Device} {p u : List ℕ} {t : Time} {r : List ℕ
         k .reserved,
         (
           and-both (entryAllowed (Used (holdingFor t r))) true
-              (and-both (lengthAllowed (length r)) (leb (t .nanoseconds) 999999999) (k .content .0) (k .ns)) refl,
+              (and-both (lengthAllowed (length r)) (nanosecondsAllowed (t .nanoseconds)) (k .content .0) (k .ns)) refl,
           tt,
         ),
       ),

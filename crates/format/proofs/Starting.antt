@@ -13,7 +13,7 @@ use Rattle.refusal.proofs.Order.{first-zero, first-all}
 use Rattle.layout.specs.declared.Device.{Device}
 use Rattle.layout.specs.declared.Side.{Side}
 use Rattle.layout.specs.declared.Side.the-variants.{Front, Back}
-use Rattle.layout.specs.Limits.{deviceTests, recordLimit, lengthAllowed}
+use Rattle.layout.specs.Limits.{deviceTests, recordLimit, lengthAllowed, nanosecondsAllowed}
 use Rattle.layout.specs.Places.{copyBytes}
 use Rattle.layout.proofs.Laws.{length-test}
 use Rattle.block.specs.declared.Time.{Time}
@@ -42,7 +42,7 @@ placing v f b e nf nb =
     (sound-device v (sizes-allowed v (a .0) (a .1 .0)) f b nf nb, its-copy v (sizes-allowed v (a .0) (a .1 .0)) f b nf nb)
 
 module _ {f b : List ℕ} {v : Device} {p u : List ℕ} {t : Time} {r : List ℕ} (k : Taken f b v p u t r) (ts : t .seconds < 2 ^ 64) (vs : v .sectors < 2 ^ 64)
-    (t' : Time) (r' : List ℕ) (ns : leb (t' .nanoseconds) 999999999 ≡ true) (later : laterThan t' t ≡ true) (content : AllHold (contentTests v r')) where
+    (t' : Time) (r' : List ℕ) (ns : nanosecondsAllowed (t' .nanoseconds) ≡ true) (later : laterThan t' t ≡ true) (content : AllHold (contentTests v r')) where
   -- no rule refuses the update
   pub not-refused : updateNumber (formattedCopy v p u t r) (formattedCopy v p u t r) t' r' ≡ 0
   unfolding updateNumber

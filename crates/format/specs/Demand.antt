@@ -10,7 +10,7 @@ use Rattle.refusal.specs.Tests.{first, AllHold, Fails}
 use Rattle.layout.specs.declared.Device.{Device}
 use Rattle.layout.specs.declared.Side.{Side}
 use Rattle.layout.specs.declared.Area.the-variants.{A}
-use Rattle.layout.specs.Limits.{deviceTests}
+use Rattle.layout.specs.Limits.{deviceTests, nanosecondsAllowed}
 use Rattle.layout.specs.Places.{areaOffset, copyBytes}
 use Rattle.block.specs.declared.Time.{Time}
 use Rattle.block.specs.declared.Verdict.the-variants as Verdict
@@ -61,7 +61,7 @@ abbrev pub Starting : Type 0
 Starting =
     (f b : List ℕ) (v : Device) (p u : List ℕ) (t : Time) (r : List ℕ) → t .seconds < 2 ^ 64 → v .sectors < 2 ^ 64
     → formatNumber f b v p u t r ≡ 0
-    → (t' : Time) (r' : List ℕ) → t' .seconds < 2 ^ 64 → leb (t' .nanoseconds) 999999999 ≡ true → laterThan t' t ≡ true
+    → (t' : Time) (r' : List ℕ) → t' .seconds < 2 ^ 64 → nanosecondsAllowed (t' .nanoseconds) ≡ true → laterThan t' t ≡ true
     → AllHold (contentTests v r')
     → Start v (onDevice v (formattedCopy v p u t r) (formattedCopy v p u t r)) t' r'
 

@@ -9,7 +9,7 @@ use Rattle.refusal.specs.Numbers.{sliceSize, deviceSize, uuidByte, metadataSize
 use Rattle.refusal.specs.Tests.{Test, _elseRefuse_, first}
 use Rattle.layout.specs.declared.Device.{Device}
 use Rattle.layout.specs.declared.Area.the-variants.{A}
-use Rattle.layout.specs.Limits.{sizeAllowed, metadataAllowed, reservedAllowed}
+use Rattle.layout.specs.Limits.{sizeAllowed, metadataAllowed, reservedAllowed, nanosecondsAllowed}
 use Rattle.layout.specs.Places.{copyBytes}
 use Rattle.block.specs.declared.Time.{Time}
 use Rattle.block.specs.declared.Entry.the-variants.{Unused, Used}
@@ -28,7 +28,7 @@ valueTests v p u t r =
     ∷ (allPass isHex p && allPass isHex u elseRefuse uuidByte)
     ∷ (metadataAllowed (v .metadata) elseRefuse metadataSize)
     ∷ (reservedAllowed (v .reserved) elseRefuse reservedSize)
-    ∷ (leb (t .nanoseconds) 999999999 elseRefuse areaEntry)
+    ∷ (nanosecondsAllowed (t .nanoseconds) elseRefuse areaEntry)
     ∷ contentTests v r
 
 -- 1 before them: both copies have the size of one, each UUID has 32 bytes

@@ -32,7 +32,7 @@ fn check_values(d: Device, pool: &[u8], blockdev: &[u8], t: Time, r: &[u8]) -> u
     if !layout::reserved_allowed(d.reserved) {
         return refusal::RESERVED_SIZE;
     }
-    let within = t.nanoseconds <= 999999999;
+    let within = t.nanoseconds <= layout::MOST_NANOSECONDS;
     if !within {
         return refusal::AREA_ENTRY;
     }

@@ -27,9 +27,24 @@ deviceTests d =
     ∷ (reservedAllowed (d .reserved) elseRefuse reservedSize)
     ∷ []
 
+-- nanoseconds at most 999,999,999
+abbrev pub mostNanoseconds : ℕ
+mostNanoseconds = 999999999
+
+abbrev pub nanosecondsAllowed : ℕ → Bool
+nanosecondsAllowed n = leb n mostNanoseconds
+
 -- bytes of a sector
 abbrev pub sectorBytes : ℕ
 sectorBytes = 512
+
+-- sectors of a copy's header
+abbrev pub headerSectors : ℕ
+headerSectors = 8
+
+-- where the signature block begins in a copy as it is lent, in bytes: in the header's sector 1
+abbrev pub blockOffset : ℕ
+blockOffset = sectorBytes
 
 -- the most bytes of a record
 unfoldable pub recordLimit : ℕ

@@ -13,7 +13,7 @@ use Rattle.layout.specs.declared.CopyMap.{CopyMap}
 use Rattle.layout.specs.declared.DeviceMap.{DeviceMap}
 use Rattle.layout.specs.declared.Located.{Located}
 use Rattle.layout.specs.declared.Located.the-variants.{At, Refused}
-use Rattle.layout.specs.Limits.{deviceTests, sectorBytes, recordLimit}
+use Rattle.layout.specs.Limits.{deviceTests, sectorBytes, headerSectors, recordLimit}
 
 -- front: header in sectors 0 to 7; back: header in the last 8 sectors
 abbrev pub headerSector : Side → Device → ℕ
@@ -47,12 +47,12 @@ dataEnd d = d .sectors - 8 - d .metadata - d .reserved
 -- A copy is lent as the header's 8 sectors, then as much of area a as a record can fill, then as much of area b: where
 -- an area begins there, in bytes.
 unfoldable pub areaOffset : Area → ℕ
-areaOffset A = 8 * sectorBytes
-areaOffset B = 8 * sectorBytes + recordLimit
+areaOffset A = headerSectors * sectorBytes
+areaOffset B = headerSectors * sectorBytes + recordLimit
 
 -- the bytes of a copy as it is lent
 unfoldable pub copyBytes : ℕ
-copyBytes = 8 * sectorBytes + recordLimit + recordLimit
+copyBytes = headerSectors * sectorBytes + recordLimit + recordLimit
 
 -- a copy's places
 abbrev pub copyMapOf : Side → Device → CopyMap

@@ -1,4 +1,5 @@
-// Where things lie on a device, from its three numbers: S sectors in all, L of a metadata area, R of reserved space.
+// Where things lie on a device, from its three numbers: S sectors in all, L of the metadata areas of a copy (L / 2 each), R of
+// reserved space. The sizes of what lies there, and their limits.
 // Sectors are u64, and nothing wraps for any S.
 ghost use mathlib.Core.Path.{_≡_};
 ghost use Prim.Native.Nat.{_-_};
@@ -8,8 +9,25 @@ ghost use Rattle.layout.specs.Places.{blockSector, areaSector, dataStart
 
 pub const SECTOR_BYTES: usize = 512;
 
+// A copy's header.
+pub const HEADER_SECTORS: u64 = 8;
+
+pub const HEADER_BYTES: usize = HEADER_SECTORS as usize * SECTOR_BYTES;
+
+// Where the signature block begins in a copy as it is lent, in bytes: in the header's sector 1.
+pub const BLOCK_OFFSET: usize = SECTOR_BYTES;
+
 // The most bytes of a record.
 pub const RECORD_LIMIT: u64 = 8192;
+
+// A copy as it is lent: the header, then as much of each area as a record can fill.
+pub const COPY_BYTES: usize = HEADER_BYTES + 2 * RECORD_LIMIT as usize;
+
+// A dump: the front copy, then the back.
+pub const DUMP_BYTES: usize = 2 * COPY_BYTES;
+
+// The most nanoseconds of a time.
+pub const MOST_NANOSECONDS: u32 = 999999999;
 
 // The device's numbers, as the signature block has them.
 pub struct Device {
@@ -139,8 +157,8 @@ pub fn area_offset(x: Area) -> usize
     ensures { λ r. ⌜ r ≡ areaOffset x ⌝ }
 {
     match x {
-        Area::A => 4096,
-        Area::B => 4096 + RECORD_LIMIT as usize,
+        Area::A => HEADER_BYTES,
+        Area::B => HEADER_BYTES + RECORD_LIMIT as usize,
     }
 }
 
@@ -148,7 +166,7 @@ pub fn area_offset(x: Area) -> usize
 pub fn copy_bytes() -> usize
     ensures { λ r. ⌜ r ≡ copyBytes ⌝ }
 {
-    4096 + 2 * RECORD_LIMIT as usize
+    COPY_BYTES
 }
 
 // The first data sector; of any numbers.

@@ -12,7 +12,7 @@ use Rattle.layout.specs.declared.Side.{Side}
 use Rattle.layout.specs.declared.Side.the-variants.{Front, Back}
 use Rattle.layout.specs.declared.Area.{Area}
 use Rattle.layout.specs.declared.Area.the-variants.{A}
-use Rattle.layout.specs.Limits.{lengthAllowed}
+use Rattle.layout.specs.Limits.{lengthAllowed, nanosecondsAllowed}
 use Rattle.layout.specs.Places.{blockSector, areaSector}
 use Rattle.block.specs.declared.Time.{Time}
 use Rattle.block.specs.declared.Entry.the-variants.{Used}
@@ -213,7 +213,7 @@ module _ {f b g k : List ℕ} (sf : SameCopy f g) (sb : SameCopy b k) (hf : bloc
       go (Answer.Refused n) = refl
       go (Answer.Found q o) =
           ap₂
-          (λ (s : Bool) (c : List ℕ). first ((s elseRefuse notInStep) ∷ (leb (t .nanoseconds) 999999999 elseRefuse areaEntry) ∷ (laterThan t (timeAt q) elseRefuse notLater) ∷ contentTests (deviceOf c) r))
+          (λ (s : Bool) (c : List ℕ). first ((s elseRefuse notInStep) ∷ (nanosecondsAllowed (t .nanoseconds) elseRefuse areaEntry) ∷ (laterThan t (timeAt q) elseRefuse notLater) ∷ contentTests (deviceOf c) r))
           (same .step) hf
 
   plan-same : (t : Time) (r : List ℕ) → planOf g k t r ≡ planOf f b t r

@@ -16,7 +16,7 @@ use Rattle.layout.specs.declared.Device.{Device}
 use Rattle.layout.specs.declared.Side.{Side}
 use Rattle.layout.specs.declared.Side.the-variants.{Front, Back}
 use Rattle.layout.specs.declared.Area.{Area}
-use Rattle.layout.specs.Limits.{lengthAllowed}
+use Rattle.layout.specs.Limits.{lengthAllowed, nanosecondsAllowed}
 use Rattle.layout.specs.Places.{blockSector, areaSector}
 use Rattle.layout.proofs.Laws.{length-facts}
 use Rattle.block.specs.declared.Time.{Time}
@@ -138,7 +138,7 @@ module _ (v : Device) (d : Sectors) (t : Time) (r : List ℕ) (s : Start v d t r
       (lit< tt, (lit< tt, (lit< tt, (lit< tt, (lit< tt, (lit< tt, (lit< tt, tt)))))))
       (sym (ap (λ (a : Answer). numberAfter a (copy Front) (copy Back) t r) found) ∙ s .not-refused)
 
-  its-time : leb (t .nanoseconds) 999999999 ≡ true
+  its-time : nanosecondsAllowed (t .nanoseconds) ≡ true
   its-time = holds-all .1 .0
 
   its-later : (w : Side) → laterThan t (timeOf (heldIn (copy w))) ≡ true

@@ -17,7 +17,7 @@ use Rattle.refusal.proofs.Order.{first-zero, first-all}
 use Rattle.layout.specs.declared.Device.{Device}
 use Rattle.layout.specs.declared.Area.{Area}
 use Rattle.layout.specs.declared.Area.the-variants.{A, B}
-use Rattle.layout.specs.Limits.{sizeAllowed, metadataAllowed, reservedAllowed, lengthAllowed}
+use Rattle.layout.specs.Limits.{sizeAllowed, metadataAllowed, reservedAllowed, lengthAllowed, nanosecondsAllowed}
 use Rattle.block.specs.declared.Time.{Time}
 use Rattle.block.specs.declared.Holding.{Holding}
 use Rattle.block.specs.declared.Entry.{Entry}
@@ -112,10 +112,10 @@ device-kept f B e = refl
 
 -- a copy whose block is accepted, and whose newest entry is used: its new block is accepted with the changed numbers
 module _ (c : List ℕ) (ok : first (readTests (blockIn c)) ≡ 0) (h : Holding) (used : entryIn (fieldsOf (blockIn c)) (newest (fieldsOf (blockIn c))) ≡ Used h)
-    (t : Time) (r : List ℕ) (fits : t .seconds < 2 ^ 64) (ns : leb (t .nanoseconds) 999999999 ≡ true) (len : lengthAllowed (length r) ≡ true)
+    (t : Time) (r : List ℕ) (fits : t .seconds < 2 ^ 64) (ns : nanosecondsAllowed (t .nanoseconds) ≡ true) (len : lengthAllowed (length r) ≡ true)
     (later : laterThan t (timeOf h) ≡ true) where
   new-allowed : entryAllowed (Used (holdingFor t r)) ≡ true
-  new-allowed = and-both (lengthAllowed (length r)) (leb (t .nanoseconds) 999999999) len ns
+  new-allowed = and-both (lengthAllowed (length r)) (nanosecondsAllowed (t .nanoseconds)) len ns
 
   -- an entry that stands beside a used one, later than it
   changed-allowed : (f : BlockFields) (x : Area) → entryIn f x ≡ Used h → entryAllowed (entryIn f x) ≡ true

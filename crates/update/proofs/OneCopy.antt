@@ -17,7 +17,7 @@ use Rattle.layout.specs.declared.Side.{Side}
 use Rattle.layout.specs.declared.Side.the-variants.{Front, Back}
 use Rattle.layout.specs.declared.Area.{Area}
 use Rattle.layout.specs.declared.Area.the-variants.{A, B}
-use Rattle.layout.specs.Limits.{recordLimit, lengthAllowed}
+use Rattle.layout.specs.Limits.{recordLimit, lengthAllowed, nanosecondsAllowed}
 use Rattle.layout.specs.Places.{headerSector, blockSector, areaSector, areaOffset, copyBytes}
 use Rattle.layout.proofs.Laws.{length-facts}
 use Rattle.block.specs.declared.Time.{Time}
@@ -54,7 +54,7 @@ block-place Back v z = let h : 2097152 ≤ v .sectors = z .sectors in omega arit
 
 pub used-bytes : (e : Entry) (h : Holding) → e ≡ Used h → entryAllowed e ≡ true → h .bytes ≤ recordLimit
 used-bytes e h d w =
-    length-facts (h .bytes) (and-left (lengthAllowed (h .bytes)) (leb (h .nanoseconds) 999999999) (sym (ap entryAllowed d) ∙ w)) .1
+    length-facts (h .bytes) (and-left (lengthAllowed (h .bytes)) (nanosecondsAllowed (h .nanoseconds)) (sym (ap entryAllowed d) ∙ w)) .1
 
 -- a copy read from sectors where a block names a record, and its area begins with the record
 pub holds-at : (s : Side) (v : Device) (e : Sectors) → Sound e → Sizes v → {g : BlockFields} {p u : List ℕ} {x : Area} {h : Holding} {r : List ℕ}
@@ -117,7 +117,7 @@ module _ (s : Side) (v : Device) (d : Sectors) (sd : Sound d) (z : Sizes v) (ok 
         held-small (ap (take n) (gather-same e d (areaSector s x v) areaSectors a) ∙ sym (copy-area s v d sd x n held-small))
 
     -- the block is new, and the record's sectors have landed
-    pub new-held : (t : Time) (r : List ℕ) → t .seconds < 2 ^ 64 → leb (t .nanoseconds) 999999999 ≡ true → lengthAllowed (length r) ≡ true
+    pub new-held : (t : Time) (r : List ℕ) → t .seconds < 2 ^ 64 → nanosecondsAllowed (t .nanoseconds) ≡ true → lengthAllowed (length r) ≡ true
         → laterThan t (timeOf (heldIn (copyFrom s v d))) ≡ true
         → e (blockSector s v) ≡ newBlock (copyFrom s v d) t r
         → ((i : ℕ) → i < sectorsOf (length r) → e (areaSector s (spare (copyFrom s v d)) v + i) ≡ sectorOf r i)

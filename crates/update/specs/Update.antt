@@ -4,6 +4,7 @@ use mathlib.Core.Bool.{Bool}
 use mathlib.Core.List.{List, [], _∷_, _++_}
 use lib.Dec.{leb}
 use lib.ListN.{length}
+use Rattle.layout.specs.Limits.{nanosecondsAllowed}
 use Rattle.endian.specs.Bytes.{window, zeros}
 use Rattle.checksum.specs.Crc as Crc
 use Rattle.refusal.specs.Numbers.{notInStep, areaEntry, notLater}
@@ -38,7 +39,7 @@ deviceIn f = deviceOf (blockIn f)
 -- nanoseconds of its time, then 14, then those of the record
 abbrev pub testsAfter : Bool → List ℕ → Time → Time → List ℕ → List Test
 testsAfter step f old t r =
-    (step elseRefuse notInStep) ∷ (leb (t .nanoseconds) 999999999 elseRefuse areaEntry) ∷ (laterThan t old elseRefuse notLater) ∷ contentTests (deviceIn f) r
+    (step elseRefuse notInStep) ∷ (nanosecondsAllowed (t .nanoseconds) elseRefuse areaEntry) ∷ (laterThan t old elseRefuse notLater) ∷ contentTests (deviceIn f) r
 
 abbrev pub updateTests : List ℕ → List ℕ → Time → Time → List ℕ → List Test
 updateTests f b old t r = testsAfter (inStep f b) f old t r

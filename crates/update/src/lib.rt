@@ -49,7 +49,7 @@ fn check_after(f: &[u8], step: bool, old: Time, t: Time, r: &[u8]) -> u8
     if !step {
         return refusal::NOT_IN_STEP;
     }
-    let within = t.nanoseconds <= 999999999;
+    let within = t.nanoseconds <= layout::MOST_NANOSECONDS;
     if !within {
         return refusal::AREA_ENTRY;
     }

@@ -6,15 +6,9 @@ use borrow.Author.Needs.{needs}
 use Rattle.layout.proofs.copy_bytes.Statement.{statement}
 use Rattle.layout.proofs.copy_bytes.Tie as tie
 
-mul-result : tie.Need-mul-result
-mul-result c = search needs
-
-add-result : tie.Need-add-result
-add-result c = search needs
-
 returns : tie.Need-returns
 unfolding copyBytes recordLimit
 returns c = refl
 
 pub copy-bytes-spec : {M : Type 1} → statement M
-copy-bytes-spec = tie.close (tie.spec mul-result add-result returns)
+copy-bytes-spec = tie.close (tie.spec returns)
