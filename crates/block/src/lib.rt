@@ -5,10 +5,10 @@ ghost use Prim.Native.Nat.{_+_, _≤_};
 ghost use lib.ListN.{length};
 ghost use Rattle.endian.specs.Bytes.{window, same, allPass};
 ghost use Rattle.refusal.specs.Tests.{first};
-ghost use Rattle.block.specs.Block.{isHex, allZero, zeroFields, checksumRight, signatureBytes, poolOf, blockdevOf, entryAt, fieldsOf, limitTests, readTests, reading};
+ghost use Rattle.block.specs.Block.{isHex, allZero, zeroFields, checksumRight, signatureBytes, poolOf, blockdevOf, entryAt, fieldsOf, limitTests, readTests, refusedReading, reading};
 ghost use Rattle.block.specs.Writing.{holdingOf, sealed, writeTests, written};
 ghost use Rattle.block.specs.Laid.{entryLaid, bodyLaid};
-ghost use Rattle.block.specs.Entry.{laterThan, sameTime, entryOf, entryAllowed, differentTimes, entriesAllowed};
+ghost use Rattle.block.specs.Entry.{laterThan, sameTime, timeOf, entryOf, entryAllowed, differentTimes, entriesAllowed};
 use layout::Device;
 
 // A time, in seconds and nanoseconds.
@@ -65,6 +65,16 @@ pub fn same_time(t: Time, u: Time) -> bool
     (t.seconds == u.seconds) & (t.nanoseconds == u.nanoseconds)
 }
 
+// The time of what an area holds.
+pub fn time_of(h: Holding) -> Time
+    ensures { λ r. ⌜ r ≡ timeOf h ⌝ }
+{
+    Time {
+        seconds: h.seconds,
+        nanoseconds: h.nanoseconds,
+    }
+}
+
 // The entry with these four fields.
 pub fn entry_of(seconds: u64, nanoseconds: u32, bytes: u32, checksum: u32) -> Entry
     ensures { λ r. ⌜ r ≡ entryOf seconds nanoseconds bytes checksum ⌝ }
@@ -108,16 +118,7 @@ fn differ(a: Entry, b: Entry) -> bool
     let Entry::Used(k) = b else {
         return true;
     };
-    !same_time(
-        Time {
-            seconds: h.seconds,
-            nanoseconds: h.nanoseconds,
-        },
-        Time {
-            seconds: k.seconds,
-            nanoseconds: k.nanoseconds,
-        },
-    )
+    !same_time(time_of(h), time_of(k))
 }
 
 // Whether x is a digit, 0-9 or a-f.
@@ -205,7 +206,7 @@ fn entry_at(s: &[u8], at: usize) -> Entry
 }
 
 // The numbers of a block, whether it is accepted or not.
-pub fn fields(s: &[u8]) -> BlockFields
+fn fields(s: &[u8]) -> BlockFields
     ensures { λ r. ⌜ r ≡ fieldsOf (now (s .entry)) ⌝ }
 {
     let device = Device {
@@ -278,17 +279,24 @@ fn uuid_bytes(s: &[u8]) -> [u8; 32]
     r
 }
 
+// The reading of a block that is refused with a number.
+pub fn refused(n: u8) -> Reading
+    ensures { λ r. ⌜ r ≡ refusedReading n ⌝ }
+{
+    Reading {
+        verdict: Verdict::Refused(n),
+        pool: [0u8; 32],
+        blockdev: [0u8; 32],
+    }
+}
+
 // Reads a signature block: its fields, or the lowest of 1 to 9 that applies.
 pub fn read(s: &[u8]) -> Reading
     ensures { λ r. ⌜ r ≡ reading (now (s .entry)) ⌝ }
 {
     let n = read_refusal(s);
     if n != 0 {
-        return Reading {
-            verdict: Verdict::Refused(n),
-            pool: [0u8; 32],
-            blockdev: [0u8; 32],
-        };
+        return refused(n);
     }
     Reading {
         verdict: Verdict::Accepted(fields(s)),
@@ -361,7 +369,7 @@ fn put_fields(out: &mut [u8], pool: &[u8], blockdev: &[u8], f: BlockFields)
 }
 
 // Stores the checksum of bytes 4 to 511 at the start.
-pub fn seal(b: &mut [u8])
+fn seal(b: &mut [u8])
     ensures { λ _. ⌜ now (b .exit) ≡ sealed (now (b .entry)) ⌝ }
 {
     let c = checksum::checksum(endian::window(b, 4, 508));

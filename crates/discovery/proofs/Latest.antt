@@ -19,105 +19,18 @@ use Rattle.block.specs.declared.Verdict.the-variants as Verdict
 use Rattle.block.specs.Entry.{laterThan, sameTime, timeOf}
 use Rattle.block.specs.Writing.{holdingOf}
 use Rattle.block.proofs.Times.{never-later, later-asym, not-later-trans, same-not-later}
-use Rattle.discovery.specs.declared.Present.{Present}
-use Rattle.discovery.specs.declared.Present.the-variants.{Nothing, At}
+use Rattle.copy.specs.declared.Present.{Present}
+use Rattle.copy.specs.declared.Present.the-variants.{Nothing, At}
 use Rattle.discovery.specs.declared.Finding.{Finding}
 use Rattle.discovery.specs.declared.Other.{Other}
 use Rattle.discovery.specs.declared.Other.the-variants.{Both, One}
 use Rattle.discovery.specs.declared.Answer.{Answer}
 use Rattle.discovery.specs.declared.Answer.the-variants.{Found, Refused}
-use Rattle.discovery.specs.Copy.{areaBytes, entryIn, otherArea, otherSide, wholeEntry, whole, newer, newest, presentFrom, present, readingIn}
-use Rattle.discovery.specs.Discovery.{recordAt, aloneOf, newestOf, togetherOf, sameDevice, sameUuids, decide, sized, discovery, copyOn}
+use Rattle.copy.specs.Copy.{areaBytes, entryIn, otherSide, whole, present, readingIn}
+use Rattle.copy.proofs.Latest.{Latest, present-latest, present-nothing}
+use Rattle.discovery.specs.Discovery.{findingOf, aloneOf, newestOf, togetherOf, sameDevice, sameUuids, sized, discovery, copyOn}
 use Rattle.discovery.specs.Newest.{Newest}
-
--- the latest whole area of a copy
-pub record Latest (c : List ℕ) (f : BlockFields) (x : Area) (h : Holding) : Type 0 where
-  pub its-present : present c f ≡ At x h
-  pub its-whole : whole c f x ≡ true
-  pub holds : h ≡ holdingOf (entryIn f x)
-  pub latest : (y : Area) → whole c f y ≡ true → laterThan (timeOf (holdingOf (entryIn f y))) (timeOf h) ≡ false
-
--- of whole areas' entries, the newer has the later time
-newer-later : (a b : Entry) (c : List ℕ) (x y : Area) → wholeEntry c x a ≡ true → wholeEntry c y b ≡ true
-    → laterThan (timeOf (holdingOf b)) (timeOf (holdingOf a)) ≡ newer b a
-newer-later Unused b c x y p q = absurd (true≢false (sym p))
-newer-later (Used h) Unused c x y p q = absurd (true≢false (sym q))
-newer-later (Used h) (Used k) c x y p q = refl
-
-module _ (c : List ℕ) (f : BlockFields) where
-  -- the newest entry's area is whole
-  of-newest : (t : Bool) → newer (f .b) (f .a) ≡ t → whole c f (cond t B A) ≡ true → (y : Area) → whole c f y ≡ true
-      → laterThan (timeOf (holdingOf (entryIn f y))) (timeOf (holdingOf (entryIn f (cond t B A)))) ≡ false
-  of-newest true n w A v = later-asym (timeOf (holdingOf (f .b))) (timeOf (holdingOf (f .a))) (newer-later (f .a) (f .b) c A B v w ∙ n)
-  of-newest true n w B v = never-later (timeOf (holdingOf (f .b)))
-  of-newest false n w A v = never-later (timeOf (holdingOf (f .a)))
-  of-newest false n w B v = newer-later (f .a) (f .b) c A B w v ∙ n
-
-  -- it is not, so no other whole area is there but the one
-  of-other : (x : Area) → whole c f x ≡ false → (y : Area) → whole c f y ≡ true
-      → laterThan (timeOf (holdingOf (entryIn f y))) (timeOf (holdingOf (entryIn f (otherArea x)))) ≡ false
-  of-other A w A v = absurd (true≢false (sym v ∙ w))
-  of-other A w B v = never-later (timeOf (holdingOf (f .b)))
-  of-other B w A v = never-later (timeOf (holdingOf (f .a)))
-  of-other B w B v = absurd (true≢false (sym v ∙ w))
-
-  -- what is present where the newest entry is z's, by whether z and the other area are whole
-  abbrev presentBy : Area → Bool → Bool → Present
-  presentBy z s t = cond s (At z (holdingOf (entryIn f z))) (cond t (At (otherArea z) (holdingOf (entryIn f (otherArea z)))) Nothing)
-
-  at-same : (x y : Area) (h k : Holding) → At x h ≡ At y k → (x ≡ y) × (h ≡ k)
-  at-same x y h k e = (cc, cc)
-
-  latest-from : (z : Area) → ((y : Area) → whole c f z ≡ true → whole c f y ≡ true → laterThan (timeOf (holdingOf (entryIn f y))) (timeOf (holdingOf (entryIn f z))) ≡ false)
-      → (x : Area) (h : Holding) → present c f ≡ At x h → presentFrom c f z ≡ At x h → Latest c f x h
-  latest-from z l x h pe e = go (whole c f z) refl (whole c f (otherArea z)) refl
-    where
-      build : (y : Area) → whole c f y ≡ true → ((w : Area) → whole c f w ≡ true → laterThan (timeOf (holdingOf (entryIn f w))) (timeOf (holdingOf (entryIn f y))) ≡ false)
-          → At y (holdingOf (entryIn f y)) ≡ At x h → Latest c f x h
-      build y w m d =
-          let p : y ≡ x = at-same y x (holdingOf (entryIn f y)) h d .0 in
-          let q : holdingOf (entryIn f y) ≡ h = at-same y x (holdingOf (entryIn f y)) h d .1 in
-          record {
-            its-present = pe;
-            its-whole = ap (whole c f) (sym p) ∙ w;
-            holds = sym q ∙ ap (λ (v : Area). holdingOf (entryIn f v)) p;
-            latest = λ v k. ap (λ (i : Holding). laterThan (timeOf (holdingOf (entryIn f v))) (timeOf i)) (sym q) ∙ m v k;
-          }
-
-      go : (s : Bool) → whole c f z ≡ s → (t : Bool) → whole c f (otherArea z) ≡ t → Latest c f x h
-      go true p t q = build z p (λ y k. l y p k) (sym (ap (λ (s : Bool). presentBy z s (whole c f (otherArea z))) p) ∙ e)
-      go false p true q = build (otherArea z) q (of-other z p) (sym (ap₂ (presentBy z) p q) ∙ e)
-      go false p false q =
-          let n : Nothing ≡ At x h = sym (ap₂ (presentBy z) p q) ∙ e in
-          let o : _≡_ {A = ℕ} 0 1 = cc in
-          absurd (omega arith)
-
-  -- a copy's present record is whole, and none of its whole areas is later
-  pub present-latest : (x : Area) (h : Holding) → present c f ≡ At x h → Latest c f x h
-  unfolding present newest
-  present-latest x h e = latest-from (newest f) (λ y w v. of-newest (newer (f .b) (f .a)) refl w y v) x h e e
-
-  none-from : (z : Area) → presentFrom c f z ≡ Nothing → (y : Area) → whole c f y ≡ true → ⊥
-  none-from z e = go (whole c f z) refl (whole c f (otherArea z)) refl
-    where
-      clash : (y : Area) (h : Holding) → At y h ≡ Nothing → ⊥
-      clash y h d = let o : _≡_ {A = ℕ} 0 1 = cc in omega arith
-
-      both : (x y : Area) → whole c f x ≡ false → whole c f (otherArea x) ≡ false → whole c f y ≡ true → ⊥
-      both A A p q v = true≢false (sym v ∙ p)
-      both A B p q v = true≢false (sym v ∙ q)
-      both B A p q v = true≢false (sym v ∙ q)
-      both B B p q v = true≢false (sym v ∙ p)
-
-      go : (s : Bool) → whole c f z ≡ s → (t : Bool) → whole c f (otherArea z) ≡ t → (y : Area) → whole c f y ≡ true → ⊥
-      go true p t q y v = clash z (holdingOf (entryIn f z)) (sym (ap (λ (s : Bool). presentBy z s (whole c f (otherArea z))) p) ∙ e)
-      go false p true q y v = clash (otherArea z) (holdingOf (entryIn f (otherArea z))) (sym (ap₂ (presentBy z) p q) ∙ e)
-      go false p false q y v = both z y p q v
-
-  -- a copy with no present record has no whole area
-  pub present-nothing : present c f ≡ Nothing → (y : Area) → whole c f y ≡ true → ⊥
-  unfolding present
-  present-nothing = none-from (newest f)
+use Rattle.discovery.proofs.Deciding.{decideAt, discovery-unsized, discovery-sized}
 
 -- an answer is one of the two, and says one record
 pub refused-found : (r : Finding) (o : Other) (n : ℕ) → Refused n ≡ Found r o → ⊥
@@ -152,14 +65,13 @@ carried c g u k h a l n e z q w =
 module _ (f b : List ℕ) (r : Finding) (o : Other) where
   -- a copy's present record, no whole area of the other copy later, is the newest
   build : (s : Side) (g : BlockFields) (x : Area) (h : Holding) → readingIn (copyOn s f b) .verdict ≡ Verdict.Accepted g → Latest (copyOn s f b) g x h
-      → NoneLater (copyOn (otherSide s) f b) h → recordAt s x h ≡ r → Newest f b r
+      → NoneLater (copyOn (otherSide s) f b) h → findingOf s g x h ≡ r → Newest f b r
   build s g x h a l n d = subst (λ (z : Finding). Newest f b z) d
       (record {
-        fields = g;
         accepted = a;
         its-present = l .its-present ∙ ap (At x) (l .holds);
         its-area-is-whole = l .its-whole;
-        is = ap (recordAt s x) (l .holds);
+        is = ap (findingOf s g x) (l .holds);
         none-later = go s g a l n;
       })
     where
@@ -172,23 +84,23 @@ module _ (f b : List ℕ) (r : Finding) (o : Other) where
 
   -- one copy alone
   alone-found : (s : Side) (g : BlockFields) (n m : ℕ) → readingIn (copyOn s f b) .verdict ≡ Verdict.Accepted g
-      → readingIn (copyOn (otherSide s) f b) .verdict ≡ Verdict.Refused n → (p : Present) → present (copyOn s f b) g ≡ p → aloneOf s p m ≡ Found r o → Newest f b r
+      → readingIn (copyOn (otherSide s) f b) .verdict ≡ Verdict.Refused n → (p : Present) → present (copyOn s f b) g ≡ p → aloneOf s g p m ≡ Found r o → Newest f b r
   alone-found s g n m a d Nothing p e = absurd (refused-found r o noRecord e)
   alone-found s g n m a d (At x h) p e =
       build s g x h a (present-latest (copyOn s f b) g x h p) (λ i y q w. absurd (refused-accepted (copyOn (otherSide s) f b) n i d q))
-      (found-same r o (recordAt s x h) (One m) e)
+      (found-same r o (findingOf s g x h) (One m) e)
 
   module _ (x y : BlockFields) (ax : readingIn f .verdict ≡ Verdict.Accepted x) (ay : readingIn b .verdict ≡ Verdict.Accepted y) where
-    both-found : (u : Area) (h : Holding) (v : Area) (k : Holding) → present f x ≡ At u h → present b y ≡ At v k → newestOf f b u h v k ≡ Found r o → Newest f b r
+    both-found : (u : Area) (h : Holding) (v : Area) (k : Holding) → present f x ≡ At u h → present b y ≡ At v k → newestOf f b x y u h v k ≡ Found r o → Newest f b r
     both-found u h v k p q e =
         go (sameTime (timeOf h) (timeOf k)) refl (same (areaBytes f u (h .bytes)) (areaBytes b v (k .bytes))) refl (laterThan (timeOf k) (timeOf h)) refl
       where
         pick : Bool → Bool → Bool → Answer
-        pick s t l = cond s (cond t (Found (recordAt Front u h) Both) (Refused twoRecords)) (cond l (Found (recordAt Back v k) Both) (Found (recordAt Front u h) Both))
+        pick s t l = cond s (cond t (Found (findingOf Front x u h) (Both y)) (Refused twoRecords)) (cond l (Found (findingOf Back y v k) (Both x)) (Found (findingOf Front x u h) (Both y)))
 
-        front : laterThan (timeOf k) (timeOf h) ≡ false → Found (recordAt Front u h) Both ≡ Found r o → Newest f b r
+        front : laterThan (timeOf k) (timeOf h) ≡ false → Found (findingOf Front x u h) (Both y) ≡ Found r o → Newest f b r
         front n d =
-            build Front x u h ax (present-latest f x u h p) (carried b y v k h ay (present-latest b y v k q) n) (found-same r o (recordAt Front u h) Both d)
+            build Front x u h ax (present-latest f x u h p) (carried b y v k h ay (present-latest b y v k q) n) (found-same r o (findingOf Front x u h) (Both y) d)
 
         go : (s : Bool) → sameTime (timeOf h) (timeOf k) ≡ s → (t : Bool) → same (areaBytes f u (h .bytes)) (areaBytes b v (k .bytes)) ≡ t
             → (l : Bool) → laterThan (timeOf k) (timeOf h) ≡ l → Newest f b r
@@ -196,18 +108,18 @@ module _ (f b : List ℕ) (r : Finding) (o : Other) where
         go true i false j l m = absurd (refused-found r o twoRecords (sym (ap₂ (λ (s t : Bool). pick s t (laterThan (timeOf k) (timeOf h))) i j) ∙ e))
         go false i t j true m =
             build Back y v k ay (present-latest b y v k q) (carried f x u h k ax (present-latest f x u h p) (later-asym (timeOf k) (timeOf h) m))
-            (found-same r o (recordAt Back v k) Both (sym (ap₂ (λ (s l : Bool). pick s (same (areaBytes f u (h .bytes)) (areaBytes b v (k .bytes))) l) i m) ∙ e))
+            (found-same r o (findingOf Back y v k) (Both x) (sym (ap₂ (λ (s l : Bool). pick s (same (areaBytes f u (h .bytes)) (areaBytes b v (k .bytes))) l) i m) ∙ e))
         go false i t j false m = front m (sym (ap₂ (λ (s l : Bool). pick s (same (areaBytes f u (h .bytes)) (areaBytes b v (k .bytes))) l) i m) ∙ e)
 
-    together-found : (p q : Present) → present f x ≡ p → present b y ≡ q → togetherOf f b p q ≡ Found r o → Newest f b r
+    together-found : (p q : Present) → present f x ≡ p → present b y ≡ q → togetherOf f b x y p q ≡ Found r o → Newest f b r
     together-found Nothing Nothing p q e = absurd (refused-found r o noRecord e)
     together-found Nothing (At v k) p q e =
-        build Back y v k ay (present-latest b y v k q) (none-there f x k ax p) (found-same r o (recordAt Back v k) Both e)
+        build Back y v k ay (present-latest b y v k q) (none-there f x k ax p) (found-same r o (findingOf Back y v k) (Both x) e)
     together-found (At u h) Nothing p q e =
-        build Front x u h ax (present-latest f x u h p) (none-there b y h ay q) (found-same r o (recordAt Front u h) Both e)
+        build Front x u h ax (present-latest f x u h p) (none-there b y h ay q) (found-same r o (findingOf Front x u h) (Both y) e)
     together-found (At u h) (At v k) p q e = both-found u h v k p q e
 
-  decided : (u : Bool) (v w : Verdict) → readingIn f .verdict ≡ v → readingIn b .verdict ≡ w → decide v w u f b ≡ Found r o → Newest f b r
+  decided : (u : Bool) (v w : Verdict) → readingIn f .verdict ≡ v → readingIn b .verdict ≡ w → decideAt v w u f b ≡ Found r o → Newest f b r
   decided u (Verdict.Refused m) (Verdict.Refused n) p q e = absurd (refused-found r o noBlock e)
   decided u (Verdict.Refused m) (Verdict.Accepted y) p q e = alone-found Back y m m q p (present b y) refl e
   decided u (Verdict.Accepted x) (Verdict.Refused n) p q e = alone-found Front x n n p q (present f x) refl e
@@ -216,19 +128,13 @@ module _ (f b : List ℕ) (r : Finding) (o : Other) where
       go : (t : Bool) → (sameDevice x y && u) ≡ t → Newest f b r
       go true k =
           together-found x y p q (present f x) (present b y) refl refl
-          (sym (ap (λ (t : Bool). cond t (togetherOf f b (present f x) (present b y)) (Refused identity)) k) ∙ e)
-      go false k = absurd (refused-found r o identity (sym (ap (λ (t : Bool). cond t (togetherOf f b (present f x) (present b y)) (Refused identity)) k) ∙ e))
+          (sym (ap (λ (t : Bool). cond t (togetherOf f b x y (present f x) (present b y)) (Refused identity)) k) ∙ e)
+      go false k = absurd (refused-found r o identity (sym (ap (λ (t : Bool). cond t (togetherOf f b x y (present f x) (present b y)) (Refused identity)) k) ∙ e))
 
 -- what discovery finds is whole, and no whole record is later
 pub newest-found : (f b : List ℕ) (r : Finding) (o : Other) → discovery f b ≡ Found r o → Newest f b r
-unfolding discovery
 newest-found f b r o e = go (sized f b) refl
   where
-    inner : Answer
-    inner = decide (readingIn f .verdict) (readingIn b .verdict) (sameUuids (readingIn f) (readingIn b)) f b
-
     go : (t : Bool) → sized f b ≡ t → Newest f b r
-    go true p =
-        decided f b r o (sameUuids (readingIn f) (readingIn b)) (readingIn f .verdict) (readingIn b .verdict) refl refl
-        (sym (ap (λ (t : Bool). cond t inner (Refused sliceSize)) p) ∙ e)
-    go false p = absurd (refused-found r o sliceSize (sym (ap (λ (t : Bool). cond t inner (Refused sliceSize)) p) ∙ e))
+    go true p = decided f b r o (sameUuids (readingIn f) (readingIn b)) (readingIn f .verdict) (readingIn b .verdict) refl refl (discovery-sized f b p ∙ e)
+    go false p = absurd (refused-found r o sliceSize (discovery-unsized f b p ∙ e))

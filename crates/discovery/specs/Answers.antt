@@ -10,7 +10,7 @@ use Rattle.discovery.specs.declared.Answer.the-variants.{Found, Refused}
 
 -- the other copy: 0 where both were accepted, else its refusal number
 abbrev pub otherNumber : Other → ℕ
-otherNumber Both = 0
+otherNumber (Both g) = 0
 otherNumber (One n) = n
 
 -- what was found: side, area, bytes, seconds, nanoseconds, the other copy

@@ -1,6 +1,5 @@
 -- What the contracts of `discovery` cite.
-pub mod Copy
 pub mod Discovery
 pub mod Newest
-pub mod Survey
+pub mod Examine
 pub mod Answers

@@ -12,19 +12,18 @@ use Rattle.block.specs.declared.Verdict.the-variants as Verdict
 use Rattle.block.specs.Entry.{laterThan, timeOf}
 use Rattle.block.specs.Writing.{holdingOf}
 use Rattle.discovery.specs.declared.Finding.{Finding}
-use Rattle.discovery.specs.declared.Present.the-variants.{At}
-use Rattle.discovery.specs.Copy.{entryIn, whole, present, readingIn}
-use Rattle.discovery.specs.Discovery.{recordAt, copyOn}
+use Rattle.copy.specs.declared.Present.the-variants.{At}
+use Rattle.copy.specs.Copy.{entryIn, whole, present, readingIn}
+use Rattle.discovery.specs.Discovery.{findingOf, copyOn}
 
 -- the time of a found record
 abbrev pub timeAt : Finding → Time
 timeAt r = record { seconds = r .seconds; nanoseconds = r .nanoseconds }
 
 pub record Newest (f b : List ℕ) (r : Finding) : Type 0 where
-  pub fields : BlockFields
-  pub accepted : readingIn (copyOn (r .side) f b) .verdict ≡ Verdict.Accepted fields
-  pub its-present : present (copyOn (r .side) f b) fields ≡ At (r .area) (holdingOf (entryIn fields (r .area)))
-  pub its-area-is-whole : whole (copyOn (r .side) f b) fields (r .area) ≡ true
-  pub is : r ≡ recordAt (r .side) (r .area) (holdingOf (entryIn fields (r .area)))
+  pub accepted : readingIn (copyOn (r .side) f b) .verdict ≡ Verdict.Accepted (r .fields)
+  pub its-present : present (copyOn (r .side) f b) (r .fields) ≡ At (r .area) (holdingOf (entryIn (r .fields) (r .area)))
+  pub its-area-is-whole : whole (copyOn (r .side) f b) (r .fields) (r .area) ≡ true
+  pub is : r ≡ findingOf (r .side) (r .fields) (r .area) (holdingOf (entryIn (r .fields) (r .area)))
   pub none-later : (s : Side) (g : BlockFields) (y : Area) → readingIn (copyOn s f b) .verdict ≡ Verdict.Accepted g
       → whole (copyOn s f b) g y ≡ true → laterThan (timeOf (holdingOf (entryIn g y))) (timeAt r) ≡ false

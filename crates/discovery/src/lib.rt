@@ -4,38 +4,37 @@ ghost use mathlib.Core.Path.{_≡_};
 ghost use mathlib.Core.Bool.{true, false};
 ghost use mathlib.Core.List.{[]};
 ghost use lib.ListN.{length};
-ghost use Rattle.discovery.specs.Copy.{entryIn, otherArea, otherSide, wholeEntry, whole, newer, newest, presentFrom, present, readingIn};
-ghost use Rattle.discovery.specs.Discovery.{recordAt, aloneOf, newestOf, togetherOf, sameDevice, sameUuids, numberOf, decide, discovery, inStep, surveyed, recordBytes, readAnswer, readBytes};
-ghost use Rattle.discovery.specs.Survey.{sameArea, current, oneTime, isFound, surveyBoth, surveyOf};
-ghost use Rattle.endian.specs.Bytes.{splice};
+ghost use Rattle.endian.specs.Bytes.{same, splice};
+ghost use Rattle.layout.specs.declared.Side.the-variants as Side;
 ghost use Rattle.block.specs.declared.Verdict.the-variants as Verdict;
+ghost use Rattle.block.specs.Answers.{verdictNumber};
+ghost use Rattle.copy.specs.Copy.{areaBytes};
+ghost use Rattle.discovery.specs.declared.Other.the-variants as Other;
+ghost use Rattle.discovery.specs.declared.Answer.the-variants as Answer;
+ghost use Rattle.discovery.specs.Discovery.{findingOf, aloneOf, newestOf, togetherOf, sameDevice, sameUuids, decide, discovery, examined, recordBytes, readAnswer, readBytes};
+ghost use Rattle.discovery.specs.Examine.{oneTime, isFound, examineBoth, examineOf};
 use block::BlockFields;
-use block::Entry;
 use block::Holding;
 use block::Reading;
-use block::Time;
 use block::Verdict;
+use copy::Present;
+use copy::PresentReading;
 use layout::Area;
 use layout::Side;
 
-// A copy's present record: the area that holds it and what its entry says.
-pub enum Present {
-    Nothing,
-    At(Area, Holding),
-}
-
-// Where a record was found, its length and its time.
+// Where a record was found, its length and its time, and the fields of that copy's block.
 pub struct Finding {
     pub side: Side,
     pub area: Area,
     pub bytes: u32,
     pub seconds: u64,
     pub nanoseconds: u32,
+    pub fields: BlockFields,
 }
 
-// The other copy: accepted too, or refused with a number.
+// The other copy: accepted too, with these fields, or refused with a number.
 pub enum Other {
-    Both,
+    Both(BlockFields),
     One(u8),
 }
 
@@ -46,115 +45,14 @@ pub enum Answer {
 }
 
 // What is seen of two copies at once: what discovery answers, and whether they are in step (`step`).
-pub struct View {
+pub struct Examined {
     pub answer: Answer,
     pub step: bool,
 }
 
-// Whether an area of a copy is whole: its entry is used, and the area's first used bytes have the entry's checksum.
-fn whole_entry(c: &[u8], x: Area, e: Entry) -> bool
-    ensures { λ r. ⌜ r ≡ wholeEntry (now (c .entry)) x e ⌝ }
-{
-    match e {
-        Entry::Unused => false,
-        Entry::Used(h) => checksum::checksum(endian::window(
-            c,
-            layout::area_offset(x),
-            h.bytes as usize,
-        ))
-            == h.checksum,
-    }
-}
-
-// The entry of an area.
-pub fn entry_in(f: BlockFields, x: Area) -> Entry
-    ensures { λ r. ⌜ r ≡ entryIn f x ⌝ }
-{
-    match x {
-        Area::A => f.a,
-        Area::B => f.b,
-    }
-}
-
-// The other area.
-pub fn other_area(x: Area) -> Area
-    ensures { λ r. ⌜ r ≡ otherArea x ⌝ }
-{
-    match x {
-        Area::A => Area::B,
-        Area::B => Area::A,
-    }
-}
-
-// The other side.
-pub fn other_side(s: Side) -> Side
-    ensures { λ r. ⌜ r ≡ otherSide s ⌝ }
-{
-    match s {
-        Side::Front => Side::Back,
-        Side::Back => Side::Front,
-    }
-}
-
-// Whether e is used, and d is unused or of an earlier time.
-fn newer(e: Entry, d: Entry) -> bool
-    ensures { λ r. ⌜ r ≡ newer e d ⌝ }
-{
-    let Entry::Used(h) = e else {
-        return false;
-    };
-    let Entry::Used(k) = d else {
-        return true;
-    };
-    block::later(
-        Time {
-            seconds: h.seconds,
-            nanoseconds: h.nanoseconds,
-        },
-        Time {
-            seconds: k.seconds,
-            nanoseconds: k.nanoseconds,
-        },
-    )
-}
-
-// The area of the used entry with the later time.
-pub fn newest(f: BlockFields) -> Area
-    ensures { λ r. ⌜ r ≡ newest f ⌝ }
-{
-    let a = f.a;
-    let b = f.b;
-    if newer(b, a) {
-        return Area::B;
-    }
-    Area::A
-}
-
-// Whether an area is whole.
-pub fn whole(c: &[u8], f: BlockFields, x: Area) -> bool
-    ensures { λ r. ⌜ r ≡ whole (now (c .entry)) f x ⌝ }
-{
-    whole_entry(c, x, entry_in(f, x))
-}
-
-// The present record of a copy, whose block has these fields: its whole area with the later time.
-pub fn present_in(c: &[u8], f: BlockFields) -> Present
-    ensures { λ r. ⌜ r ≡ present (now (c .entry)) f ⌝ }
-{
-    let x = newest(f);
-    if whole(c, f, x) {
-        return Present::At(x, block::holding_of(entry_in(f, x)));
-    }
-    let y = other_area(x);
-    if whole(c, f, y) {
-        return Present::At(y, block::holding_of(entry_in(f, y)));
-    }
-    Present::Nothing
-}
-
 // A record by its copy and area, with the length and time that its entry says.
-fn record_at(side: Side, area: Area, h: Holding) -> Finding
-    ensures { λ r. ⌜ r ≡ recordAt side area h ⌝ }
+fn finding_of(side: Side, fields: BlockFields, area: Area, h: Holding) -> Finding
+    ensures { λ r. ⌜ r ≡ findingOf side fields area h ⌝ }
 {
     Finding {
         side,
@@ -162,57 +60,82 @@ fn record_at(side: Side, area: Area, h: Holding) -> Finding
         bytes: h.bytes,
         seconds: h.seconds,
         nanoseconds: h.nanoseconds,
+        fields,
     }
 }
 
 // One copy read alone, with the other's refusal number.
-fn alone(side: Side, p: Present, n: u8) -> Answer
-    ensures { λ r. ⌜ r ≡ aloneOf side p n ⌝ }
+fn alone(side: Side, g: BlockFields, p: Present, n: u8) -> Answer
+    ensures { λ r. ⌜ r ≡ aloneOf side g p n ⌝ }
 {
     let Present::At(x, h) = p else {
         return Answer::Refused(refusal::NO_RECORD);
     };
-    Answer::Found(record_at(side, x, h), Other::One(n))
+    Answer::Found(finding_of(side, g, x, h), Other::One(n))
+}
+
+// The front's record, where both copies are accepted, whose blocks have the fields i and j.
+fn front(i: BlockFields, j: BlockFields, x: Area, h: Holding) -> Answer
+    ensures { λ r. ⌜ r ≡ Answer.Found (findingOf Side.Front i x h) (Other.Both j) ⌝ }
+{
+    Answer::Found(finding_of(Side::Front, i, x, h), Other::Both(j))
+}
+
+// The back's.
+fn back(i: BlockFields, j: BlockFields, y: Area, k: Holding) -> Answer
+    ensures { λ r. ⌜ r ≡ Answer.Found (findingOf Side.Back j y k) (Other.Both i) ⌝ }
+{
+    Answer::Found(finding_of(Side::Back, j, y, k), Other::Both(i))
+}
+
+// Whether two areas begin with the same record: as many bytes as their entries say, and the same ones.
+fn same_record(f: &[u8], b: &[u8], x: Area, h: Holding, y: Area, k: Holding) -> bool
+    ensures { λ r. ⌜ r ≡ same (areaBytes (now (f .entry)) x (h .bytes)) (areaBytes (now (b .entry)) y (k .bytes)) ⌝ }
+{
+    let p = endian::window(f, layout::area_offset(x), h.bytes as usize);
+    let q = endian::window(b, layout::area_offset(y), k.bytes as usize);
+    endian::same(p, q)
 }
 
 // The newest of both copies' present records; on the same time and bytes, the front.
-fn newest_of(f: &[u8], b: &[u8], x: Area, h: Holding, y: Area, k: Holding) -> Answer
-    ensures { λ r. ⌜ r ≡ newestOf (now (f .entry)) (now (b .entry)) x h y k ⌝ }
+fn newest_of(
+    f: &[u8],
+    b: &[u8],
+    i: BlockFields,
+    j: BlockFields,
+    x: Area,
+    h: Holding,
+    y: Area,
+    k: Holding,
+) -> Answer
+    ensures { λ r. ⌜ r ≡ newestOf (now (f .entry)) (now (b .entry)) i j x h y k ⌝ }
 {
-    let t = Time {
-        seconds: h.seconds,
-        nanoseconds: h.nanoseconds,
-    };
-    let u = Time {
-        seconds: k.seconds,
-        nanoseconds: k.nanoseconds,
-    };
+    let t = block::time_of(h);
+    let u = block::time_of(k);
     if block::same_time(t, u) {
-        let p = endian::window(f, layout::area_offset(x), h.bytes as usize);
-        let q = endian::window(b, layout::area_offset(y), k.bytes as usize);
-        if endian::same(p, q) {
-            return Answer::Found(record_at(Side::Front, x, h), Other::Both);
+        if same_record(f, b, x, h, y, k) {
+            return front(i, j, x, h);
         }
         return Answer::Refused(refusal::TWO_RECORDS);
     }
     if block::later(u, t) {
-        return Answer::Found(record_at(Side::Back, y, k), Other::Both);
+        return back(i, j, y, k);
     }
-    Answer::Found(record_at(Side::Front, x, h), Other::Both)
+    front(i, j, x, h)
 }
 
-// What two copies with these present records give.
-fn together(f: &[u8], b: &[u8], p: Present, q: Present) -> Answer
-    ensures { λ r. ⌜ r ≡ togetherOf (now (f .entry)) (now (b .entry)) p q ⌝ }
+// What two copies of one identity with these fields and present records give.
+fn together(f: &[u8], b: &[u8], i: BlockFields, j: BlockFields, p: Present, q: Present) -> Answer
+    ensures { λ r. ⌜ r ≡ togetherOf (now (f .entry)) (now (b .entry)) i j p q ⌝ }
 {
     match p {
         Present::Nothing => match q {
             Present::Nothing => Answer::Refused(refusal::NO_RECORD),
-            Present::At(y, k) => Answer::Found(record_at(Side::Back, y, k), Other::Both),
+            Present::At(y, k) => back(i, j, y, k),
         },
         Present::At(x, h) => match q {
-            Present::Nothing => Answer::Found(record_at(Side::Front, x, h), Other::Both),
-            Present::At(y, k) => newest_of(f, b, x, h, y, k),
+            Present::Nothing => front(i, j, x, h),
+            Present::At(y, k) => newest_of(f, b, i, j, x, h, y, k),
         },
     }
 }
@@ -239,7 +162,7 @@ fn same_uuids(r: Reading, q: Reading) -> bool
 
 // The refusal number of a verdict; 0 of an accepted block.
 fn number_of(v: Verdict) -> u8
-    ensures { λ r. ⌜ r ≡ numberOf v ⌝ }
+    ensures { λ r. ⌜ r ≡ verdictNumber v ⌝ }
 {
     match v {
         Verdict::Accepted(_) => 0,
@@ -248,49 +171,23 @@ fn number_of(v: Verdict) -> u8
 }
 
 // Two copies that are not in step.
-fn apart(answer: Answer) -> View
+fn apart(answer: Answer) -> Examined
     ensures { λ s. ⌜ s ≡ record { answer = answer; step = false } ⌝ }
 {
-    View {
+    Examined {
         answer,
         step: false,
     }
 }
 
-// The back copy by itself, where the front's block is refused with number m.
-fn back_only(b: &[u8], v: Verdict, m: u8) -> Answer
-    ensures { λ r. ⌜ r ≡ decide (Verdict.Refused m) v true [] (now (b .entry)) ⌝ }
+// The back copy by itself, where the front's block is refused with number m and the back has this present record.
+fn back_only(w: Verdict, q: Present, m: u8) -> Answer
+    ensures { λ r. ⌜ r ≡ decide (Verdict.Refused m) w true q q [] [] ⌝ }
 {
-    let Verdict::Accepted(y) = v else {
+    let Verdict::Accepted(y) = w else {
         return Answer::Refused(refusal::NO_BLOCK);
     };
-    alone(Side::Back, present_in(b, y), m)
-}
-
-// Whether two areas are the same.
-fn same_area(x: Area, y: Area) -> bool
-    ensures { λ r. ⌜ r ≡ sameArea x y ⌝ }
-{
-    match x {
-        Area::A => match y {
-            Area::A => true,
-            Area::B => false,
-        },
-        Area::B => match y {
-            Area::A => false,
-            Area::B => true,
-        },
-    }
-}
-
-// Whether a copy's present record is that of the entry with the later time.
-fn current(f: BlockFields, p: Present) -> bool
-    ensures { λ r. ⌜ r ≡ current f p ⌝ }
-{
-    let Present::At(x, _) = p else {
-        return false;
-    };
-    same_area(x, newest(f))
+    alone(Side::Back, y, q, m)
 }
 
 // Whether two present records have one time.
@@ -303,15 +200,7 @@ fn one_time(p: Present, q: Present) -> bool
     let Present::At(_, k) = q else {
         return false;
     };
-    let t = Time {
-        seconds: h.seconds,
-        nanoseconds: h.nanoseconds,
-    };
-    let u = Time {
-        seconds: k.seconds,
-        nanoseconds: k.nanoseconds,
-    };
-    block::same_time(t, u)
+    block::same_time(block::time_of(h), block::time_of(k))
 }
 
 // Whether a record was found.
@@ -324,67 +213,61 @@ fn is_found(a: Answer) -> bool
     }
 }
 
-// Two copies of one identity, whose blocks have these fields. They are in step where both present records are current and have
-// one time, and discovery, which compares their bytes then, does not refuse them.
-fn survey_both(f: &[u8], x: BlockFields, b: &[u8], y: BlockFields) -> View
-    ensures { λ s. ⌜ s ≡ surveyBoth (now (f .entry)) x (now (b .entry)) y ⌝ }
+// Two copies of one identity with these fields and present records. They are in step where both records are current and have one
+// time, and discovery, which compares their bytes then, does not refuse them.
+fn examine_both(f: &[u8], b: &[u8], x: BlockFields, y: BlockFields, p: Present, q: Present) -> Examined
+    ensures { λ s. ⌜ s ≡ examineBoth (now (f .entry)) (now (b .entry)) x y p q ⌝ }
 {
-    let p = present_in(f, x);
-    let q = present_in(b, y);
-    let a = together(f, b, p, q);
-    let whole = current(x, p) & current(y, q);
-    View {
+    let a = together(f, b, x, y, p, q);
+    let both = copy::current(x, p) & copy::current(y, q);
+    Examined {
         answer: a,
-        step: whole & (one_time(p, q) & is_found(a)),
+        step: both & (one_time(p, q) & is_found(a)),
     }
 }
 
 // What is seen of two copies with these readings.
-fn decide(f: &[u8], b: &[u8], r: Reading, q: Reading) -> View
-    ensures { λ a. ⌜ a ≡ surveyOf (r .verdict) (q .verdict) (sameUuids r q) (now (f .entry)) (now (b .entry)) ⌝ }
+fn decide(f: &[u8], b: &[u8], r: PresentReading, s: PresentReading) -> Examined
+    ensures { λ a. ⌜ a ≡ examineOf r s (now (f .entry)) (now (b .entry)) ⌝ }
 {
-    let v = r.verdict;
-    let w = q.verdict;
+    let d = r.block;
+    let e = s.block;
+    let v = d.verdict;
+    let w = e.verdict;
+    let p = r.present;
+    let q = s.present;
     let Verdict::Accepted(x) = v else {
-        return apart(back_only(b, w, number_of(v)));
+        return apart(back_only(w, q, number_of(v)));
     };
     let Verdict::Accepted(y) = w else {
-        return apart(alone(Side::Front, present_in(f, x), number_of(w)));
+        return apart(alone(Side::Front, x, p, number_of(w)));
     };
-    let one = same_device(x, y) & same_uuids(r, q);
+    let one = same_device(x, y) & same_uuids(d, e);
     if !one {
         return apart(Answer::Refused(refusal::IDENTITY));
     }
-    survey_both(f, x, b, y)
+    examine_both(f, b, x, y, p, q)
 }
 
 // Looks at a front and a back copy once: the newest whole record, and whether they are in step.
-pub fn survey(f: &[u8], b: &[u8]) -> View
-    ensures { λ s. ⌜ s ≡ surveyed (now (f .entry)) (now (b .entry)) ⌝ }
+pub fn examine(f: &[u8], b: &[u8]) -> Examined
+    ensures { λ s. ⌜ s ≡ examined (now (f .entry)) (now (b .entry)) ⌝ }
 {
     let sized = (f.len() == layout::copy_bytes()) & (b.len() == layout::copy_bytes());
     if !sized {
         return apart(Answer::Refused(refusal::SLICE_SIZE));
     }
-    let r = block::read(endian::window(f, 512, 512));
-    let q = block::read(endian::window(b, 512, 512));
-    decide(f, b, r, q)
+    let r = copy::read_present(f);
+    let s = copy::read_present(b);
+    decide(f, b, r, s)
 }
 
 // Finds the newest whole record of a front and a back copy.
 pub fn discover(f: &[u8], b: &[u8]) -> Answer
     ensures { λ r. ⌜ r ≡ discovery (now (f .entry)) (now (b .entry)) ⌝ }
 {
-    let s = survey(f, b);
+    let s = examine(f, b);
     s.answer
-}
-
-// Whether a front and a back copy are in step. Slices that are no copies by their size are not.
-pub fn in_step(f: &[u8], b: &[u8]) -> bool
-    ensures { λ r. ⌜ r ≡ inStep (now (f .entry)) (now (b .entry)) ⌝ }
-{
-    let s = survey(f, b);
-    s.step
 }
 
 // Copies a record from the copy and area that it names to the start of out; where it has no room, nothing.

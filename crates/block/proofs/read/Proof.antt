@@ -1,12 +1,7 @@
 -- `block::read` meets its contract.
-use Prim.Native.Nat.{ℕ}
-use mathlib.Core.Path.{_≡_, ap, sym, _∙_}
-use mathlib.Core.List.{List}
+use mathlib.Core.Path.{sym, _∙_}
 use native.Mathlib.Omega.{arith}
-use Rattle.endian.specs.Bytes.{zeros}
 use Rattle.endian.proofs.Parts.{length-window-fits}
-use Rattle.refusal.specs.Tests.{first}
-use Rattle.block.specs.Block.{readTests}
 use Rattle.block.proofs.Readings.{refused-reading, accepted-reading, accepted-length}
 use borrow.Author.Needs.{needs}
 use Rattle.block.proofs.read.Statement.{statement}
@@ -15,12 +10,13 @@ use Rattle.block.proofs.read.Tie as tie
 read-refusal-requires : tie.Need-read-refusal-requires
 read-refusal-requires c κs = search needs
 
+refused-requires : tie.Need-refused-requires
+refused-requires c κs = search needs
+
 returns : tie.Need-returns
-unfolding zeros
 returns c =
-    let n : ℕ = c .before .read-refusal .result in
-    let e : n ≡ first (readTests (c .before .before .before .args .s .now)) = c .before .read-refusal .ensures in
-    refused-reading (c .before .before .before .args .s .now) n e (c .if1 .taken)
+    c .refused .ensures
+    ∙ refused-reading (c .before .before .before .before .args .s .now) (c .before .before .read-refusal .result) (c .before .before .read-refusal .ensures) (c .before .if1 .taken)
 
 fields-requires : tie.Need-fields-requires
 fields-requires c κs = search needs
@@ -51,6 +47,7 @@ read-spec =
     tie.close
     (tie.spec
     read-refusal-requires
+    refused-requires
     returns
     fields-requires
     window-requires

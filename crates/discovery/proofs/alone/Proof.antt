@@ -12,11 +12,11 @@ enum-told c = search needs
 returns : tie.Need-returns
 returns c = rw (c .enum-told .given .1)
 
-record-at-requires : tie.Need-record-at-requires
-record-at-requires c κs = search needs
+finding-of-requires : tie.Need-finding-of-requires
+finding-of-requires c κs = search needs
 
 returns-2 : tie.Need-returns-2
-returns-2 c = rw (c .before .before .p .given .1, c .record-at .ensures)
+returns-2 c = rw (c .before .before .p .given .1, c .finding-of .ensures)
 
 pub alone-spec : {M : Type 1} → statement M
-alone-spec = tie.close (tie.spec enum-known-p enum-told returns record-at-requires returns-2)
+alone-spec = tie.close (tie.spec enum-known-p enum-told returns finding-of-requires returns-2)

@@ -1,0 +1,5 @@
+-- The laws that callers cite.
+pub mod Presence
+pub mod Latest
+pub mod Newness
+pub mod Readings
