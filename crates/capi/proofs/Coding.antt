@@ -16,7 +16,7 @@ use Rattle.block.specs.declared.BlockFields.{BlockFields}
 use Rattle.block.specs.Entry.{entryOf}
 use Rattle.block.specs.Block.{number}
 use Rattle.block.specs.Writing.{holdingOf}
-use Rattle.update.specs.declared.Part.{Part}
+use Rattle.stores.specs.declared.Part.{Part}
 use Rattle.update.specs.declared.Plan.{Plan}
 use Rattle.mend.specs.declared.Last.{Last}
 use Rattle.mend.specs.declared.Last.the-variants as Last

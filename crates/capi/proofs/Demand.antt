@@ -17,7 +17,7 @@ use Rattle.crash.specs.Crash.{Sectors, copyFrom}
 use Rattle.update.specs.declared.Plan.{Plan}
 use Rattle.update.specs.declared.Planned.{Planned}
 use Rattle.update.specs.declared.Planned.the-variants as Planned
-use Rattle.update.specs.declared.Given.{Given}
+use Rattle.stores.specs.declared.Given.{Given}
 use Rattle.update.specs.Plan as Update
 use Rattle.update.specs.Demand.{Start, planOn}
 use Rattle.update.proofs.Demand as Updates
@@ -28,7 +28,8 @@ use Rattle.mend.proofs.Giving as Mends
 use Rattle.capi.specs.Lent.{has, numberIf, leftIf}
 use Rattle.capi.specs.Plans.{encodedPlan, decodedPlan, encodedMend, decodedMend}
 use Rattle.capi.specs.Calls.{givenLeft, plannedLeft, updateStoreNumber, updateStoreBytes, updateStoreSector, mendPlanLeft, mendStoreNumber, mendStoreBytes, mendStoreSector}
-use Rattle.update.specs.Answers.{givenNumber, plannedNumber}
+use Rattle.stores.specs.Answers.{givenNumber}
+use Rattle.update.specs.Answers.{plannedNumber}
 use Rattle.mend.specs.Answers.{mendingNumber}
 use Rattle.capi.specs.Demand as Claims
 use Rattle.capi.specs.Demand.{updatePlan}

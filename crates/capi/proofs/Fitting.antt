@@ -24,13 +24,14 @@ use Rattle.discovery.specs.declared.Finding.{Finding}
 use Rattle.discovery.specs.declared.Other.{Other}
 use Rattle.discovery.specs.declared.Answer.{Answer}
 use Rattle.discovery.specs.declared.Answer.the-variants as Answer
-use Rattle.discovery.specs.Copy.{blockIn, entryIn, otherSide, newest}
+use Rattle.copy.specs.Copy.{blockIn, entryIn, otherSide, newest, deviceIn}
 use Rattle.discovery.specs.Discovery.{discovery, inStep, copyOn}
-use Rattle.update.specs.Update.{deviceIn, updateTests, updateNumber, sectorsOf, holdingFor, withEntry, spare}
+use Rattle.update.specs.Update.{updateTests, updateNumber, spare}
+use Rattle.stores.specs.Stores.{sectorsOf, holdingFor, withEntry}
 use Rattle.update.specs.Plan.{partOf, planOf}
-use Rattle.update.proofs.NewBlock.{number-fits, entry-allowed, entry-in-fits}
-use Rattle.update.proofs.InStep.{Stepped, in-step-facts}
-use Rattle.update.proofs.Padding.{sectors-most}
+use Rattle.stores.proofs.Blocks.{number-fits, entry-allowed, entry-in-fits}
+use Rattle.stores.proofs.InStep.{Stepped, in-step-facts}
+use Rattle.stores.proofs.Padding.{sectors-most}
 use Rattle.update.proofs.Planning.{not-refused, record-small}
 use Rattle.mend.specs.declared.Last.{Last}
 use Rattle.mend.specs.declared.Last.the-variants as Last

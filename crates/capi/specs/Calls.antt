@@ -5,9 +5,10 @@ use mathlib.Core.List.{List}
 use Rattle.block.specs.declared.Time.{Time}
 use Rattle.update.specs.declared.Planned.{Planned}
 use Rattle.update.specs.declared.Planned.the-variants as Planned
-use Rattle.update.specs.declared.Given.{Given}
-use Rattle.update.specs.declared.Given.the-variants as Given
-use Rattle.update.specs.Answers.{givenNumber, givenValues, plannedNumber}
+use Rattle.stores.specs.declared.Given.{Given}
+use Rattle.stores.specs.declared.Given.the-variants as Given
+use Rattle.stores.specs.Answers.{givenNumber, givenValues}
+use Rattle.update.specs.Answers.{plannedNumber}
 use Rattle.update.specs.Plan as Update
 use Rattle.mend.specs.Answers.{mendingNumber}
 use Rattle.mend.specs.Plan as Mend

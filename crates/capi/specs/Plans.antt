@@ -17,7 +17,7 @@ use Rattle.block.specs.Entry.{entryOf, entryAllowed}
 use Rattle.block.specs.Block.{number}
 use Rattle.block.specs.Writing.{holdingOf}
 use Rattle.block.specs.Demand.{EntryFits}
-use Rattle.update.specs.declared.Part.{Part}
+use Rattle.stores.specs.declared.Part.{Part}
 use Rattle.update.specs.declared.Plan.{Plan}
 use Rattle.mend.specs.declared.Last.{Last}
 use Rattle.mend.specs.declared.Last.the-variants as Last

@@ -3,7 +3,7 @@ ghost use mathlib.Core.Path.{_≡_};
 ghost use lib.ListN.{length};
 ghost use Rattle.refusal.specs.Tests.{first};
 ghost use Rattle.format.specs.Format.{formatNumber, formatted};
-ghost use Rattle.update.specs.Plan.{layTests, laid};
+ghost use Rattle.stores.specs.Given.{layTests, laid};
 ghost use Rattle.discovery.specs.Discovery.{discovery, inStep, readAnswer, readBytes};
 ghost use Rattle.capi.specs.Lent.{has, numberIf, leftIf};
 ghost use Rattle.capi.specs.Answers.{deviceFrom, timeFrom, areaFrom, answerLeft};

@@ -10,6 +10,7 @@ use Rattle.checksum.specs.Crc.{checksum}
 use Rattle.refusal.specs.Numbers.{sliceSize}
 use Rattle.layout.specs.Limits.{sectorBytes, blockOffset}
 use Rattle.layout.specs.Places.{areaOffset, copyBytes}
+use Rattle.layout.specs.declared.Device.{Device}
 use Rattle.layout.specs.declared.Side.{Side}
 use Rattle.layout.specs.declared.Side.the-variants.{Front, Back}
 use Rattle.layout.specs.declared.Area.{Area}
@@ -22,7 +23,7 @@ use Rattle.block.specs.declared.Reading.{Reading}
 use Rattle.block.specs.declared.Verdict.{Verdict}
 use Rattle.block.specs.declared.Verdict.the-variants.{Accepted, Refused}
 use Rattle.block.specs.Entry.{laterThan, timeOf}
-use Rattle.block.specs.Block.{reading, refusedReading}
+use Rattle.block.specs.Block.{deviceOf, reading, refusedReading}
 use Rattle.block.specs.Writing.{holdingOf}
 use Rattle.copy.specs.declared.Present.{Present}
 use Rattle.copy.specs.declared.Present.the-variants.{Nothing, At}
@@ -36,6 +37,10 @@ isCopy c = eqb (length c) copyBytes
 
 abbrev pub blockIn : List ℕ → List ℕ
 blockIn c = window c blockOffset sectorBytes
+
+-- the device that a copy's block says it is of
+abbrev pub deviceIn : List ℕ → Device
+deviceIn c = deviceOf (blockIn c)
 
 -- the first n bytes of an area
 abbrev pub areaBytes : List ℕ → Area → ℕ → List ℕ

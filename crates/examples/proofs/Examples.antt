@@ -31,7 +31,8 @@ use Rattle.allocation.specs.Answers as Answers
 use Rattle.allocation.specs.Change.{runsFor, ownTests, allocateTests, allocation}
 use Rattle.allocation.proofs.Finding.{runs-for}
 use Rattle.update.specs.declared.Planned.the-variants as Planned
-use Rattle.update.specs.Update.{updateNumber, sectorsOf}
+use Rattle.update.specs.Update.{updateNumber}
+use Rattle.stores.specs.Stores.{sectorsOf}
 use Rattle.update.specs.Plan.{planOf}
 use Rattle.format.proofs.Checking.{Taken}
 use Rattle.format.proofs.Starting.{not-refused}

@@ -31,16 +31,16 @@ use Rattle.block.proofs.Written.{length-blockOf}
 use Rattle.block.proofs.RoundTrip.{read-back}
 use Rattle.discovery.specs.declared.Other.the-variants.{Both}
 use Rattle.discovery.specs.declared.Answer.the-variants.{Found}
-use Rattle.discovery.specs.Copy.{blockIn, newest}
+use Rattle.copy.specs.Copy.{blockIn, newest, deviceIn}
 use Rattle.discovery.specs.Discovery.{recordAt, sized, sameDevice, discovery}
-use Rattle.update.specs.Update.{deviceIn, sectorsOf, holdingFor}
-use Rattle.update.specs.Plan.{layTests, laid}
-use Rattle.update.proofs.Holding.{Holds}
-use Rattle.update.proofs.InStep.{verdict-facts, same-device-test}
-use Rattle.update.proofs.Padding.{sectors-enough, padded-within}
-use Rattle.update.proofs.OneCopy.{area-fits}
-use Rattle.update.specs.Demand.{Gives, InStepOn}
-use Rattle.update.proofs.Agreeing.{found-front, agree-gives, agree-in-step}
+use Rattle.stores.specs.Stores.{sectorsOf, holdingFor}
+use Rattle.stores.specs.Given.{layTests, laid}
+use Rattle.stores.proofs.Holding.{Holds}
+use Rattle.stores.proofs.InStep.{verdict-facts, same-device-test}
+use Rattle.stores.proofs.Padding.{sectors-enough, padded-within}
+use Rattle.stores.proofs.OneCopy.{area-fits}
+use Rattle.stores.specs.States.{Gives, InStepOn}
+use Rattle.stores.proofs.Agreeing.{found-front, agree-gives, agree-in-step}
 use Rattle.format.specs.Format.{formatTests, formatNumber, firstFields, formattedCopy}
 use Rattle.format.specs.Demand.{Lowest, Formatting, Zero}
 use Rattle.format.proofs.Checking.{format-ascending, Taken, taken}

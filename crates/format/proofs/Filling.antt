@@ -25,8 +25,8 @@ use Rattle.block.specs.Entry.{entryAllowed}
 use Rattle.block.specs.Block.{limitTests}
 use Rattle.block.specs.Writing.{writeTests, written}
 use Rattle.block.proofs.Written.{length-blockOf, written-refused, written-accepted, write-sizes}
-use Rattle.update.specs.Update.{holdingFor}
-use Rattle.update.specs.Plan.{laid}
+use Rattle.stores.specs.Stores.{holdingFor}
+use Rattle.stores.specs.Given.{laid}
 use Rattle.format.specs.Format.{formatNumber, firstFields, formattedCopy, formatted}
 use Rattle.format.specs.Filling.{filled}
 use Rattle.format.proofs.Checking.{Taken, taken}

@@ -19,12 +19,12 @@ use Rattle.layout.specs.declared.Area.{Area}
 use Rattle.layout.specs.declared.Area.the-variants.{A, B}
 use Rattle.layout.specs.Limits.{recordLimit}
 use Rattle.layout.specs.Places.{areaOffset, copyBytes}
-use Rattle.discovery.specs.Copy.{areaBytes}
+use Rattle.copy.specs.Copy.{areaBytes}
 use Rattle.discovery.specs.Discovery.{copyOn}
 use Rattle.crash.specs.Crash.{Sectors, Sound, gather, areaSectors, copyFrom}
 use Rattle.crash.proofs.Copies.{limit-sectors, limit-small}
-use Rattle.update.proofs.Places.{Sizes}
-use Rattle.update.proofs.OneCopy.{area-fits}
+use Rattle.stores.proofs.Places.{Sizes}
+use Rattle.stores.proofs.OneCopy.{area-fits}
 use Rattle.format.specs.Placed.{Run, has, holding, headerRun, areaRun, runsOf, onDevice}
 
 -- a run's bytes are those of its sectors

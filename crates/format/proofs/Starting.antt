@@ -27,8 +27,9 @@ use Rattle.record.proofs.Right.{right-empty, accepted-made, accepted-content}
 use Rattle.discovery.specs.declared.Answer.{Answer}
 use Rattle.discovery.specs.Discovery.{sized, inStep, copyOn}
 use Rattle.crash.specs.Crash.{copyFrom}
-use Rattle.update.specs.Update.{deviceIn, updateTests, numberAfter, updateNumber}
-use Rattle.update.proofs.Places.{sizes-allowed}
+use Rattle.copy.specs.Copy.{deviceIn}
+use Rattle.update.specs.Update.{updateTests, numberAfter, updateNumber}
+use Rattle.stores.proofs.Places.{sizes-allowed}
 use Rattle.format.specs.Format.{formatTests, formatNumber, formattedCopy}
 use Rattle.format.specs.Placed.{onDevice}
 use Rattle.format.specs.Demand.{Placing, Starting, Possible}

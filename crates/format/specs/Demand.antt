@@ -16,11 +16,11 @@ use Rattle.block.specs.declared.Time.{Time}
 use Rattle.block.specs.declared.Verdict.the-variants as Verdict
 use Rattle.block.specs.Entry.{laterThan}
 use Rattle.record.specs.Accept.{contentTests}
-use Rattle.discovery.specs.Copy.{readingIn}
+use Rattle.copy.specs.Copy.{readingIn, deviceIn}
 use Rattle.discovery.specs.Discovery.{copyOn}
 use Rattle.crash.specs.Crash.{Sectors, Sound, copyFrom}
-use Rattle.update.specs.Update.{deviceIn}
-use Rattle.update.specs.Demand.{Gives, InStepOn, Start}
+use Rattle.stores.specs.States.{Gives, InStepOn}
+use Rattle.update.specs.Demand.{Start}
 use Rattle.format.specs.Format.{formatTests, formatNumber, firstFields, formattedCopy}
 use Rattle.format.specs.Placed.{onDevice}
 

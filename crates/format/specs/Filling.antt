@@ -7,7 +7,7 @@ use Rattle.layout.specs.declared.Area.the-variants.{A}
 use Rattle.layout.specs.Places.{copyBytes}
 use Rattle.block.specs.declared.BlockFields.{BlockFields}
 use Rattle.block.specs.Writing.{written}
-use Rattle.update.specs.Plan.{laid}
+use Rattle.stores.specs.Given.{laid}
 
 -- zeros, then the block into sector 1 as the writer leaves it, then the record into area a
 unfoldable pub filled : List ℕ → List ℕ → BlockFields → List ℕ → List ℕ

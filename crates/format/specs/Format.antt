@@ -18,8 +18,8 @@ use Rattle.block.specs.Block.{isHex}
 use Rattle.block.specs.Writing.{blockOf}
 use Rattle.record.specs.Accept.{contentTests}
 use Rattle.discovery.specs.Discovery.{sized}
-use Rattle.update.specs.Update.{holdingFor}
-use Rattle.update.specs.Plan.{laid}
+use Rattle.stores.specs.Stores.{holdingFor}
+use Rattle.stores.specs.Given.{laid}
 
 -- 4, 6 to 9 (9 for nanoseconds only), 15 and 17 to 19: device numbers, UUIDs of the pool and the block device, time, record
 abbrev pub valueTests : Device → List ℕ → List ℕ → Time → List ℕ → List Test

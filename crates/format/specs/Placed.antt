@@ -12,7 +12,7 @@ use Rattle.layout.specs.declared.Area.{Area}
 use Rattle.layout.specs.declared.Area.the-variants.{A, B}
 use Rattle.layout.specs.Limits.{recordLimit}
 use Rattle.layout.specs.Places.{headerSector, areaSector}
-use Rattle.discovery.specs.Copy.{areaBytes}
+use Rattle.copy.specs.Copy.{areaBytes}
 use Rattle.crash.specs.Crash.{Sectors, areaSectors}
 
 -- sectors from one on, and the bytes that they hold

@@ -20,10 +20,10 @@ use Rattle.block.specs.Block.{poolOf, blockdevOf, fieldsOf, readTests, reading}
 use Rattle.block.specs.Writing.{writeTests, written}
 use Rattle.block.specs.Demand.{EntryFits}
 use Rattle.block.proofs.Readings.{accepted-length}
-use Rattle.discovery.specs.Copy.{blockIn, entryIn, otherArea, newer, newest}
-use Rattle.update.specs.Update.{deviceIn, withEntry}
-use Rattle.update.proofs.InStep.{verdict-facts}
-use Rattle.update.proofs.NewBlock.{entry-allowed, entry-in-fits, again-reads, again-writes, again-written}
+use Rattle.copy.specs.Copy.{blockIn, entryIn, otherArea, newer, newest, deviceIn}
+use Rattle.stores.specs.Stores.{withEntry}
+use Rattle.stores.proofs.InStep.{verdict-facts}
+use Rattle.stores.proofs.Blocks.{entry-allowed, entry-in-fits, again-reads, again-writes, again-written}
 use Rattle.mend.specs.Mend.{blockLike, emptied, refilled, blanked}
 
 -- numbers that may stand in a block of a copy's device

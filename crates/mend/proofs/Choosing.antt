@@ -11,11 +11,11 @@ use Rattle.refusal.specs.Numbers.{noStore}
 use Rattle.layout.specs.declared.Side.{Side}
 use Rattle.layout.specs.Places.{areaOffset}
 use Rattle.block.specs.declared.BlockFields.{BlockFields}
-use Rattle.discovery.specs.Copy.{areaBytes}
+use Rattle.copy.specs.Copy.{areaBytes}
 use Rattle.discovery.specs.Discovery.{copyOn}
-use Rattle.update.specs.declared.Given.{Given}
-use Rattle.update.specs.declared.Given.the-variants as Given
-use Rattle.update.specs.Plan.{lentRight, blockAnswer, blockBytes, partAnswer, partBytes}
+use Rattle.stores.specs.declared.Given.{Given}
+use Rattle.stores.specs.declared.Given.the-variants as Given
+use Rattle.stores.specs.Given.{lentRight, blockAnswer, blockBytes, partAnswer, partBytes}
 use Rattle.mend.specs.declared.Last.{Last}
 use Rattle.mend.specs.declared.Last.the-variants as Last
 use Rattle.mend.specs.declared.Rewrite.{Rewrite}

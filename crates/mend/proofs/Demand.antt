@@ -22,20 +22,20 @@ use Rattle.block.specs.Block.{poolOf, blockdevOf, fieldsOf}
 use Rattle.discovery.specs.declared.Finding.{Finding}
 use Rattle.discovery.specs.declared.Other.the-variants.{Both}
 use Rattle.discovery.specs.declared.Answer.{Answer}
-use Rattle.discovery.specs.Copy.{blockIn, otherSide, newest}
+use Rattle.copy.specs.Copy.{blockIn, otherSide, newest}
 use Rattle.discovery.specs.Discovery.{recordAt, sameDevice, inStep, copyOn, recordBytes}
 use Rattle.discovery.specs.Newest.{timeAt}
 use Rattle.discovery.proofs.Latest.{found-same}
 use Rattle.crash.specs.Crash.{Sectors, Sound, Store, Groups, stores, storeIn, landed, allLanded, copyFrom}
-use Rattle.update.specs.Update.{sectorsOf}
-use Rattle.update.specs.Demand.{Gives, InStepOn, heldIn, recordIn}
-use Rattle.update.proofs.Holding.{Holds}
-use Rattle.update.proofs.NewBlock.{device-kept}
-use Rattle.update.proofs.InStep.{Stepped, in-step-facts, same-device-test}
-use Rattle.update.proofs.OneCopy.{stepped-held}
-use Rattle.update.proofs.Places.{Sizes, sizes-accepted}
-use Rattle.update.proofs.Facts.{sized-copies}
-use Rattle.update.proofs.Agreeing.{found-front, agree-gives, agree-in-step}
+use Rattle.stores.specs.Stores.{sectorsOf}
+use Rattle.stores.specs.States.{Gives, InStepOn}
+use Rattle.stores.proofs.Holding.{heldIn, recordIn, Holds}
+use Rattle.stores.proofs.Blocks.{device-kept}
+use Rattle.stores.proofs.InStep.{Stepped, in-step-facts, same-device-test}
+use Rattle.stores.proofs.OneCopy.{stepped-held}
+use Rattle.stores.proofs.Places.{Sizes, sizes-accepted}
+use Rattle.stores.proofs.Facts.{sized-copies}
+use Rattle.stores.proofs.Agreeing.{found-front, agree-gives, agree-in-step}
 use Rattle.mend.specs.Mend.{laterWhole, rewriting, groupsAfter, mendGroups}
 use Rattle.mend.specs.Demand.{State, after, foundIn, Landing, Touching}
 use Rattle.mend.proofs.Kept.{Kept, held, kept, found-time, found-long}

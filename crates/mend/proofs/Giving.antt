@@ -16,18 +16,18 @@ use Rattle.discovery.specs.declared.Finding.{Finding}
 use Rattle.discovery.specs.declared.Other.{Other}
 use Rattle.discovery.specs.declared.Answer.{Answer}
 use Rattle.discovery.specs.declared.Answer.the-variants as Answer
-use Rattle.discovery.specs.Copy.{blockIn, otherSide}
+use Rattle.copy.specs.Copy.{blockIn, otherSide, deviceIn}
 use Rattle.discovery.specs.Discovery.{sized, discovery, inStep, copyOn, recordBytes}
 use Rattle.crash.specs.Crash.{Store, Groups, stores, storeIn, groupStart}
 use Rattle.crash.proofs.Groups.{total}
-use Rattle.update.specs.declared.Given.{Given}
-use Rattle.update.specs.declared.Given.the-variants as Given
-use Rattle.update.specs.Update.{deviceIn, sectorsOf}
-use Rattle.update.specs.Plan.{blockAnswer, blockBytes, partAnswer, partBytes}
-use Rattle.update.proofs.NewBlock.{number-fits}
-use Rattle.update.proofs.Padding.{sectors-few}
-use Rattle.update.proofs.Places.{Sizes, sizes-accepted, area-below}
-use Rattle.update.proofs.Choosing.{lent-right, block-given, area-given, part-given}
+use Rattle.stores.specs.declared.Given.{Given}
+use Rattle.stores.specs.declared.Given.the-variants as Given
+use Rattle.stores.specs.Stores.{sectorsOf}
+use Rattle.stores.specs.Given.{blockAnswer, blockBytes, partAnswer, partBytes}
+use Rattle.stores.proofs.Blocks.{number-fits}
+use Rattle.stores.proofs.Padding.{sectors-few}
+use Rattle.stores.proofs.Places.{Sizes, sizes-accepted, area-below}
+use Rattle.stores.proofs.Choosing.{lent-right, block-given, area-given, part-given}
 use Rattle.mend.specs.declared.Last.{Last}
 use Rattle.mend.specs.declared.Last.the-variants as Last
 use Rattle.mend.specs.declared.Rewrite.{Rewrite}

@@ -23,20 +23,20 @@ use Rattle.block.specs.declared.BlockFields.{BlockFields}
 use Rattle.block.specs.Entry.{timeOf}
 use Rattle.block.specs.Block.{fieldsOf, readTests}
 use Rattle.block.specs.Writing.{holdingOf}
-use Rattle.discovery.specs.declared.Present.the-variants.{At}
+use Rattle.copy.specs.declared.Present.the-variants.{At}
 use Rattle.discovery.specs.declared.Finding.{Finding}
 use Rattle.discovery.specs.declared.Other.{Other}
 use Rattle.discovery.specs.declared.Answer.the-variants.{Found}
-use Rattle.discovery.specs.Copy.{blockIn, areaBytes, entryIn, otherArea, wholeEntry, whole, newest, present}
+use Rattle.copy.specs.Copy.{blockIn, areaBytes, entryIn, otherArea, wholeEntry, whole, newest, present}
 use Rattle.discovery.specs.Discovery.{recordAt, sized, discovery, copyOn, recordBytes}
 use Rattle.discovery.specs.Newest.{timeAt, Newest}
 use Rattle.discovery.proofs.Latest.{refused-found, newest-found}
-use Rattle.discovery.proofs.Presence.{present-at-newest, present-at-other}
+use Rattle.copy.proofs.Presence.{present-at-newest, present-at-other}
 use Rattle.discovery.proofs.Deciding.{discovery-unsized}
-use Rattle.update.proofs.Holding.{whole-used}
-use Rattle.update.proofs.InStep.{verdict-facts}
-use Rattle.update.proofs.NewBlock.{entry-allowed}
-use Rattle.update.proofs.OneCopy.{area-fits, used-bytes}
+use Rattle.stores.proofs.Holding.{whole-used}
+use Rattle.stores.proofs.InStep.{verdict-facts}
+use Rattle.stores.proofs.Blocks.{entry-allowed}
+use Rattle.stores.proofs.OneCopy.{area-fits, used-bytes}
 use Rattle.mend.specs.Mend.{laterWhole}
 
 -- a copy c, and a record in area x of it that its block names: h is what the entry says

@@ -20,16 +20,16 @@ use Rattle.block.specs.declared.Reading.{Reading}
 use Rattle.block.specs.declared.Verdict.the-variants as Verdict
 use Rattle.block.specs.Block.{poolOf, blockdevOf, fieldsOf, reading}
 use Rattle.block.proofs.Readings.{accepted-reading}
-use Rattle.discovery.specs.Copy.{blockIn, entryIn, otherArea, otherSide, newest}
+use Rattle.copy.specs.Copy.{blockIn, entryIn, otherArea, otherSide, newest, deviceIn}
 use Rattle.crash.specs.Crash.{Sectors, Sound, Store, Groups, stores, storeIn, put, landed, allLanded, gather, areaSectors, copyFrom}
 use Rattle.crash.proofs.Landing.{landed-old, landed-last, landed-size, landed-first}
 use Rattle.crash.proofs.Copies.{limit-small, copy-block, copy-area, gather-same}
-use Rattle.update.specs.Update.{deviceIn, sectorsOf, sectorOf}
-use Rattle.update.proofs.Padding.{gather-record, sectors-within, sectors-few, length-sector}
-use Rattle.update.proofs.Places.{Sizes, sizes-accepted, near, area-near, block-near, block-apart, other-side}
-use Rattle.update.proofs.OneSide as OneSide
-use Rattle.update.proofs.Holding.{Holds}
-use Rattle.update.proofs.OneCopy.{block-place, holds-at}
+use Rattle.stores.specs.Stores.{sectorsOf, sectorOf}
+use Rattle.stores.proofs.Padding.{gather-record, sectors-within, sectors-few, length-sector}
+use Rattle.stores.proofs.Places.{Sizes, sizes-accepted, near, area-near, block-near, block-apart, other-side}
+use Rattle.stores.proofs.OneSide as OneSide
+use Rattle.stores.proofs.Holding.{Holds}
+use Rattle.stores.proofs.OneCopy.{block-place, holds-at}
 use Rattle.mend.specs.Mend.{emptied, refilled, blanked, laterWhole, rewriting}
 use Rattle.mend.proofs.Kept.{Kept, kept-small}
 use Rattle.mend.proofs.Stores.{emptyBlock, filledBlock, blankBlock, at-first, at-sector, at-second, at-last, count-whole, count-blank, by-store}

@@ -17,9 +17,9 @@ use Rattle.discovery.specs.declared.Finding.{Finding}
 use Rattle.discovery.specs.declared.Other.{Other}
 use Rattle.discovery.specs.declared.Answer.{Answer}
 use Rattle.discovery.specs.declared.Answer.the-variants as Answer
-use Rattle.discovery.specs.Copy.{blockIn, entryIn, otherSide, whole, newest}
+use Rattle.copy.specs.Copy.{blockIn, entryIn, otherSide, whole, newest, deviceIn}
 use Rattle.discovery.specs.Discovery.{discovery, inStep, copyOn}
-use Rattle.update.specs.Update.{deviceIn, sectorsOf, withEntry}
+use Rattle.stores.specs.Stores.{sectorsOf, withEntry}
 use Rattle.mend.specs.declared.Last.{Last}
 use Rattle.mend.specs.declared.Last.the-variants as Last
 use Rattle.mend.specs.declared.Rewrite.{Rewrite}

@@ -12,11 +12,11 @@ use Rattle.layout.specs.declared.Area.{Area}
 use Rattle.layout.specs.declared.Area.the-variants.{A}
 use Rattle.layout.specs.Places.{blockSector, areaSector}
 use Rattle.block.specs.Block.{fieldsOf}
-use Rattle.discovery.specs.Copy.{blockIn, entryIn, otherSide}
+use Rattle.copy.specs.Copy.{blockIn, entryIn, otherSide, deviceIn}
 use Rattle.crash.specs.Crash.{Store, Groups, stores, storeIn, groupStart}
 use Rattle.crash.proofs.Groups.{at-left, at-right, total, starts}
-use Rattle.update.specs.Update.{deviceIn, sectorsOf, sectorOf, recordStores, blockStore}
-use Rattle.update.proofs.Stores.{length-record, at-record}
+use Rattle.stores.specs.Stores.{sectorsOf, sectorOf, recordStores, blockStore}
+use Rattle.stores.proofs.Records.{length-record, at-record}
 use Rattle.mend.specs.Mend.{blockLike, emptied, refilled, blanked, laterWhole, lastGroup, rewriting}
 
 abbrev none : Store

@@ -14,13 +14,13 @@ use Rattle.layout.specs.Places.{blockSector, areaSector}
 use Rattle.discovery.specs.declared.Finding.{Finding}
 use Rattle.discovery.specs.declared.Other.{Other}
 use Rattle.discovery.specs.declared.Answer.the-variants.{Found}
-use Rattle.discovery.specs.Copy.{otherSide}
+use Rattle.copy.specs.Copy.{otherSide, deviceIn}
 use Rattle.discovery.specs.Discovery.{sized, discovery, recordBytes}
 use Rattle.discovery.specs.Newest.{timeAt}
 use Rattle.crash.specs.Crash.{Sectors, Sound, stores, storeIn, groupStart, allLanded, copyFrom}
-use Rattle.update.specs.declared.Given.the-variants.{At, Refused}
-use Rattle.update.specs.Update.{deviceIn, sectorsOf}
-use Rattle.update.specs.Demand.{Gives, InStepOn}
+use Rattle.stores.specs.declared.Given.the-variants.{At, Refused}
+use Rattle.stores.specs.Stores.{sectorsOf}
+use Rattle.stores.specs.States.{Gives, InStepOn}
 use Rattle.mend.specs.Mend.{mendGroups}
 use Rattle.mend.specs.Plan.{mending, storesIn, groupOf, storeAnswer, storeBytes}
 

@@ -14,10 +14,10 @@ use Rattle.block.specs.Block.{poolOf, blockdevOf, fieldsOf}
 use Rattle.block.specs.Writing.{blockOf}
 use Rattle.discovery.specs.declared.Answer.{Answer}
 use Rattle.discovery.specs.declared.Answer.the-variants as Answer
-use Rattle.discovery.specs.Copy.{blockIn, entryIn, otherSide, whole, newest}
+use Rattle.copy.specs.Copy.{blockIn, entryIn, otherSide, whole, newest, deviceIn}
 use Rattle.discovery.specs.Discovery.{discovery, inStep, copyOn, recordBytes}
 use Rattle.crash.specs.Crash.{Groups}
-use Rattle.update.specs.Update.{deviceIn, withEntry, recordStores, blockStore}
+use Rattle.stores.specs.Stores.{withEntry, recordStores, blockStore}
 
 -- a block with the identity of a copy's block
 unfoldable pub blockLike : List ℕ → BlockFields → List ℕ

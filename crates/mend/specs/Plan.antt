@@ -12,12 +12,12 @@ use Rattle.block.specs.Block.{fieldsOf}
 use Rattle.discovery.specs.declared.Finding.{Finding}
 use Rattle.discovery.specs.declared.Answer.{Answer}
 use Rattle.discovery.specs.declared.Answer.the-variants as Answer
-use Rattle.discovery.specs.Copy.{blockIn, areaBytes, entryIn, otherSide}
+use Rattle.copy.specs.Copy.{blockIn, areaBytes, entryIn, otherSide, deviceIn}
 use Rattle.discovery.specs.Discovery.{discovery, inStep, copyOn}
-use Rattle.update.specs.declared.Given.{Given}
-use Rattle.update.specs.declared.Given.the-variants as Given
-use Rattle.update.specs.Update.{deviceIn, sectorsOf}
-use Rattle.update.specs.Plan.{lentRight, blockAnswer, blockBytes, partAnswer, partBytes}
+use Rattle.stores.specs.declared.Given.{Given}
+use Rattle.stores.specs.declared.Given.the-variants as Given
+use Rattle.stores.specs.Stores.{sectorsOf}
+use Rattle.stores.specs.Given.{lentRight, blockAnswer, blockBytes, partAnswer, partBytes}
 use Rattle.mend.specs.declared.Last.{Last}
 use Rattle.mend.specs.declared.Last.the-variants as Last
 use Rattle.mend.specs.declared.Rewrite.{Rewrite}

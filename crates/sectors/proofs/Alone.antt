@@ -25,9 +25,9 @@ use Rattle.block.specs.Writing.{holdingOf}
 use Rattle.block.proofs.Demand.{exactly}
 use Rattle.search.specs.Search.{every}
 use Rattle.search.proofs.Search.{every-at, every-all, every-false}
-use Rattle.discovery.specs.declared.Present.the-variants.{Nothing, At}
-use Rattle.discovery.specs.Copy.{blockIn, areaBytes, entryIn, otherArea, wholeEntry, whole, newest, presentFrom, present, readingIn}
-use Rattle.discovery.proofs.Latest.{present-latest}
+use Rattle.copy.specs.declared.Present.the-variants.{Nothing, At}
+use Rattle.copy.specs.Copy.{blockIn, areaBytes, entryIn, otherArea, wholeEntry, whole, newest, presentFrom, present, readingIn}
+use Rattle.copy.proofs.Latest.{present-latest}
 use Rattle.crash.specs.Crash.{areaSectors}
 use Rattle.crash.proofs.Copies.{limit-sectors}
 use Rattle.sectors.specs.Sectors.{copySectors, areaStart, named, namedIn, mattersFor, newestWhole, matters, isRead, passes, known}

@@ -18,7 +18,7 @@ use Rattle.block.specs.declared.Entry.{Entry}
 use Rattle.block.specs.declared.BlockFields.{BlockFields}
 use Rattle.block.specs.declared.Reading.{Reading}
 use Rattle.search.specs.Search.{every}
-use Rattle.discovery.specs.Copy.{entryIn, readingIn}
+use Rattle.copy.specs.Copy.{entryIn, readingIn}
 use Rattle.crash.specs.Crash.{areaSectors}
 use Rattle.sectors.specs.Sectors.{copySectors, areaStart, byPart, below, placeOf, sectorAt, named, namedIn, mattersFor, newestWhole, matters, isRead, passes, known}
 

@@ -18,14 +18,14 @@ use Rattle.block.specs.declared.Verdict.{Verdict}
 use Rattle.block.specs.declared.Verdict.the-variants as Verdict
 use Rattle.block.specs.Entry.{laterThan, sameTime, timeOf}
 use Rattle.block.specs.Writing.{holdingOf}
-use Rattle.discovery.specs.declared.Present.{Present}
-use Rattle.discovery.specs.declared.Present.the-variants.{Nothing, At}
+use Rattle.copy.specs.declared.Present.{Present}
+use Rattle.copy.specs.declared.Present.the-variants.{Nothing, At}
 use Rattle.discovery.specs.declared.Finding.{Finding}
 use Rattle.discovery.specs.declared.Other.{Other}
 use Rattle.discovery.specs.declared.Other.the-variants.{Both}
 use Rattle.discovery.specs.declared.Answer.{Answer}
 use Rattle.discovery.specs.declared.Answer.the-variants.{Found, Refused}
-use Rattle.discovery.specs.Copy.{areaBytes, entryIn, newest, present, readingIn}
+use Rattle.copy.specs.Copy.{areaBytes, entryIn, newest, present, readingIn}
 use Rattle.discovery.specs.Discovery.{recordAt, aloneOf, togetherOf, sameDevice, sameUuids, decide, sized, discovery, stepped, inStepOf, inStep, copyOn, recordBytes}
 use Rattle.discovery.specs.Newest.{Newest}
 use Rattle.discovery.proofs.Deciding.{discovery-sized}

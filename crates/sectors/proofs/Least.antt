@@ -14,7 +14,7 @@ use Rattle.block.specs.declared.Verdict.{Verdict}
 use Rattle.block.specs.declared.Verdict.the-variants as Verdict
 use Rattle.block.specs.Writing.{holdingOf}
 use Rattle.search.proofs.Search.{and-false-right}
-use Rattle.discovery.specs.Copy.{entryIn, otherArea, whole, newest, readingIn}
+use Rattle.copy.specs.Copy.{entryIn, otherArea, whole, newest, readingIn}
 use Rattle.crash.specs.Crash.{areaSectors}
 use Rattle.sectors.specs.Sectors.{copySectors, areaStart, named, namedIn, mattersFor, newestWhole, matters}
 use Rattle.sectors.specs.Demand.{Bounded}

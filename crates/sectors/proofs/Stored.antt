@@ -26,19 +26,21 @@ use Rattle.discovery.specs.declared.Finding.{Finding}
 use Rattle.discovery.specs.declared.Other.{Other}
 use Rattle.discovery.specs.declared.Answer.{Answer}
 use Rattle.discovery.specs.declared.Answer.the-variants as Answer
-use Rattle.discovery.specs.Copy.{blockIn, areaBytes, entryIn, otherArea, otherSide, whole, newest, readingIn}
+use Rattle.copy.specs.Copy.{blockIn, areaBytes, entryIn, otherArea, otherSide, whole, newest, readingIn}
 use Rattle.discovery.specs.Discovery.{sized, discovery, inStep, copyOn, recordBytes}
 use Rattle.discovery.specs.Newest.{timeAt}
 use Rattle.discovery.proofs.Latest.{newest-found}
 use Rattle.crash.specs.Crash.{Groups, copyFrom}
-use Rattle.update.specs.declared.Part.{Part}
+use Rattle.stores.specs.declared.Part.{Part}
 use Rattle.update.specs.declared.Plan.{Plan}
 use Rattle.update.specs.declared.Planned.{Planned}
 use Rattle.update.specs.declared.Planned.the-variants as Planned
-use Rattle.update.specs.declared.Given.{Given}
-use Rattle.update.specs.declared.Given.the-variants as Given
-use Rattle.update.specs.Update.{numberAfter, updateNumber, sectorsOf, holdingFor, withEntry, newBlock, recordStores, blockStore, updateGroups}
-use Rattle.update.specs.Plan.{planOf, planned, storesIn, sectorIn, within, unlessRefused, blockAnswer, blockBytes, partAnswer, partBytes, lentRight, sidesAnswer, sidesBytes}
+use Rattle.stores.specs.declared.Given.{Given}
+use Rattle.stores.specs.declared.Given.the-variants as Given
+use Rattle.update.specs.Update.{numberAfter, updateNumber, newBlock, updateGroups}
+use Rattle.stores.specs.Stores.{sectorsOf, holdingFor, withEntry, recordStores, blockStore}
+use Rattle.update.specs.Plan.{planOf, planned, storesIn, sidesAnswer, sidesBytes}
+use Rattle.stores.specs.Given.{sectorIn, within, unlessRefused, blockAnswer, blockBytes, partAnswer, partBytes, lentRight}
 use Rattle.update.specs.Plan as Update
 use Rattle.mend.specs.declared.Last.{Last}
 use Rattle.mend.specs.declared.Last.the-variants as Last

@@ -19,11 +19,11 @@ use Rattle.block.specs.declared.Holding.{Holding}
 use Rattle.block.specs.declared.BlockFields.{BlockFields}
 use Rattle.block.specs.declared.Verdict.the-variants as Verdict
 use Rattle.block.specs.Writing.{holdingOf}
-use Rattle.discovery.specs.declared.Present.the-variants.{At}
+use Rattle.copy.specs.declared.Present.the-variants.{At}
 use Rattle.discovery.specs.declared.Finding.{Finding}
 use Rattle.discovery.specs.declared.Other.{Other}
 use Rattle.discovery.specs.declared.Answer.the-variants.{Found}
-use Rattle.discovery.specs.Copy.{areaBytes, entryIn, otherArea, whole, newest, present, readingIn}
+use Rattle.copy.specs.Copy.{areaBytes, entryIn, otherArea, whole, newest, present, readingIn}
 use Rattle.discovery.specs.Discovery.{discovery, inStep, recordBytes}
 use Rattle.crash.specs.Crash.{Sectors, Sound, areaSectors, copyFrom}
 use Rattle.update.specs.declared.Plan.{Plan}

@@ -16,7 +16,7 @@ use Rattle.block.specs.declared.BlockFields.{BlockFields}
 use Rattle.block.specs.declared.Verdict.{Verdict}
 use Rattle.block.specs.declared.Verdict.the-variants as Verdict
 use Rattle.search.specs.Search.{every}
-use Rattle.discovery.specs.Copy.{entryIn, otherArea, whole, newest, readingIn}
+use Rattle.copy.specs.Copy.{entryIn, otherArea, whole, newest, readingIn}
 use Rattle.crash.specs.Crash.{areaSectors}
 
 -- sectors of a copy as it is lent

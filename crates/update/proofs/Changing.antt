@@ -22,8 +22,9 @@ use Rattle.block.proofs.Readings.{accepted-length}
 use Rattle.block.proofs.Exactly.{obeys}
 use Rattle.block.proofs.Written.{written-accepted}
 use Rattle.block.proofs.Demand.{write-after-read}
-use Rattle.discovery.specs.Copy.{blockIn, entryIn}
-use Rattle.update.specs.Update.{holdingFor, withEntry, spare, newBlock}
+use Rattle.copy.specs.Copy.{blockIn, entryIn}
+use Rattle.stores.specs.Stores.{holdingFor, withEntry}
+use Rattle.update.specs.Update.{spare, newBlock}
 use Rattle.update.specs.Demand.{entryPlace, Changing}
 
 -- a part replaced by one of the same length: outside it the lists are the same

@@ -30,30 +30,36 @@ use Rattle.block.proofs.Readings.{accepted-length}
 use Rattle.discovery.specs.declared.Other.the-variants.{Both}
 use Rattle.discovery.specs.declared.Answer.{Answer}
 use Rattle.discovery.specs.declared.Answer.the-variants.{Found}
-use Rattle.discovery.specs.Copy.{blockIn, entryIn, newest, readingIn}
+use Rattle.copy.specs.Copy.{blockIn, entryIn, newest, readingIn, deviceIn}
 use Rattle.discovery.specs.Discovery.{recordAt, sameDevice, sized, discovery}
 use Rattle.crash.specs.Crash.{Sectors, Sound, Store, Cut, Groups, stores, storeIn, groupStart, CutIn, areaSectors, copyFrom}
 use Rattle.crash.proofs.Landing.{landed-size}
 use Rattle.crash.proofs.Copies.{limit-small}
-use Rattle.update.specs.Update.{deviceIn, numberAfter, updateTests, updateNumber, sectorsOf, sectorOf, holdingFor, withEntry, spare, newBlock}
-use Rattle.update.specs.declared.Part.{Part}
+use Rattle.update.specs.Update.{numberAfter, updateTests, updateNumber, spare, newBlock}
+use Rattle.stores.specs.Stores.{sectorsOf, sectorOf, holdingFor, withEntry}
+use Rattle.stores.specs.declared.Part.{Part}
 use Rattle.update.specs.declared.Plan.{Plan}
-use Rattle.update.specs.declared.Given.{Given}
-use Rattle.update.specs.declared.Given.the-variants as Given
+use Rattle.stores.specs.declared.Given.{Given}
+use Rattle.stores.specs.declared.Given.the-variants as Given
 use Rattle.update.specs.declared.Planned.the-variants as Planned
-use Rattle.update.specs.Plan.{partOf, storesIn, groupOf, partAnswer, partBytes, storeAnswer, storeBytes, lentRight}
-use Rattle.update.specs.Demand.{Gives, heldIn, recordIn, InStepOn, Start, Excused, groupsOn, planOn, Cutting, after, Landing, Giving}
-use Rattle.update.proofs.NewBlock.{number-fits, device-kept, new-reads, new-writes, new-written}
-use Rattle.update.proofs.Holding.{Holds, newest-changed}
-use Rattle.update.proofs.Discovering.{gives, alone-gives, later-found}
-use Rattle.update.proofs.Padding.{sectors-few}
-use Rattle.update.proofs.OneSide as OneSide
-use Rattle.update.proofs.Choosing.{lent-right, in-none, block-given, area-given, part-given, no-store, front-store, back-store}
-use Rattle.update.proofs.InStep.{refused-differs, Stepped, verdict-facts, in-step-facts, same-device-test}
-use Rattle.update.proofs.OneCopy.{used, new-held, block-of, stepped-held}
-use Rattle.update.proofs.Facts.{other-differs, renamed, sized-copies, stands-as}
-use Rattle.update.proofs.Agreeing.{found-front, agree-gives, agree-in-step}
-use Rattle.update.proofs.Places.{Sizes, sizes-accepted, near, area-near, area-below, block-apart, areas-apart}
+use Rattle.update.specs.Plan.{partOf, storesIn, groupOf, storeAnswer, storeBytes}
+use Rattle.stores.specs.Given.{partAnswer, partBytes, lentRight}
+use Rattle.stores.specs.States.{Gives, InStepOn}
+use Rattle.stores.proofs.Holding.{heldIn, recordIn, Holds, newest-changed}
+use Rattle.update.specs.Demand.{Start, Excused, groupsOn, planOn, Cutting, after, Landing, Giving}
+use Rattle.stores.proofs.Blocks.{number-fits, device-kept}
+use Rattle.update.proofs.NewBlock.{new-reads, new-writes, new-written}
+use Rattle.stores.proofs.Discovering.{gives, alone-gives, later-found}
+use Rattle.stores.proofs.Padding.{sectors-few}
+use Rattle.stores.proofs.OneSide as OneSide
+use Rattle.stores.proofs.Choosing.{lent-right, block-given, area-given, part-given}
+use Rattle.update.proofs.Choosing.{in-none, no-store, front-store, back-store}
+use Rattle.stores.proofs.InStep.{refused-differs, Stepped, verdict-facts, in-step-facts, same-device-test}
+use Rattle.stores.proofs.OneCopy.{used, block-of, stepped-held}
+use Rattle.update.proofs.NewHeld.{new-held}
+use Rattle.stores.proofs.Facts.{other-differs, renamed, sized-copies, stands-as}
+use Rattle.stores.proofs.Agreeing.{found-front, agree-gives, agree-in-step}
+use Rattle.stores.proofs.Places.{Sizes, sizes-accepted, near, area-near, area-below, block-apart, areas-apart}
 use Rattle.update.proofs.Stores.{starting, begin, count, by-side, stored-size, side, group-starts, grouped}
 
 module _ (v : Device) (d : Sectors) (t : Time) (r : List ℕ) (s : Start v d t r) where

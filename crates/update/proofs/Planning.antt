@@ -24,18 +24,19 @@ use Rattle.block.specs.declared.Verdict.{Verdict}
 use Rattle.block.specs.declared.Verdict.the-variants as Verdict
 use Rattle.block.specs.Entry.{laterThan, sameTime, timeOf}
 use Rattle.block.specs.Block.{fieldsOf}
-use Rattle.discovery.specs.declared.Present.{Present}
-use Rattle.discovery.specs.declared.Present.the-variants.{Nothing, At}
+use Rattle.copy.specs.declared.Present.{Present}
+use Rattle.copy.specs.declared.Present.the-variants.{Nothing, At}
 use Rattle.discovery.specs.declared.Answer.{Answer}
 use Rattle.discovery.specs.declared.Answer.the-variants.{Found, Refused}
-use Rattle.discovery.specs.Copy.{areaBytes, otherArea, newest, present, readingIn}
+use Rattle.copy.specs.Copy.{areaBytes, otherArea, newest, present, readingIn, deviceIn}
 use Rattle.discovery.specs.Discovery.{aloneOf, newestOf, togetherOf, sameDevice, sameUuids, decide, sized, discovery}
 use Rattle.discovery.specs.Newest.{timeAt}
-use Rattle.update.specs.declared.Part.{Part}
+use Rattle.stores.specs.declared.Part.{Part}
 use Rattle.update.specs.declared.Plan.{Plan}
 use Rattle.update.specs.declared.Planned.{Planned}
 use Rattle.update.specs.declared.Planned.the-variants as Planned
-use Rattle.update.specs.Update.{deviceIn, updateTests, numberAfter, updateNumber, sectorsOf, holdingFor, withEntry, spare}
+use Rattle.update.specs.Update.{updateTests, numberAfter, updateNumber, spare}
+use Rattle.stores.specs.Stores.{sectorsOf, holdingFor, withEntry}
 use Rattle.update.specs.Plan.{partOf, planOf, planned}
 
 -- one side, step by step

@@ -13,13 +13,15 @@ use Rattle.layout.specs.Places.{blockSector, areaSector}
 use Rattle.block.specs.declared.Time.{Time}
 use Rattle.crash.specs.Crash.{Store, Groups, stores, storeIn, groupStart}
 use Rattle.crash.proofs.Groups.{total, starts, at-left, at-right, length-from, at-from}
-use Rattle.update.specs.Update.{deviceIn, sectorsOf, sectorOf, spare, newBlock, recordStores, blockStore, sideGroups, updateGroups}
+use Rattle.copy.specs.Copy.{deviceIn}
+use Rattle.stores.specs.Stores.{sectorsOf, sectorOf, recordStores, blockStore}
+use Rattle.update.specs.Update.{spare, newBlock, sideGroups, updateGroups}
 use Rattle.update.specs.declared.Plan.{Plan}
 use Rattle.update.specs.Plan.{groupOf}
 use Rattle.update.proofs.Choosing.{in-front-area, in-front-block, in-back-area, in-back-block}
-use Rattle.update.proofs.Padding.{length-sector}
-use Rattle.update.proofs.Places.{Sizes, near, area-near, block-near, block-apart, same-side}
-use Rattle.update.proofs.OneSide as OneSide
+use Rattle.stores.proofs.Padding.{length-sector}
+use Rattle.stores.proofs.Places.{Sizes, near, area-near, block-near, block-apart, same-side}
+use Rattle.stores.proofs.OneSide as OneSide
 
 -- with k sectors: the number of a group's first store, and of a side's
 abbrev pub starting : ℕ → ℕ → ℕ
@@ -40,14 +42,6 @@ by-side k P h j l =
       | yes a ↦ subst P (zero-add j) (h Front j a)
       | no a ↦ subst P (let e : k + 1 + (j - (k + 1)) ≡ j = omega arith in e) (h Back (j - (k + 1)) (omega arith))
     ]
-
-pub length-record : (a : ℕ) (r : List ℕ) → length (recordStores a r) ≡ sectorsOf (length r)
-unfolding recordStores
-length-record a r = length-from a (sectorOf r) (sectorsOf (length r))
-
-pub at-record : (n : Store) (a : ℕ) (r : List ℕ) (i : ℕ) → i < sectorsOf (length r) → getD (recordStores a r) i n ≡ record { sector = a + i; content = sectorOf r i }
-unfolding recordStores
-at-record n a r i l = at-from n a (sectorOf r) (sectorsOf (length r)) i l
 
 -- the groups have k stores, one, k and one
 module _ (f b : List ℕ) (t : Time) (r : List ℕ) where

@@ -3,18 +3,9 @@ use Prim.Native.Nat.{ℕ}
 use mathlib.Core.List.{List, [], _∷_}
 use Rattle.update.specs.declared.Planned.{Planned}
 use Rattle.update.specs.declared.Planned.the-variants as Planned
-use Rattle.update.specs.declared.Given.{Given}
-use Rattle.update.specs.declared.Given.the-variants as Given
+use Rattle.stores.specs.declared.Given.{Given}
+use Rattle.stores.specs.declared.Given.the-variants as Given
 use Rattle.update.specs.Plan.{storesIn}
-
--- a store: its sector
-abbrev pub givenNumber : Given → ℕ
-givenNumber (Given.At n) = 0
-givenNumber (Given.Refused n) = n
-
-abbrev pub givenValues : Given → List ℕ
-givenValues (Given.At n) = n ∷ []
-givenValues (Given.Refused n) = []
 
 -- an update worked out: how many stores it has
 abbrev pub plannedNumber : Planned → ℕ

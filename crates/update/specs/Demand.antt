@@ -21,14 +21,15 @@ use Rattle.block.specs.Writing.{holdingOf}
 use Rattle.discovery.specs.declared.Finding.{Finding}
 use Rattle.discovery.specs.declared.Other.{Other}
 use Rattle.discovery.specs.declared.Answer.the-variants.{Found}
-use Rattle.discovery.specs.Copy.{blockIn, areaBytes, entryIn, newest}
+use Rattle.copy.specs.Copy.{blockIn, areaBytes, entryIn, newest, deviceIn}
 use Rattle.discovery.specs.Discovery.{discovery, inStep, copyOn, recordBytes, readAnswer, readBytes}
 use Rattle.crash.specs.Crash.{Sectors, Sound, Groups, stores, storeIn, groupStart, CutIn, allLanded, copyFrom}
 use Rattle.update.specs.declared.Plan.{Plan}
 use Rattle.update.specs.declared.Planned.the-variants.{Ready}
-use Rattle.update.specs.declared.Given.the-variants.{At, Refused}
+use Rattle.stores.specs.declared.Given.the-variants.{At, Refused}
 use Rattle.update.specs.Plan.{planOf, planned, storesIn, groupOf, storeAnswer, storeBytes}
-use Rattle.update.specs.Update.{deviceIn, updateNumber, sectorsOf, spare, newBlock, updateGroups}
+use Rattle.update.specs.Update.{updateNumber, spare, newBlock, updateGroups}
+use Rattle.stores.specs.Stores.{sectorsOf}
 
 -- Document 01's 'discovery gives a record': it answers that length and time, the area it names starts with those bytes, and
 -- reading what it found into a buffer with room copies them to the buffer's start.

@@ -20,15 +20,16 @@ use Rattle.block.specs.declared.Entry.the-variants.{Used}
 use Rattle.block.specs.declared.BlockFields.{BlockFields}
 use Rattle.block.specs.Block.{poolOf, blockdevOf, fieldsOf}
 use Rattle.block.specs.Writing.{writeTests, written}
-use Rattle.discovery.specs.Copy.{blockIn}
+use Rattle.copy.specs.Copy.{blockIn, deviceIn}
 use Rattle.discovery.specs.Discovery.{sized}
-use Rattle.update.specs.declared.Part.{Part}
+use Rattle.stores.specs.declared.Part.{Part}
 use Rattle.update.specs.declared.Plan.{Plan}
 use Rattle.update.specs.declared.Planned.{Planned}
 use Rattle.update.specs.declared.Planned.the-variants as Planned
-use Rattle.update.specs.declared.Given.{Given}
-use Rattle.update.specs.declared.Given.the-variants as Given
-use Rattle.update.specs.Update.{deviceIn, updateNumber, sectorsOf, holdingFor, withEntry, spare}
+use Rattle.stores.specs.declared.Given.{Given}
+use Rattle.stores.specs.declared.Given.the-variants as Given
+use Rattle.update.specs.Update.{updateNumber, spare}
+use Rattle.stores.specs.Stores.{sectorsOf, holdingFor, withEntry}
 
 -- one side's: where its area and its block lie, and the new block's numbers
 abbrev pub partOf : Side → Device → List ℕ → Holding → Part
@@ -57,40 +58,6 @@ groupOf p i =
     cond (ltb i (p .sectors)) 0
     (cond (leb i (p .sectors)) 1 (cond (leb i (2 * (p .sectors))) 2 (cond (ltb i (storesIn p)) 3 4)))
 
--- a sector of the record, as far as there is room for it, and zeros after it
-abbrev pub sectorIn : List ℕ → ℕ → List ℕ → List ℕ
-sectorIn r j out = splice (zeros (length out)) 0 (window r (512 * j) 512)
-
--- sector a + j has a number: it is at most 2^64 - 1
-abbrev pub within : ℕ → ℕ → Bool
-within a j = leb a (18446744073709551615 - j)
-
--- the sector, unless there is a refusal number
-abbrev pub unlessRefused : ℕ → ℕ → Given
-unlessRefused n s = cond (eqb n 0) (Given.At s) (Given.Refused n)
-
--- a block with these numbers and the UUIDs of a copy's block, to sector s: the sector and the bytes
-abbrev pub blockAnswer : ℕ → BlockFields → List ℕ → List ℕ → Given
-blockAnswer s g c out = unlessRefused (first (writeTests out (poolOf (blockIn c)) (blockdevOf (blockIn c)) g)) s
-
-abbrev pub blockBytes : BlockFields → List ℕ → List ℕ → List ℕ
-blockBytes g c out = written out (poolOf (blockIn c)) (blockdevOf (blockIn c)) g
-
--- store j of one side's k + 1: the sector and the bytes
-abbrev pub partAnswer : Part → ℕ → List ℕ → ℕ → List ℕ → Given
-partAnswer p k c j out =
-    cond (ltb j k) (cond (within (p .area) j) (Given.At (p .area + j)) (Given.Refused noStore))
-    (blockAnswer (p .block) (p .fields) c out)
-
-abbrev pub partBytes : Part → ℕ → List ℕ → List ℕ → ℕ → List ℕ → List ℕ
-partBytes p k c r j out =
-    cond (ltb j k) (cond (within (p .area) j) (sectorIn r j out) out)
-    (blockBytes (p .fields) c out)
-
--- the slices have their sizes: two copies, and 512 bytes
-abbrev pub lentRight : List ℕ → List ℕ → List ℕ → Bool
-lentRight f b out = sized f b && eqb (length out) 512
-
 -- the tests of a store: the sizes, the record's length, its number
 abbrev pub storeTests : Plan → List ℕ → List ℕ → List ℕ → ℕ → List ℕ → List Test
 storeTests p f b r i out =
@@ -112,11 +79,3 @@ storeAnswer p f b r i out =
 
 abbrev pub storeBytes : Plan → List ℕ → List ℕ → List ℕ → ℕ → List ℕ → List ℕ
 storeBytes p f b r i out = cond (eqb (first (storeTests p f b r i out)) 0) (sidesBytes p f b r i out) out
-
--- a record laid into a copy's area: its bytes at the area's offset, its last sector filled with zeros
-abbrev pub layTests : List ℕ → List ℕ → List Test
-layTests c r = (eqb (length c) copyBytes elseRefuse sliceSize) ∷ (lengthAllowed (length r) elseRefuse recordLength) ∷ []
-
-unfoldable pub laid : List ℕ → Area → List ℕ → List ℕ
-laid c x r =
-    cond (eqb (first (layTests c r)) 0) (splice c (areaOffset x) (r ++ zeros (sectorsOf (length r) * 512 - length r))) c

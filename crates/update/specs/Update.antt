@@ -26,14 +26,10 @@ use Rattle.block.specs.Writing.{blockOf}
 use Rattle.record.specs.Accept.{contentTests}
 use Rattle.discovery.specs.declared.Answer.{Answer}
 use Rattle.discovery.specs.declared.Answer.the-variants as Answer
-use Rattle.discovery.specs.Copy.{blockIn, otherArea, newest}
+use Rattle.copy.specs.Copy.{blockIn, otherArea, newest}
 use Rattle.discovery.specs.Discovery.{discovery, inStep}
 use Rattle.discovery.specs.Newest.{timeAt}
 use Rattle.crash.specs.Crash.{Store, Groups, storesFrom}
-
--- the device that the copies are of
-abbrev pub deviceIn : List ℕ → Device
-deviceIn f = deviceOf (blockIn f)
 
 -- the tests after discovery has found a record of time old, where `step` says whether the copies are in step: 16, then 9 for the
 -- nanoseconds of its time, then 14, then those of the record
@@ -53,23 +49,6 @@ numberAfter (Answer.Found q o) f b t r = first (updateTests f b (timeAt q) t r)
 unfoldable pub updateNumber : List ℕ → List ℕ → Time → List ℕ → ℕ
 updateNumber f b t r = numberAfter (discovery f b) f b t r
 
--- k = ceiling(length / 512)
-unfoldable pub sectorsOf : ℕ → ℕ
-sectorsOf n = (n + 511) / 512
-
--- sector j of a record, the last one filled with zeros
-unfoldable pub sectorOf : List ℕ → ℕ → List ℕ
-sectorOf r j = window r (512 * j) 512 ++ zeros (512 - length (window r (512 * j) 512))
-
--- what the new entry says
-abbrev pub holdingFor : Time → List ℕ → Holding
-holdingFor t r = record { seconds = t .seconds; nanoseconds = t .nanoseconds; bytes = length r; checksum = Crc.checksum r }
-
--- a block's numbers with one entry changed
-abbrev pub withEntry : BlockFields → Area → Entry → BlockFields
-withEntry f A e = record { device = f .device; a = e; b = f .b }
-withEntry f B e = record { device = f .device; a = f .a; b = e }
-
 -- in each copy the record goes to the area that is not present there
 abbrev pub spare : List ℕ → Area
 spare c = otherArea (newest (fieldsOf (blockIn c)))
@@ -77,14 +56,6 @@ spare c = otherArea (newest (fieldsOf (blockIn c)))
 -- the block changes only that area's entry and the CRC
 unfoldable pub newBlock : List ℕ → Time → List ℕ → List ℕ
 newBlock c t r = blockOf (poolOf (blockIn c)) (blockdevOf (blockIn c)) (withEntry (fieldsOf (blockIn c)) (spare c) (Used (holdingFor t r)))
-
--- the stores of a record from sector a on
-unfoldable pub recordStores : ℕ → List ℕ → List Store
-recordStores a r = storesFrom a (sectorOf r) (sectorsOf (length r))
-
--- the one store of a side's signature block
-abbrev pub blockStore : Side → Device → List ℕ → List Store
-blockStore w v b = record { sector = blockSector w v; content = b } ∷ []
 
 -- one side of an update of its copy: the record to the area that is not present, then the block
 abbrev pub sideGroups : Side → Device → List ℕ → Time → List ℕ → Groups

@@ -3,8 +3,10 @@ ghost use mathlib.Core.Path.{_≡_};
 ghost use lib.ListN.{length};
 ghost use Rattle.endian.specs.Bytes.{zeros, splice};
 ghost use Rattle.refusal.specs.Tests.{first};
-ghost use Rattle.update.specs.Update.{testsAfter, updateNumber, sectorsOf, withEntry};
-ghost use Rattle.update.specs.Plan.{partOf, planned, storesIn, groupOf, sectorIn, blockAnswer, blockBytes, partAnswer, partBytes, storeAnswer, storeBytes, layTests, laid};
+ghost use Rattle.update.specs.Update.{testsAfter, updateNumber};
+ghost use Rattle.stores.specs.Stores.{sectorsOf, withEntry};
+ghost use Rattle.update.specs.Plan.{partOf, planned, storesIn, groupOf, storeAnswer, storeBytes};
+ghost use Rattle.stores.specs.Given.{sectorIn, blockAnswer, blockBytes, partAnswer, partBytes, layTests, laid};
 use block::BlockFields;
 use block::Entry;
 use block::Holding;
@@ -13,13 +15,6 @@ use discovery::Answer;
 use layout::Area;
 use layout::Device;
 use layout::Side;
-
-// What an update stores on one side: the record from sector `area` on, then at sector `block` a block with these numbers.
-pub struct Part {
-    pub area: u64,
-    pub block: u64,
-    pub fields: BlockFields,
-}
 
 // An update worked out once: the sectors that the record fills, and the two sides.
 pub struct Plan {
@@ -33,14 +28,6 @@ pub enum Planned {
     Ready(Plan),
     Refused(u8),
 }
-
-// What `store` answers: the sector that the lent bytes go to, or a refusal number.
-pub enum Given {
-    At(u64),
-    Refused(u8),
-}
-
-const LAST: u64 = 18446744073709551615;
 
 // The tests after discovery has found a record of time `old`, where `step` says whether the copies are in step.
 fn check_after(f: &[u8], step: bool, old: Time, t: Time, r: &[u8]) -> u8
@@ -76,34 +63,6 @@ pub fn check(f: &[u8], b: &[u8], t: Time, r: &[u8]) -> u8
             };
             check_after(f, v.step, old, t, r)
         }
-    }
-}
-
-// How many sectors a record of n bytes fills.
-pub fn sectors(n: u32) -> u32
-    ensures { λ k. ⌜ k ≡ sectorsOf n ⌝ }
-{
-    ((n as u64 + 511) / 512) as u32
-}
-
-// A block's numbers with one entry changed.
-pub fn with_entry(f: BlockFields, x: Area, e: Entry) -> BlockFields
-    ensures { λ r. ⌜ r ≡ withEntry f x e ⌝ }
-{
-    let d = f.device;
-    let a = f.a;
-    let b = f.b;
-    match x {
-        Area::A => BlockFields {
-            device: d,
-            a: e,
-            b: b,
-        },
-        Area::B => BlockFields {
-            device: d,
-            a: a,
-            b: e,
-        },
     }
 }
 
@@ -177,44 +136,6 @@ pub fn group(p: Plan, i: u64) -> u8
     4
 }
 
-// Sector j of a record, as far as out has room for it, and zeros after it.
-fn put_sector(r: &[u8], j: u32, out: &mut [u8])
-    ensures { λ _. ⌜ now (out .exit) ≡ sectorIn (now (r .entry)) j (now (out .entry)) ⌝ }
-{
-    endian::clear(out);
-    endian::put(out, 0, endian::window(r, 512 * (j as usize), 512));
-}
-
-// A block with these numbers and the UUIDs of a copy's block, into out, which goes to sector `at`. A block that the writer
-// refuses gives its number; then out stays.
-pub fn put_block(at: u64, g: BlockFields, c: &[u8], out: &mut [u8]) -> Given
-    ensures { λ a. ⌜ a ≡ blockAnswer at g (now (c .entry)) (now (out .entry)) ⌝ }
-    ensures { λ _. ⌜ now (out .exit) ≡ blockBytes g (now (c .entry)) (now (out .entry)) ⌝ }
-{
-    let s = endian::window(c, 512, 512);
-    let n = block::write(out, endian::window(s, 32, 32), endian::window(s, 64, 32), g);
-    if n != 0 {
-        return Given::Refused(n);
-    }
-    Given::At(at)
-}
-
-// Store j of one side's k + 1: the record's sector j, and after its k sectors the block, with the UUIDs of the copy's block.
-// 23 for a sector past 2^64 - 1; a block that the writer refuses gives its number. Then out stays.
-pub fn put_part(p: Part, k: u32, c: &[u8], r: &[u8], j: u64, out: &mut [u8]) -> Given
-    ensures { λ g. ⌜ g ≡ partAnswer p k (now (c .entry)) j (now (out .entry)) ⌝ }
-    ensures { λ _. ⌜ now (out .exit) ≡ partBytes p k (now (c .entry)) (now (r .entry)) j (now (out .entry)) ⌝ }
-{
-    if j < k as u64 {
-        if LAST - j < p.area {
-            return Given::Refused(refusal::NO_STORE);
-        }
-        put_sector(r, j as u32, out);
-        return Given::At(p.area + j);
-    }
-    put_block(p.block, p.fields, c, out)
-}
-
 // The store of a plan with number i, counted from 0: its 512 bytes into out, its sector as the answer. The copies and the
 // record are those that the plan was made of. 1 for a slice of another size, 15 for a length that no record has, 23 past the
 // last store; a block that the writer refuses gives its number. Then out stays.
@@ -238,31 +159,4 @@ pub fn store(p: Plan, f: &[u8], b: &[u8], r: &[u8], i: u64, out: &mut [u8]) -> G
         return put_part(p.front, k, f, r, i, out);
     }
     put_part(p.back, k, b, r, i - (k as u64 + 1), out)
-}
-
-// A record from the start of out on, and zeros after it; zeros where it has no room.
-fn fill(out: &mut [u8], r: &[u8])
-    ensures { λ _. ⌜ now (out .exit) ≡ splice (zeros (length (now (out .entry)))) 0 (now (r .entry)) ⌝ }
-{
-    endian::clear(out);
-    endian::put(out, 0, r);
-}
-
-// Lays a record into an area of a lent copy, its last sector filled with zeros; nothing before or after those sectors
-// changes. 1 unless the slice is a copy by its size, 15 for a length that no record has; then the copy stays.
-pub fn lay(c: &mut [u8], x: Area, r: &[u8]) -> u8
-    ensures { λ n. ⌜ n ≡ first (layTests (now (c .entry)) (now (r .entry))) ⌝ }
-    ensures { λ _. ⌜ now (c .exit) ≡ laid (now (c .entry)) x (now (r .entry)) ⌝ }
-{
-    let sized = c.len() == layout::copy_bytes();
-    if !sized {
-        return refusal::SLICE_SIZE;
-    }
-    if !layout::length_allowed(r.len() as u64) {
-        return refusal::RECORD_LENGTH;
-    }
-    let at = layout::area_offset(x);
-    let n = (r.len() + 511) / 512 * 512;
-    fill(&mut c[at..at + n], r);
-    refusal::NONE
 }

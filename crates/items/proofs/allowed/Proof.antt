@@ -1,7 +1,6 @@
 -- `items::allowed` meets its contract.
 use mathlib.Core.Path.{ap, _∙_}
-use Rattle.items.specs.Head.{isSegment}
-use Rattle.items.specs.Head.{allows}
+use Rattle.items.specs.Head.{isSegment, allows}
 use borrow.Author.Needs.{needs}
 use Rattle.items.proofs.allowed.Statement.{statement}
 use Rattle.items.proofs.allowed.Tie as tie

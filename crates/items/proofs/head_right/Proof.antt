@@ -2,7 +2,6 @@
 use mathlib.Core.Path.{ap, sym, _∙_}
 use Rattle.items.specs.declared.Head.{Head}
 use Rattle.items.specs.Head.{headAllowed, headRight}
-use Rattle.items.specs.Head.{headRight}
 use borrow.Author.Needs.{needs}
 use Rattle.items.proofs.head_right.Statement.{statement}
 use Rattle.items.proofs.head_right.Tie as tie

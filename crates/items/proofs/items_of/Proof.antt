@@ -2,12 +2,11 @@
 use Rattle.items.proofs.Items.{items-past, items-are, length-items}
 use Rattle.items.specs.Head.{headOf, headSize}
 use Rattle.items.specs.Items.{itemsOf}
-use Prim.Native.Nat.{_<_, _≤_, _-_}
+use Prim.Native.Nat.{_<_, _≤_, _-_, ℕ}
 use mathlib.Core.Path.{_≡_, sym, ap, _∙_}
 use lib.ListN.{length, take, drop, length-drop}
 use lib.Seq.{take-all}
 use mathlib.Core.List.{List}
-use Prim.Native.Nat.{ℕ}
 use native.Mathlib.Omega.{arith}
 use borrow.Author.Needs.{needs}
 use Rattle.items.proofs.items_of.Statement.{statement}

@@ -1,6 +1,6 @@
 -- `mend::store` meets its contract.
 use mathlib.Core.Path.{refl}
-use Rattle.update.proofs.Choosing.{sizes-wrong, sizes-right}
+use Rattle.stores.proofs.Choosing.{sizes-wrong, sizes-right}
 use Rattle.mend.specs.declared.Mending.the-variants as Mending
 use Rattle.mend.proofs.Choosing.{wrong-size, right-size, kept-store}
 use borrow.Author.Needs.{needs}

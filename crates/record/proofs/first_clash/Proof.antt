@@ -1,5 +1,5 @@
 -- `record::first_clash` meets its contract.
-use mathlib.Core.Path.{refl}
+use mathlib.Core.Path.{refl, _≡_, sym, ap, _∙_}
 use Rattle.refusal.proofs.Order.{refused, passed, first-nil, answer-no, answer-yes}
 use Rattle.refusal.specs.Tests.{first}
 use Rattle.order.specs.Ordering.{firstClash}
@@ -7,11 +7,9 @@ use Rattle.order.specs.declared.Clash.{Clash}
 use Rattle.record.specs.declared.Clashes.the-variants as Clashes
 use Rattle.record.specs.Answers.{lengthTests}
 use Rattle.items.specs.Items.{segmentsIn, segments}
-use mathlib.Core.List.{List}
+use mathlib.Core.List.{List, []}
 use Prim.Native.Nat.{ℕ}
-use mathlib.Core.Path.{_≡_, sym, ap, _∙_}
 use native.Mathlib.Omega.{arith}
-use mathlib.Core.List.{[]}
 use borrow.Author.Needs.{needs}
 use Rattle.record.proofs.first_clash.Statement.{statement}
 use Rattle.record.proofs.first_clash.Tie as tie

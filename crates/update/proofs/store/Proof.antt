@@ -1,5 +1,6 @@
 -- `update::store` meets its contract.
-use Rattle.update.proofs.Choosing.{test-fails, test-holds, sizes-wrong, sizes-right, wrong-size, wrong-length, no-store, front-store, back-store}
+use Rattle.stores.proofs.Choosing.{test-fails, test-holds, sizes-wrong, sizes-right}
+use Rattle.update.proofs.Choosing.{wrong-size, wrong-length, no-store, front-store, back-store}
 use borrow.Author.Needs.{needs}
 use Rattle.update.proofs.store.Statement.{statement}
 use Rattle.update.proofs.store.Tie as tie

@@ -1,7 +1,7 @@
 -- `capi::copies::amseokbin_lay` meets its contract.
 use mathlib.Core.Path.{ap, _∙_}
 use Rattle.layout.specs.declared.Area.{Area}
-use Rattle.update.specs.Plan.{laid}
+use Rattle.stores.specs.Given.{laid}
 use borrow.Author.Needs.{needs}
 use Rattle.capi.proofs.copies.amseokbin_lay.Statement.{statement}
 use Rattle.capi.proofs.copies.amseokbin_lay.Tie as tie

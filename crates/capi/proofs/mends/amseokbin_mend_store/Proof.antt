@@ -1,7 +1,7 @@
 -- `capi::mends::amseokbin_mend_store` meets its contract.
 use Rattle.capi.proofs.Told.{unsized, unsized-left, answered-beside, whole, second-long}
 use Rattle.capi.specs.Calls.{givenLeft, mendSized}
-use Rattle.update.specs.Answers.{givenNumber}
+use Rattle.stores.specs.Answers.{givenNumber}
 use mathlib.Core.Path.{refl, ap, _∙_}
 use Rattle.mend.specs.declared.Mending.{Mending}
 use Rattle.mend.specs.Plan.{storeAnswer, storeBytes}

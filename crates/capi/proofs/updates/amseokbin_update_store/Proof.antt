@@ -1,7 +1,7 @@
 -- `capi::updates::amseokbin_update_store` meets its contract.
 use Rattle.capi.proofs.Told.{unsized, unsized-left, answered-beside, whole, second-long}
 use Rattle.capi.specs.Calls.{givenLeft, updateSized}
-use Rattle.update.specs.Answers.{givenNumber}
+use Rattle.stores.specs.Answers.{givenNumber}
 use mathlib.Core.Path.{refl, ap, _∙_}
 use Rattle.update.specs.declared.Plan.{Plan}
 use Rattle.update.specs.Plan.{storeAnswer, storeBytes}
