@@ -39,6 +39,9 @@ refused-found r o n e = let z : _≡_ {A = ℕ} 0 1 = cc in omega arith
 pub found-same : (r : Finding) (o : Other) (q : Finding) (p : Other) → Found q p ≡ Found r o → q ≡ r
 found-same r o q p e = cc
 
+pub found-other : (r : Finding) (o : Other) (q : Finding) (p : Other) → Found q p ≡ Found r o → p ≡ o
+found-other r o q p e = cc
+
 refused-accepted : (c : List ℕ) (n : ℕ) (e : BlockFields) → readingIn c .verdict ≡ Verdict.Refused n → readingIn c .verdict ≡ Verdict.Accepted e → ⊥
 refused-accepted c n e p q =
     let v : Verdict.Refused n ≡ Verdict.Accepted e = sym p ∙ q in

@@ -38,7 +38,7 @@ use Rattle.stores.specs.Given.{layTests, laid}
 use Rattle.stores.proofs.Holding.{Holds}
 use Rattle.stores.proofs.InStep.{verdict-facts, same-device-test}
 use Rattle.stores.proofs.Padding.{sectors-enough, padded-within}
-use Rattle.stores.proofs.OneCopy.{area-fits}
+use Rattle.stores.proofs.Whole.{area-fits}
 use Rattle.stores.specs.States.{Gives, InStepOn}
 use Rattle.stores.proofs.Agreeing.{found-front, agree-gives, agree-in-step}
 use Rattle.format.specs.Format.{formatTests, formatNumber, firstFields, formattedCopy}

@@ -36,7 +36,7 @@ use Rattle.discovery.proofs.Deciding.{discovery-unsized}
 use Rattle.stores.proofs.Holding.{whole-used}
 use Rattle.stores.proofs.InStep.{verdict-facts}
 use Rattle.stores.proofs.Blocks.{entry-allowed}
-use Rattle.stores.proofs.OneCopy.{area-fits, used-bytes}
+use Rattle.stores.proofs.Whole.{area-fits, used-bytes}
 use Rattle.mend.specs.Mend.{laterWhole}
 
 -- a copy c, and a record in area x of it that its block names: h is what the entry says

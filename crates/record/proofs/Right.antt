@@ -33,7 +33,7 @@ use Rattle.items.proofs.Heads.{kind-small, head-small, right-fits, right-some, 
 use Rattle.items.proofs.Items.{Fit, Formed, formed}
 use Rattle.items.proofs.Making.{AllFit, length-record, head-record, segments-record, formed-record, record-again}
 use Rattle.record.specs.Accept.{contentTests, recordTests}
-use Rattle.record.specs.Demand.{Share, Right}
+use Rattle.record.specs.Demand.{Share, Right, RightBytes}
 use Rattle.record.proofs.Testing.{device-ascending, record-ascending}
 use Rattle.record.proofs.Accepted.{Accepted, accepted, accepted-back, ends}
 
@@ -120,3 +120,9 @@ right-empty d h e r =
 -- what is tested of the content of an accepted record
 pub accepted-content : (d : Device) (s : List ℕ) → first (recordTests d s) ≡ 0 → AllHold (contentTests d s)
 accepted-content d s h = first-zero 0 (recordTests d s) (record-ascending d s) h .1 .1 .1
+
+-- the bytes of a head and segments that are right pass every test of a record
+pub right-content : (d : Device) (s : List ℕ) → d .sectors < 256 ^ 8 → RightBytes d s → AllHold (contentTests d s)
+right-content d s small r =
+    subst (λ (z : List ℕ). AllHold (contentTests d z)) (r .is)
+    (accepted-content d (recordOf (r .head) (r .list)) (accepted-made d (r .head) (r .list) small (r .right)))

@@ -50,6 +50,13 @@ pub record Right (d : Device) (h : Head) (gs : List Segment) : Type 0 where
   -- no two share a sector
   pub apart : (i j x : ℕ) → Share gs i j x → ⊥
 
+-- the bytes of a head and segments that are right on a device
+pub record RightBytes (d : Device) (s : List ℕ) : Type 0 where
+  pub head : Head
+  pub list : List Segment
+  pub right : Right d head list
+  pub is : recordOf head list ≡ s
+
 -- A record is accepted exactly when its bytes are those of a head and segments that are right.
 abbrev pub Exactly : Type 0
 Exactly =

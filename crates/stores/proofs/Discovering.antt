@@ -53,11 +53,10 @@ gives f b s g x h o t r e a l w =
 
 module _ (f b : List ℕ) (z : sized f b ≡ true) where
   -- a side's copy holds a record, and the other side's block is refused
-  pub alone-gives : (w : Side) {g : BlockFields} {p u : List ℕ} {x : Area} {k : Holding} {r : List ℕ} (n : ℕ) → Holds (copyOn w f b) g p u x k r
-      → readingIn (copyOn (otherSide w) f b) .verdict ≡ Verdict.Refused n → (t : Time) → timeOf k ≡ t → Gives f b t r
-  alone-gives w {g} {p} {u} {x} {k} {r} n h e t l =
-      gives f b w g x k (One n) t r
-      (sym (discovery-sized f b z) ∙ (go w (ap (λ (q : Reading). q .verdict) (h .reads)) e ∙ ap (λ (q : Present). aloneOf w g q n) (its-present h))) (h .bytes) (h .long) l
+  pub alone-found : (w : Side) {g : BlockFields} {p u : List ℕ} {x : Area} {k : Holding} {r : List ℕ} (n : ℕ) → Holds (copyOn w f b) g p u x k r
+      → readingIn (copyOn (otherSide w) f b) .verdict ≡ Verdict.Refused n → discovery f b ≡ Found (findingOf w g x k) (One n)
+  alone-found w {g} {p} {u} {x} {k} {r} n h e =
+      sym (discovery-sized f b z) ∙ (go w (ap (λ (q : Reading). q .verdict) (h .reads)) e ∙ ap (λ (q : Present). aloneOf w g q n) (its-present h))
     where
       go : (w : Side) → readingIn (copyOn w f b) .verdict ≡ Verdict.Accepted g → readingIn (copyOn (otherSide w) f b) .verdict ≡ Verdict.Refused n
           → decideAt (readingIn f .verdict) (readingIn b .verdict) (sameUuids (readingIn f) (readingIn b)) f b ≡ aloneOf w g (present (copyOn w f b) g) n

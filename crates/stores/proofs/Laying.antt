@@ -19,7 +19,7 @@ use Rattle.layout.proofs.Laws.{length-facts}
 use Rattle.stores.specs.Stores.{sectorsOf}
 use Rattle.stores.specs.Given.{layTests, laid}
 use Rattle.stores.proofs.Padding.{padded-within, zeros-begun}
-use Rattle.stores.proofs.OneCopy.{area-fits}
+use Rattle.stores.proofs.Whole.{area-fits}
 
 -- a refused record changes nothing
 pub lay-refused : (c : List ℕ) (x : Area) (r : List ℕ) (n : ℕ) → n ≡ first (layTests c r) → (n ≡ 0 → ⊥) → c ≡ laid c x r

@@ -12,3 +12,5 @@ pub mod OneCopy
 pub mod Choosing
 pub mod Laying
 pub mod Records
+pub mod Whole
+pub mod States

@@ -30,26 +30,16 @@ use Rattle.block.proofs.Readings.{accepted-reading}
 use Rattle.copy.specs.Copy.{blockIn, entryIn, wholeEntry, whole, newest}
 use Rattle.crash.specs.Crash.{Sectors, Sound, gather, areaSectors, copyFrom}
 use Rattle.crash.proofs.Copies.{length-copy, copy-block, copy-area, gather-same}
-use Rattle.stores.proofs.Holding.{heldIn, recordIn, Holds, whole-used}
-use Rattle.stores.proofs.Blocks.{entry-allowed}
+use Rattle.stores.proofs.Holding.{heldIn, recordIn, Holds}
+use Rattle.stores.proofs.Whole.{newest-used, newest-small, holds-newest}
 use Rattle.stores.proofs.InStep.{Stepped}
 use Rattle.stores.proofs.Facts.{renamed}
 use Rattle.stores.proofs.Places.{Sizes}
-
--- an area lies within a copy
-pub area-fits : (x : Area) → areaOffset x + recordLimit ≤ copyBytes
-unfolding areaOffset copyBytes
-area-fits A = omega arith
-area-fits B = omega arith
 
 -- the block's sector follows the header's first
 pub block-place : (s : Side) (v : Device) → Sizes v → suc (headerSector s v) ≡ blockSector s v
 block-place Front v z = refl
 block-place Back v z = let h : 2097152 ≤ v .sectors = z .sectors in omega arith
-
-pub used-bytes : (e : Entry) (h : Holding) → e ≡ Used h → entryAllowed e ≡ true → h .bytes ≤ recordLimit
-used-bytes e h d w =
-    length-facts (h .bytes) (and-left (lengthAllowed (h .bytes)) (nanosecondsAllowed (h .nanoseconds)) (sym (ap entryAllowed d) ∙ w)) .1
 
 -- a copy read from sectors where a block names a record, and its area begins with the record
 pub holds-at : (s : Side) (v : Device) (e : Sectors) → Sound e → Sizes v → {g : BlockFields} {p u : List ℕ} {x : Area} {h : Holding} {r : List ℕ}
@@ -68,32 +58,16 @@ holds-at s v e se z {g} {p} {u} {x} {h} {r} rd ar en su lo sm by =
 
 module _ (s : Side) (v : Device) (d : Sectors) (sd : Sound d) (z : Sizes v) (ok : first (readTests (blockIn (copyFrom s v d))) ≡ 0)
     (wh : whole (copyFrom s v d) (fieldsOf (blockIn (copyFrom s v d))) (newest (fieldsOf (blockIn (copyFrom s v d)))) ≡ true) where
-  c : List ℕ
-  c = copyFrom s v d
-
-  -- the newest entry is used
+  -- the newest entry is used, and the copy holds its record
   pub used : entryIn (fieldsOf (blockIn (copyFrom s v d))) (newest (fieldsOf (blockIn (copyFrom s v d)))) ≡ Used (heldIn (copyFrom s v d))
-  used = whole-used (copyFrom s v d) (newest (fieldsOf (blockIn (copyFrom s v d)))) _ wh
+  used = newest-used (copyFrom s v d) ok wh
+
+  held : Holds (copyFrom s v d) (fieldsOf (blockIn (copyFrom s v d))) (poolOf (blockIn (copyFrom s v d))) (blockdevOf (blockIn (copyFrom s v d)))
+      (newest (fieldsOf (blockIn (copyFrom s v d)))) (heldIn (copyFrom s v d)) (recordIn (copyFrom s v d))
+  held = holds-newest (copyFrom s v d) (length-copy s v d sd) ok wh
 
   held-small : heldIn (copyFrom s v d) .bytes ≤ recordLimit
-  held-small =
-      used-bytes (entryIn (fieldsOf (blockIn (copyFrom s v d))) (newest (fieldsOf (blockIn (copyFrom s v d))))) (heldIn (copyFrom s v d)) used
-      (entry-allowed (blockIn (copyFrom s v d)) ok (newest (fieldsOf (blockIn (copyFrom s v d)))))
-
-  -- its record has the length that the entry says
-  pub held-long : heldIn (copyFrom s v d) .bytes ≡ length (recordIn (copyFrom s v d))
-  held-long =
-      let x : Area = newest (fieldsOf (blockIn (copyFrom s v d))) in
-      let n : length (copyFrom s v d) ≡ copyBytes = length-copy s v d sd in
-      let a : areaOffset x + recordLimit ≤ copyBytes = area-fits x in
-      let k : heldIn (copyFrom s v d) .bytes ≤ recordLimit = held-small in
-      sym (length-window-fits (copyFrom s v d) (areaOffset x) (heldIn (copyFrom s v d) .bytes) (omega arith))
-
-  held-sum : heldIn (copyFrom s v d) .checksum ≡ Crc.checksum (recordIn (copyFrom s v d))
-  held-sum =
-      sym
-      (eqb-true (Crc.checksum (recordIn (copyFrom s v d))) (heldIn (copyFrom s v d) .checksum)
-      (sym (ap (wholeEntry (copyFrom s v d) (newest (fieldsOf (blockIn (copyFrom s v d))))) used) ∙ wh))
+  held-small = newest-small (copyFrom s v d) ok wh
 
   module _ (e : Sectors) (se : Sound e) where
     pub block-of : blockIn (copyFrom s v e) ≡ e (blockSector s v)
@@ -108,7 +82,7 @@ module _ (s : Side) (v : Device) (d : Sectors) (sd : Sound d) (z : Sizes v) (ok 
         let x : Area = newest (fieldsOf (blockIn (copyFrom s v d))) in
         let n : ℕ = heldIn (copyFrom s v d) .bytes in
         holds-at s v e se z
-        (ap reading (b ∙ sym (copy-block s v d sd ∙ ap d (block-place s v z))) ∙ sym (accepted-reading (blockIn (copyFrom s v d)) ok)) refl used held-sum held-long
+        (ap reading (b ∙ sym (copy-block s v d sd ∙ ap d (block-place s v z))) ∙ sym (accepted-reading (blockIn (copyFrom s v d)) ok)) refl used (held .sum) (held .long)
         held-small (ap (take n) (gather-same e d (areaSector s x v) areaSectors a) ∙ sym (copy-area s v d sd x n held-small))
 
 -- of copies in step, a side whose block and present area still stand holds the front's record

@@ -91,7 +91,11 @@ module _ (v : Device) (z : Sizes v) where
       let f : v .metadata % 2 ≡ 0 = z .even in
       omega arith
 
-  -- an area's sectors are below the device's end
+  -- a side's block and its areas' sectors are below the device's end
+  pub block-below : (s : Side) → blockSector s v < v .sectors
+  block-below Front = let c : 2097152 ≤ v .sectors = z .sectors in omega arith
+  block-below Back = let c : 2097152 ≤ v .sectors = z .sectors in omega arith
+
   pub area-below : (s : Side) (x : Area) (i : ℕ) → i < 1020 → areaSector s x v + i < v .sectors
   area-below Front A i l = let c : 2097152 ≤ v .sectors = z .sectors in omega arith
   area-below Front B i l =

@@ -19,7 +19,6 @@ use Rattle.block.specs.declared.BlockFields.{BlockFields}
 use Rattle.block.specs.Block.{signatureBytes, poolOf, blockdevOf, fieldsOf}
 use Rattle.block.specs.Writing.{holdingOf, bodyFields, blockOf}
 use Rattle.block.proofs.Readings.{accepted-length}
-use Rattle.block.proofs.Exactly.{obeys}
 use Rattle.block.proofs.Written.{written-accepted}
 use Rattle.block.proofs.Demand.{write-after-read}
 use Rattle.copy.specs.Copy.{blockIn, entryIn}
@@ -132,12 +131,12 @@ put-back f B = refl
 
 pub changing : Changing
 unfolding newBlock
-changing c t r i bytes ok h out =
+changing c t r i bytes accepted h out =
     let b : List ℕ = blockIn c in
-    let n : length (blockIn c) ≡ 512 = accepted-length (blockIn c) ok in
+    let n : length (blockIn c) ≡ 512 = accepted .size in
     let w : blockOf (poolOf (blockIn c)) (blockdevOf (blockIn c)) (fieldsOf (blockIn c)) ≡ blockIn c =
-    written-accepted (blockIn c) (poolOf (blockIn c)) (blockdevOf (blockIn c)) (fieldsOf (blockIn c)) (write-after-read (blockIn c) (blockIn c) bytes (obeys (blockIn c) ok) n .0)
-    ∙ write-after-read (blockIn c) (blockIn c) bytes (obeys (blockIn c) ok) n .1 in
+    written-accepted (blockIn c) (poolOf (blockIn c)) (blockdevOf (blockIn c)) (fieldsOf (blockIn c)) (write-after-read (blockIn c) (blockIn c) bytes accepted n .0)
+    ∙ write-after-read (blockIn c) (blockIn c) bytes accepted n .1 in
     same-outside (poolOf (blockIn c)) (blockdevOf (blockIn c)) (length-window-fits (blockIn c) 32 32 (omega arith)) (length-window-fits (blockIn c) 64 32 (omega arith))
     (fieldsOf (blockIn c)) (spare c) (Used (holdingFor t r)) (entryIn (fieldsOf (blockIn c)) (spare c)) i h out
     ∙ ap (λ (s : List ℕ). getD s i 0)

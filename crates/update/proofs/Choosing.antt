@@ -14,7 +14,7 @@ use Rattle.update.specs.declared.Plan.{Plan}
 use Rattle.stores.specs.declared.Given.{Given}
 use Rattle.stores.specs.declared.Given.the-variants as Given
 use Rattle.update.specs.Plan.{storesIn, groupOf, storeTests, sidesAnswer, sidesBytes, storeAnswer, storeBytes}
-use Rattle.stores.specs.Given.{partAnswer, partBytes, lentRight}
+use Rattle.stores.specs.Given.{partGiven, partLeft, lentRight}
 
 module _ (p : Plan) (i : ℕ) where
   pub in-front-area : i < p .sectors → 0 ≡ groupOf p i
@@ -41,7 +41,7 @@ module _ (p : Plan) (f b r : List ℕ) (i : ℕ) (out : List ℕ) where
   store-refused : (n : ℕ) → first (storeTests p f b r i out) ≡ n → (n ≡ 0 → ⊥)
       → (Given.Refused n ≡ storeAnswer p f b r i out) × (out ≡ storeBytes p f b r i out)
   store-refused n e z = (
-    answer-no (sidesAnswer p f b i out) Given.Refused n (first (storeTests p f b r i out)) (sym e) z,
+    answer-no (sidesAnswer p f b r i out) Given.Refused n (first (storeTests p f b r i out)) (sym e) z,
     answer-no (sidesBytes p f b r i out) (λ (k : ℕ). out) n (first (storeTests p f b r i out)) (sym e) z,
   )
 
@@ -65,23 +65,23 @@ module _ (p : Plan) (f b r : List ℕ) (i : ℕ) (out : List ℕ) where
         none = first-all (storeTests p f b r i out) (s, (a, (sym (ap (ltb i) e) ∙ lt-ltb i n l, tt)))
 
         half-store : (v : Bool) → leb i (p .sectors) ≡ v
-            → g ≡ cond v (partAnswer (p .front) (p .sectors) f i out) (partAnswer (p .back) (p .sectors) b (i - (p .sectors + 1)) out)
-            → w ≡ cond v (partBytes (p .front) (p .sectors) f r i out) (partBytes (p .back) (p .sectors) b r (i - (p .sectors + 1)) out)
+            → g ≡ cond v (partGiven (p .front) (p .sectors) f r i out) (partGiven (p .back) (p .sectors) b r (i - (p .sectors + 1)) out)
+            → w ≡ cond v (partLeft (p .front) (p .sectors) f r i out) (partLeft (p .back) (p .sectors) b r (i - (p .sectors + 1)) out)
             → (g ≡ storeAnswer p f b r i out) × (w ≡ storeBytes p f b r i out)
         half-store v h x y = (
           x
-              ∙ (ap (λ (u : Bool). cond u (partAnswer (p .front) (p .sectors) f i out) (partAnswer (p .back) (p .sectors) b (i - (p .sectors + 1)) out)) (sym h)
-              ∙ answer-yes (sidesAnswer p f b i out) Given.Refused 0 (first (storeTests p f b r i out)) (sym none) refl),
+              ∙ (ap (λ (u : Bool). cond u (partGiven (p .front) (p .sectors) f r i out) (partGiven (p .back) (p .sectors) b r (i - (p .sectors + 1)) out)) (sym h)
+              ∙ answer-yes (sidesAnswer p f b r i out) Given.Refused 0 (first (storeTests p f b r i out)) (sym none) refl),
           y
-              ∙ (ap (λ (u : Bool). cond u (partBytes (p .front) (p .sectors) f r i out) (partBytes (p .back) (p .sectors) b r (i - (p .sectors + 1)) out)) (sym h)
+              ∙ (ap (λ (u : Bool). cond u (partLeft (p .front) (p .sectors) f r i out) (partLeft (p .back) (p .sectors) b r (i - (p .sectors + 1)) out)) (sym h)
               ∙ answer-yes (sidesBytes p f b r i out) (λ (k : ℕ). out) 0 (first (storeTests p f b r i out)) (sym none) refl),
         )
 
-        pub front-store : i ≤ p .sectors → g ≡ partAnswer (p .front) (p .sectors) f i out → w ≡ partBytes (p .front) (p .sectors) f r i out
+        pub front-store : i ≤ p .sectors → g ≡ partGiven (p .front) (p .sectors) f r i out → w ≡ partLeft (p .front) (p .sectors) f r i out
             → (g ≡ storeAnswer p f b r i out) × (w ≡ storeBytes p f b r i out)
         front-store h x y = half-store true (le-leb i (p .sectors) h) x y
 
-        pub back-store : p .sectors < i → g ≡ partAnswer (p .back) (p .sectors) b (i - (p .sectors + 1)) out
-            → w ≡ partBytes (p .back) (p .sectors) b r (i - (p .sectors + 1)) out
+        pub back-store : p .sectors < i → g ≡ partGiven (p .back) (p .sectors) b r (i - (p .sectors + 1)) out
+            → w ≡ partLeft (p .back) (p .sectors) b r (i - (p .sectors + 1)) out
             → (g ≡ storeAnswer p f b r i out) × (w ≡ storeBytes p f b r i out)
         back-store h x y = half-store false (lt-leb i (p .sectors) h) x y

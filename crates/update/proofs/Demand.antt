@@ -1,22 +1,23 @@
 -- Demand 3, proved: one claim over every start, update and cut.
 use Prim.Native.Nat.{ℕ, zero, suc, _+_, _-_, _*_, _^_, _≤_, _<_}
 use mathlib.Core.Path.{_≡_, refl, sym, ap, subst, _∙_}
-use mathlib.Core.Bool.{true}
+use mathlib.Core.Bool.{true, true≢false}
 use mathlib.Core.Logic.{_⊎_, inl, inr}
 use mathlib.Core.List.{List}
 use native.Mathlib.Decide.{ℕ-discrete}
 use native.Mathlib.Nat.{le-refl}
 use native.Mathlib.Omega.{arith}
-use lib.Dec.{leb, lit<}
+use borrow.Author.Tests.{le-leb}
 use lib.ListN.{length}
+use Rattle.endian.specs.Bytes.{same}
 use Rattle.refusal.specs.Numbers.{noStore}
 use Rattle.refusal.specs.Tests.{AllHold}
-use Rattle.refusal.proofs.Order.{first-holds, answer-yes}
+use Rattle.refusal.proofs.Order.{first-all, answer-yes}
 use Rattle.layout.specs.declared.Device.{Device}
 use Rattle.layout.specs.declared.Side.{Side}
 use Rattle.layout.specs.declared.Side.the-variants.{Front, Back}
 use Rattle.layout.specs.declared.Area.{Area}
-use Rattle.layout.specs.Limits.{lengthAllowed, nanosecondsAllowed}
+use Rattle.layout.specs.Limits.{lengthAllowed, mostNanoseconds, nanosecondsAllowed}
 use Rattle.layout.specs.Places.{blockSector, areaSector}
 use Rattle.layout.proofs.Laws.{length-facts}
 use Rattle.block.specs.declared.Time.{Time}
@@ -26,43 +27,48 @@ use Rattle.block.specs.declared.Reading.{Reading}
 use Rattle.block.specs.declared.Verdict.the-variants as Verdict
 use Rattle.block.specs.Entry.{laterThan, timeOf}
 use Rattle.block.specs.Block.{poolOf, blockdevOf, fieldsOf, reading}
+use Rattle.block.specs.Accepted.{Accepted}
 use Rattle.block.proofs.Readings.{accepted-length}
-use Rattle.discovery.specs.declared.Other.the-variants.{Both}
+use Rattle.block.proofs.Exactly.{obeys}
+use Rattle.block.proofs.Times.{same-test, same-not-later}
+use Rattle.record.specs.Accept.{contentTests}
+use Rattle.record.proofs.Right.{right-content}
+use Rattle.copy.specs.Copy.{isCopy, deviceIn, blockIn, entryIn, newest, readingIn}
+use Rattle.discovery.specs.declared.Finding.{Finding}
 use Rattle.discovery.specs.declared.Answer.{Answer}
-use Rattle.discovery.specs.declared.Answer.the-variants.{Found}
-use Rattle.copy.specs.Copy.{blockIn, entryIn, newest, readingIn, deviceIn}
-use Rattle.discovery.specs.Discovery.{recordAt, sameDevice, sized, discovery}
-use Rattle.crash.specs.Crash.{Sectors, Sound, Store, Cut, Groups, stores, storeIn, groupStart, CutIn, areaSectors, copyFrom}
-use Rattle.crash.proofs.Landing.{landed-size}
+use Rattle.discovery.specs.Discovery.{sameDevice, inStep}
+use Rattle.discovery.proofs.Latest.{found-same}
+use Rattle.crash.specs.Crash.{Sectors, Sound, Store, Cut, Groups, stores, storeIn, groupStart, landed, CutIn, areaSectors, copyFrom}
 use Rattle.crash.proofs.Copies.{limit-small}
-use Rattle.update.specs.Update.{numberAfter, updateTests, updateNumber, spare, newBlock}
-use Rattle.stores.specs.Stores.{sectorsOf, sectorOf, holdingFor, withEntry}
 use Rattle.stores.specs.declared.Part.{Part}
-use Rattle.update.specs.declared.Plan.{Plan}
 use Rattle.stores.specs.declared.Given.{Given}
 use Rattle.stores.specs.declared.Given.the-variants as Given
-use Rattle.update.specs.declared.Planned.the-variants as Planned
-use Rattle.update.specs.Plan.{partOf, storesIn, groupOf, storeAnswer, storeBytes}
-use Rattle.stores.specs.Given.{partAnswer, partBytes, lentRight}
-use Rattle.stores.specs.States.{Gives, InStepOn}
+use Rattle.stores.specs.Stores.{sectorsOf, sectorOf, holdingFor, withEntry}
+use Rattle.stores.specs.Given.{partGiven, partLeft, lentRight}
+use Rattle.stores.specs.States.{Gives, Ready, Answered, Excused, Fits}
 use Rattle.stores.proofs.Holding.{heldIn, recordIn, Holds, newest-changed}
-use Rattle.update.specs.Demand.{Start, Excused, groupsOn, planOn, Cutting, after, Landing, Giving}
-use Rattle.stores.proofs.Blocks.{number-fits, device-kept}
-use Rattle.update.proofs.NewBlock.{new-reads, new-writes, new-written}
-use Rattle.stores.proofs.Discovering.{gives, alone-gives, later-found}
-use Rattle.stores.proofs.Padding.{sectors-few}
+use Rattle.stores.proofs.Discovering.{alone-found, later-found}
+use Rattle.stores.proofs.Padding.{sectors-few, sectors-within, length-sector}
 use Rattle.stores.proofs.OneSide as OneSide
-use Rattle.stores.proofs.Choosing.{lent-right, block-given, area-given, part-given}
-use Rattle.update.proofs.Choosing.{in-none, no-store, front-store, back-store}
-use Rattle.stores.proofs.InStep.{refused-differs, Stepped, verdict-facts, in-step-facts, same-device-test}
+use Rattle.stores.proofs.Blocks.{number-fits, device-kept}
+use Rattle.stores.proofs.InStep.{Stepped, refused-differs, verdict-facts, same-device-test}
 use Rattle.stores.proofs.OneCopy.{used, block-of, stepped-held}
+use Rattle.stores.proofs.Choosing.{lent-right, block-given, area-given, part-given}
+use Rattle.stores.proofs.Facts.{other-differs, renamed, sized-copies, split, stands-as}
+use Rattle.stores.proofs.Agreeing.{found-front}
+use Rattle.stores.proofs.Places.{Sizes, sizes-accepted, near, area-near, area-below, block-below, block-apart, areas-apart}
+use Rattle.stores.proofs.States.{is-copy, stepped-found, made-ready, made-answered, ready-stepped, ready-time, ready-record}
+use Rattle.update.specs.declared.Plan.{Plan}
+use Rattle.update.specs.declared.Planned.the-variants as Planned
+use Rattle.update.specs.Update.{testsAfter, numberAfter, updateNumber, spare, newBlock}
+use Rattle.update.specs.Plan.{partFor, storesIn, groupOf, storeAnswer, storeBytes}
+use Rattle.update.specs.Demand.{Start, Outcome, groupsOn, planOn, Demand3, Giving}
+use Rattle.update.proofs.NewBlock.{new-reads, new-writes, new-written}
 use Rattle.update.proofs.NewHeld.{new-held}
-use Rattle.stores.proofs.Facts.{other-differs, renamed, sized-copies, stands-as}
-use Rattle.stores.proofs.Agreeing.{found-front, agree-gives, agree-in-step}
-use Rattle.stores.proofs.Places.{Sizes, sizes-accepted, near, area-near, area-below, block-apart, areas-apart}
-use Rattle.update.proofs.Stores.{starting, begin, count, by-side, stored-size, side, group-starts, grouped}
+use Rattle.update.proofs.Choosing.{in-none, front-store, back-store, no-store}
+use Rattle.update.proofs.Stores.{starting, begin, count, by-side, side, group-starts, grouped, groups-four}
 
-module _ (v : Device) (d : Sectors) (t : Time) (r : List ℕ) (s : Start v d t r) where
+module _ (v : Device) (d : Sectors) (u : Time) (q : List ℕ) (t : Time) (r : List ℕ) (s : Start v d u q t r) where
   -- a side's copy before the update, the numbers of its block and the area that is present
   abbrev copy : Side → List ℕ
   copy w = copyFrom w v d
@@ -98,30 +104,36 @@ module _ (v : Device) (d : Sectors) (t : Time) (r : List ℕ) (s : Start v d t r
 
   -- a side's block stands in its old version, in its new one, or is refused
   abbrev IsOld : Side → Sectors → Type 0
-  IsOld w e = blockIn (copyFrom w v e) ≡ blockIn (copy w)
+  IsOld w e = e (blockSector w v) ≡ d (blockSector w v)
 
   abbrev IsNew : Side → Sectors → Type 0
-  IsNew w e = blockIn (copyFrom w v e) ≡ newBlock (copy w) t r
+  IsNew w e = e (blockSector w v) ≡ newBlock (copy w) t r
 
   abbrev IsRefused : Side → Sectors → Type 0
-  IsRefused w e = (n : ℕ) × (readingIn (copyFrom w v e) .verdict ≡ Verdict.Refused n)
+  IsRefused w e = (n : ℕ) × (reading (e (blockSector w v)) .verdict ≡ Verdict.Refused n)
 
   -- what discovery gives
   abbrev GivesOld : Sectors → Type 0
-  GivesOld e = Gives (copyFrom Front v e) (copyFrom Back v e) (timeOf (heldIn (copy Front))) (recordIn (copy Front))
+  GivesOld e = Answered v e u q
 
   abbrev GivesNew : Sectors → Type 0
-  GivesNew e = Gives (copyFrom Front v e) (copyFrom Back v e) t r
+  GivesNew e = Answered v e t r
 
   -- what the start says of the device and of each side
+  abbrev sd : Sound d
+  sd = s .ready .sound
+
+  says : deviceIn (copy Front) ≡ v
+  says = s .ready .says Front
+
   stepped : Stepped copy
-  stepped = in-step-facts copy (s .in-step)
+  stepped = ready-stepped (s .ready)
 
   its-sizes : Sizes v
-  its-sizes = subst Sizes (s .placed) (sizes-accepted (blockIn (copy Front)) (stepped .accepted Front))
+  its-sizes = subst Sizes says (sizes-accepted (blockIn (copy Front)) (stepped .accepted Front))
 
   its-used : (w : Side) → entryIn (fields w) (present w) ≡ Used (heldIn (copy w))
-  its-used w = used w v d (s .sound) its-sizes (stepped .accepted w) (stepped .newest-whole w)
+  its-used w = used w v d sd its-sizes (stepped .accepted w) (stepped .newest-whole w)
 
   one-device : sameDevice (fields Front) (fields Back) ≡ true
   one-device = same-device-test (fields Front) (fields Back) (stepped .device)
@@ -129,29 +141,19 @@ module _ (v : Device) (d : Sectors) (t : Time) (r : List ℕ) (s : Start v d t r
   -- the old block and the old sectors of its area: the old record
   holds-old : (w : Side) (e : Sectors) → Sound e → e (blockSector w v) ≡ d (blockSector w v)
       → ((i : ℕ) → i < areaSectors → e (areaSector w (present w) v + i) ≡ d (areaSector w (present w) v + i)) → OldHeld w e
-  holds-old = stepped-held v d (s .sound) its-sizes stepped
+  holds-old = stepped-held v d sd its-sizes stepped
 
-  found : discovery (copy Front) (copy Back) ≡ Found (recordAt Front (present Front) (heldIn (copy Front))) Both
-  found =
-      found-front (holds-old Front d (s .sound) refl (λ i l. refl)) (holds-old Back d (s .sound) refl (λ i l. refl)) (stepped .sizes)
-      one-device _ refl (stepped .times Back)
-
-  -- what it says of the time and the record: no test refuses them
-  holds-all : AllHold (updateTests (copy Front) (copy Back) (timeOf (heldIn (copy Front))) t r)
-  unfolding updateNumber
-  holds-all =
-      first-holds (updateTests (copy Front) (copy Back) (timeOf (heldIn (copy Front))) t r)
-      (lit< tt, (lit< tt, (lit< tt, (lit< tt, (lit< tt, (lit< tt, (lit< tt, tt)))))))
-      (sym (ap (λ (a : Answer). numberAfter a (copy Front) (copy Back) t r) found) ∙ s .not-refused)
+  its-content : AllHold (contentTests v r)
+  its-content = right-content v r (subst (λ (z : Device). z .sectors < 256 ^ 8) says (number-fits (blockIn (copy Front)) 20 8)) (s .right)
 
   its-time : nanosecondsAllowed (t .nanoseconds) ≡ true
-  its-time = holds-all .1 .0
+  its-time = le-leb (t .nanoseconds) mostNanoseconds (s .nanoseconds)
 
   its-later : (w : Side) → laterThan t (timeOf (heldIn (copy w))) ≡ true
-  its-later w = ap (laterThan t) (stepped .times w) ∙ holds-all .1 .1 .0
+  its-later w = ap (laterThan t) (ready-time (s .ready) w) ∙ s .later
 
   its-length : lengthAllowed (length r) ≡ true
-  its-length = holds-all .1 .1 .1 .0
+  its-length = its-content .0
 
   tiny : k ≤ 1020
   tiny = sectors-few (length r) (length-facts (length r) its-length .1)
@@ -161,7 +163,7 @@ module _ (v : Device) (d : Sectors) (t : Time) (r : List ℕ) (s : Start v d t r
       → ((i : ℕ) → i < k → e (areaSector w (spare (copy w)) v + i) ≡ sectorOf r i) → NewHeld w e
   holds-new w e se b a =
       renamed (stepped .pool w) (stepped .blockdev w) refl
-      (new-held w v d (s .sound) its-sizes (stepped .accepted w) (stepped .newest-whole w) e se t r (s .fits) its-time its-length (its-later w) b a)
+      (new-held w v d sd its-sizes (stepped .accepted w) (stepped .newest-whole w) e se t r (s .fits) its-time its-length (its-later w) b a)
 
   new-device : (w : Side) → newFields w .device ≡ fields w .device
   new-device w = device-kept (fields w) (spare (copy w)) (Used (holdingFor t r))
@@ -174,10 +176,10 @@ module _ (v : Device) (d : Sectors) (t : Time) (r : List ℕ) (s : Start v d t r
 
   -- a side's stores among all
   laid : (w : Side) → OneSide.Side (storeIn groups) all (begin k w) k (areaSector w (spare (copy w)) v) (blockSector w v) r (newBlock (copy w) t r) (near w v)
-  laid = side copy t r v (s .placed) its-sizes tiny
+  laid = side copy t r v says its-sizes tiny
 
   stores-count : length (stores groups) ≡ all
-  stores-count = count copy t r v (s .placed)
+  stores-count = count copy t r v says
 
   module _ (w : Side) where
     new-verdict : reading (newBlock (copy w) t r) .verdict ≡ Verdict.Accepted (newFields w)
@@ -188,61 +190,99 @@ module _ (v : Device) (d : Sectors) (t : Time) (r : List ℕ) (s : Start v d t r
     new-size : length (newBlock (copy w) t r) ≡ 512
     new-size = accepted-length (newBlock (copy w) t r) (verdict-facts (newBlock (copy w) t r) _ new-verdict .0)
 
+    at-block : (e : Sectors) → Sound e → blockIn (copyFrom w v e) ≡ e (blockSector w v)
+    at-block e se = block-of w v d sd its-sizes (stepped .accepted w) (stepped .newest-whole w) e se
+
+    old-device : fields w .device ≡ v
+    old-device = s .ready .says w
+
+    changed-device : newFields w .device ≡ v
+    changed-device = new-device w ∙ old-device
+
+    refused-at : (e : Sectors) → Sound e → (n : ℕ) → reading (e (blockSector w v)) .verdict ≡ Verdict.Refused n → readingIn (copyFrom w v e) .verdict ≡ Verdict.Refused n
+    refused-at e se n h = ap (λ (b : List ℕ). reading b .verdict) (at-block e se) ∙ h
+
     -- the new block differs from the old one: its newest entry is in the other area
-    new-differs : blockIn (copy w) ≡ newBlock (copy w) t r → ⊥
+    new-differs : d (blockSector w v) ≡ newBlock (copy w) t r → ⊥
     new-differs p =
-        let f : newFields w ≡ fields w = verdict-facts (blockIn (copy w)) _ (ap (λ (b : List ℕ). reading b .verdict) p ∙ new-verdict) .1 in
+        let f : newFields w ≡ fields w = verdict-facts (blockIn (copy w)) _ (ap (λ (b : List ℕ). reading b .verdict) (at-block d sd ∙ p) ∙ new-verdict) .1 in
         other-differs (present w)
         (sym (newest-changed (fields w) (present w) (heldIn (copy w)) (holdingFor t r) (its-used w) (its-later w)) ∙ ap newest f)
 
-    at-block : (e : Sectors) → Sound e → blockIn (copyFrom w v e) ≡ e (blockSector w v)
-    at-block e se = block-of w v d (s .sound) its-sizes (stepped .accepted w) (stepped .newest-whole w) e se
+    -- a block that the running group stores to stands in one of its versions, or is refused
+    state : (e : Sectors) (i j : ℕ) → i ≤ begin k w + k → begin k w + k < j → j ≤ all
+        → ((e (blockSector w v) ≡ landed (storeIn groups) i d (blockSector w v) → ⊥) → (e (blockSector w v) ≡ landed (storeIn groups) j d (blockSector w v) → ⊥)
+        → Accepted (e (blockSector w v)) → ⊥)
+        → IsOld w e ⊎ (IsNew w e ⊎ IsRefused w e)
+    state e i j a c l x =
+        stands-as (e (blockSector w v)) (d (blockSector w v)) (newBlock (copy w) t r)
+        (λ p q z. x (λ h. p (h ∙ OneSide.block-kept (laid w) d i a)) (λ h. q (h ∙ OneSide.block-landed (laid w) d j c l)) (obeys (e (blockSector w v)) z))
 
-    state : (e : Sectors) → (Excused v d e t r → ⊥) → IsOld w e ⊎ (IsNew w e ⊎ IsRefused w e)
-    state e x = stands-as (blockIn (copyFrom w v e)) (blockIn (copy w)) (newBlock (copy w) t r) (λ p q z. x (w, p, q, z))
+  -- the old record by its names
+  old-record : {e : Sectors} → Answered v e (timeOf (heldIn (copy Front))) (recordIn (copy Front)) → Answered v e u q
+  old-record {e} a = subst (λ (z : Time). Answered v e z q) (ready-time (s .ready) Front) (subst (λ (z : List ℕ). Answered v e (timeOf (heldIn (copy Front))) z) (ready-record (s .ready) Front) a)
 
   module _ (e : Sectors) (se : Sound e) where
     -- what each pair of states gives
     gives-old : OldHeld Front e → OldHeld Back e → GivesOld e
-    gives-old m n = agree-gives m n (sized-copies v e e se se) one-device _ refl (stepped .times Back)
+    gives-old m n =
+        old-record (made-answered v e se Front m _ (found-front m n (sized-copies v e e se se) one-device _ refl (stepped .times Back)) (old-device Front)
+        (timeOf (heldIn (copy Front))) refl)
 
     gives-back : IsRefused Front e → OldHeld Back e → GivesOld e
-    gives-back a m = alone-gives (copyFrom Front v e) (copyFrom Back v e) (sized-copies v e e se se) Back (a .0) m (a .1) _ (stepped .times Back)
+    gives-back a m =
+        old-record (made-answered v e se Back m _
+        (alone-found (copyFrom Front v e) (copyFrom Back v e) (sized-copies v e e se se) Back (a .0) m (refused-at Front e se (a .0) (a .1))) (old-device Back)
+        (timeOf (heldIn (copy Front))) (stepped .times Back))
 
     module _ (m : NewHeld Front e) where
       gives-newer : OldHeld Back e → GivesNew e
       gives-newer n =
-          gives (copyFrom Front v e) (copyFrom Back v e) Front (spare (copy Front)) (holdingFor t r) Both t r
-          (later-found (copyFrom Front v e) (copyFrom Back v e) (sized-copies v e e se se) m n new-old (its-later Back)) (m .bytes) (m .long) refl
+          made-answered v e se Front m _ (later-found (copyFrom Front v e) (copyFrom Back v e) (sized-copies v e e se se) m n new-old (its-later Back))
+          (changed-device Front) t refl
 
       gives-both : NewHeld Back e → GivesNew e
-      gives-both n = agree-gives m n (sized-copies v e e se se) new-new t refl refl
+      gives-both n = made-answered v e se Front m _ (found-front m n (sized-copies v e e se se) new-new t refl refl) (changed-device Front) t refl
 
       gives-front : IsRefused Back e → GivesNew e
-      gives-front a = alone-gives (copyFrom Front v e) (copyFrom Back v e) (sized-copies v e e se se) Front (a .0) m (a .1) t refl
+      gives-front a =
+          made-answered v e se Front m _
+          (alone-found (copyFrom Front v e) (copyFrom Back v e) (sized-copies v e e se se) Front (a .0) m (refused-at Back e se (a .0) (a .1)))
+          (changed-device Front) t refl
 
-  -- what a cut leaves
-  abbrev Outcome : Sectors → Type 0
-  Outcome e = (IsNew Front e → GivesNew e) × ((IsNew Front e → ⊥) → GivesOld e)
+  -- both records
+  times-apart : (e : Sectors) → GivesOld e → Gives (copyFrom Front v e) (copyFrom Back v e) t r → ⊥
+  times-apart e a b =
+      let f : a .gives .found ≡ b .found = found-same (b .found) (b .other) (a .gives .found) (a .gives .other) (sym (a .gives .answers) ∙ b .answers) in
+      let x : u .seconds ≡ t .seconds = sym (a .gives .seconds) ∙ (ap (λ (z : Finding). z .seconds) f ∙ b .seconds) in
+      let y : u .nanoseconds ≡ t .nanoseconds = sym (a .gives .nanoseconds) ∙ (ap (λ (z : Finding). z .nanoseconds) f ∙ b .nanoseconds) in
+      true≢false (sym (s .later) ∙ same-not-later u t (same-test u t x y))
+
+  -- what a cut leaves, but for the end
+  abbrev Left : Sectors → Type 0
+  Left e = (IsNew Front e → GivesNew e) × ((IsNew Front e → ⊥) → GivesOld e)
 
   module _ (e : Sectors) where
-    old-stands : IsOld Front e → GivesOld e → Outcome e
+    old-stands : IsOld Front e → GivesOld e → Left e
     old-stands p g = (λ q. absurd (new-differs Front (sym p ∙ q)), λ h. g)
 
-    new-stands : IsNew Front e → GivesNew e → Outcome e
+    new-stands : IsNew Front e → GivesNew e → Left e
     new-stands p g = (λ q. g, λ h. absurd (h p))
 
-    none-stands : IsRefused Front e → GivesOld e → Outcome e
+    none-stands : IsRefused Front e → GivesOld e → Left e
     none-stands p g =
         (λ q. absurd (refused-differs (p .0) _ (sym (p .1) ∙ (ap (λ (b : List ℕ). reading b .verdict) q ∙ new-verdict Front))), λ h. g)
 
-  module _ (e : Sectors) (x : Excused v d e t r → ⊥) (i j : ℕ) (l : i ≤ j) (b : j ≤ all) (c : Cut (storeIn groups) i j d e) where
+  module _ (e : Sectors) (i j : ℕ)
+      (x : (w : Side) → (e (blockSector w v) ≡ landed (storeIn groups) i d (blockSector w v) → ⊥) → (e (blockSector w v) ≡ landed (storeIn groups) j d (blockSector w v) → ⊥)
+      → Accepted (e (blockSector w v)) → ⊥)
+      (l : i ≤ j) (b : j ≤ all) (c : Cut (storeIn groups) i j d e) where
     -- the block of a side whose block is not yet stored to, or has landed
     is-old : (w : Side) → j ≤ begin k w + k → IsOld w e
-    is-old w h = at-block w e (c .sound) ∙ (OneSide.cut-old (laid w) d e i j l b c h ∙ sym (at-block w d (s .sound)))
+    is-old w h = OneSide.cut-old (laid w) d e i j l b c h
 
     is-new : (w : Side) → begin k w + k < i → IsNew w e
-    is-new w h = at-block w e (c .sound) ∙ OneSide.cut-new (laid w) d e i j l b c h
+    is-new w h = OneSide.cut-new (laid w) d e i j l b c h
 
     -- the present area is never stored to
     kept : (w : Side) (q : ℕ) → q < areaSectors → e (areaSector w (present w) v + q) ≡ d (areaSector w (present w) v + q)
@@ -253,116 +293,180 @@ module _ (v : Device) (d : Sectors) (t : Time) (r : List ℕ) (s : Start v d t r
         (λ y u z. areas-apart v its-sizes w (present w) q y (omega arith) (omega arith) z) (λ z. block-apart v its-sizes w (present w) q (omega arith) z)
 
     still-old : (w : Side) → IsOld w e → OldHeld w e
-    still-old w p = holds-old w e (c .sound) (sym (at-block w e (c .sound)) ∙ (p ∙ at-block w d (s .sound))) (kept w)
+    still-old w p = holds-old w e (c .sound) p (kept w)
 
     now-new : (w : Side) → begin k w + k ≤ i → IsNew w e → NewHeld w e
-    now-new w h p = holds-new w e (c .sound) (sym (at-block w e (c .sound)) ∙ p) (OneSide.cut-area (laid w) d e i j l b c h)
+    now-new w h p = holds-new w e (c .sound) p (OneSide.cut-area (laid w) d e i j l b c h)
 
     -- the front's area is being stored
-    in-front-area : j ≤ k → Outcome e
-    in-front-area u =
+    in-front-area : j ≤ k → Left e
+    in-front-area a =
         let p : IsOld Front e = is-old Front (omega arith) in
         old-stands e p (gives-old e (c .sound) (still-old Front p) (still-old Back (is-old Back (omega arith))))
 
     -- the front's block is
-    in-front-block : k ≤ i → j ≤ k + 1 → Outcome e
-    in-front-block u o = go (state Front e x)
+    in-front-block : i ≡ k → j ≡ k + 1 → Left e
+    in-front-block a o = go (state Front e i j (omega arith) (omega arith) b (x Front))
       where
         back : OldHeld Back e
         back = still-old Back (is-old Back (omega arith))
 
-        go : IsOld Front e ⊎ (IsNew Front e ⊎ IsRefused Front e) → Outcome e
+        go : IsOld Front e ⊎ (IsNew Front e ⊎ IsRefused Front e) → Left e
         go (inl p) = old-stands e p (gives-old e (c .sound) (still-old Front p) back)
         go (inr (inl p)) = new-stands e p (gives-newer e (c .sound) (now-new Front (omega arith) p) back)
         go (inr (inr p)) = none-stands e p (gives-back e (c .sound) p back)
 
     -- the front's block has landed
-    module _ (u : k < i) where
+    module _ (a : k < i) where
       stands : IsNew Front e
       stands = is-new Front (omega arith)
 
       front : NewHeld Front e
       front = now-new Front (omega arith) stands
 
-      in-back-area : j ≤ k + 1 + k → Outcome e
+      in-back-area : j ≤ k + 1 + k → Left e
       in-back-area o = new-stands e stands (gives-newer e (c .sound) front (still-old Back (is-old Back o)))
 
-      in-back-block : k + 1 + k ≤ i → Outcome e
-      in-back-block o = new-stands e stands (go (state Back e x))
+      in-back-block : i ≡ k + 1 + k → j ≡ all → Left e
+      in-back-block o h = new-stands e stands (go (state Back e i j (omega arith) (omega arith) b (x Back)))
         where
           go : IsOld Back e ⊎ (IsNew Back e ⊎ IsRefused Back e) → GivesNew e
           go (inl p) = gives-newer e (c .sound) front (still-old Back p)
-          go (inr (inl p)) = gives-both e (c .sound) front (now-new Back o p)
+          go (inr (inl p)) = gives-both e (c .sound) front (now-new Back (omega arith) p)
           go (inr (inr p)) = gives-front e (c .sound) front p
 
-  -- a cut in any of the four groups
-  in-group : (e : Sectors) → (Excused v d e t r → ⊥) → (g : ℕ) → g < 4 → CutIn groups g d e → Outcome e
-  in-group e x g h c =
-      go g h
-      (subst (λ (n : ℕ). Cut (storeIn groups) n (starting k (suc g)) d e) (group-starts (copy Front) (copy Back) t r g)
-      (subst (λ (n : ℕ). Cut (storeIn groups) (groupStart groups g) n d e) (group-starts (copy Front) (copy Back) t r (suc g)) c))
-    where
-      go : (g : ℕ) → g < 4 → Cut (storeIn groups) (starting k g) (starting k (suc g)) d e → Outcome e
-      go zero h c = in-front-area e x (starting k 0) (starting k 1) (omega arith) (omega arith) c (omega arith)
-      go (suc zero) h c = in-front-block e x (starting k 1) (starting k 2) (omega arith) (omega arith) c (omega arith) (omega arith)
-      go (suc (suc zero)) h c = in-back-area e x (starting k 2) (starting k 3) (omega arith) (omega arith) c (omega arith) (omega arith)
-      go (suc (suc (suc zero))) h c = in-back-block e x (starting k 3) (starting k 4) (omega arith) (omega arith) c (omega arith) (omega arith)
-      go (suc (suc (suc (suc g)))) h c = absurd (let o : _≡_ {A = ℕ} 0 1 = omega arith in omega arith)
+      -- and so has everything
+      after-last : k + 1 + k < i → NewHeld Back e
+      after-last o = now-new Back (omega arith) (is-new Back (omega arith))
 
-  -- all stores landed
-  after-sound : Sound (after v d t r)
-  after-sound =
-      record {
-        size =
-            landed-size (storeIn groups) d (s .sound .size) (length (stores groups))
-            (λ i l. stored-size copy t r v (s .placed) new-size i (subst (λ (n : ℕ). i < n) stores-count l));
-      }
+  starts-at : (g : ℕ) → groupStart groups g ≡ starting k g
+  starts-at = group-starts (copy Front) (copy Back) t r
 
-  has-landed : (w : Side) → NewHeld w (after v d t r)
-  has-landed w =
-      let n : length (stores groups) ≡ all = stores-count in
-      let m : begin k w + k < all = laid w .within in
-      holds-new w (after v d t r) after-sound (OneSide.block-landed (laid w) d (length (stores groups)) (omega arith) (omega arith))
-      (λ i y. OneSide.area-landed (laid w) d i (length (stores groups)) y (omega arith) (omega arith))
+  past : (g : ℕ) → starting k (suc (suc (suc (suc g)))) ≡ all
+  past zero = let z : starting k (suc (suc (suc (suc zero)))) ≡ k + (1 + (k + 1)) = refl in omega arith
+  past (suc g) = let z : starting k (suc (suc (suc (suc (suc g))))) ≡ k + (1 + (k + 1)) = refl in omega arith
 
-  all-landed : GivesNew (after v d t r) × InStepOn (copyFrom Front v (after v d t r)) (copyFrom Back v (after v d t r)) t r
-  all-landed =
-      let z : sized (copyFrom Front v (after v d t r)) (copyFrom Back v (after v d t r)) ≡ true =
-      sized-copies v (after v d t r) (after v d t r) after-sound after-sound in
-      (agree-gives (has-landed Front) (has-landed Back) z new-new t refl refl, agree-in-step (has-landed Front) (has-landed Back) z new-new t refl refl)
+  -- a cut in any of the four groups, or after the last
+  module _ (e : Sectors) where
+    abbrev Known : ℕ → ℕ → Type 0
+    Known i j =
+        (w : Side) → (e (blockSector w v) ≡ landed (storeIn groups) i d (blockSector w v) → ⊥) → (e (blockSector w v) ≡ landed (storeIn groups) j d (blockSector w v) → ⊥)
+        → Accepted (e (blockSector w v)) → ⊥
+
+    by-group : (g : ℕ) → Known (starting k g) (starting k (suc g)) → Cut (storeIn groups) (starting k g) (starting k (suc g)) d e → Left e
+    by-group zero x c = in-front-area e (starting k 0) (starting k 1) x (omega arith) (omega arith) c (omega arith)
+    by-group (suc zero) x c = in-front-block e (starting k 1) (starting k 2) x (omega arith) (omega arith) c (omega arith) (omega arith)
+    by-group (suc (suc zero)) x c = in-back-area e (starting k 2) (starting k 3) x (omega arith) (omega arith) c (omega arith) (omega arith)
+    by-group (suc (suc (suc zero))) x c = in-back-block e (starting k 3) (starting k 4) x (omega arith) (omega arith) c (omega arith) (omega arith) (omega arith)
+    by-group (suc (suc (suc (suc g)))) x c =
+        let a : starting k (suc (suc (suc (suc g)))) ≡ all = past g in
+        let b : starting k (suc (suc (suc (suc (suc g))))) ≡ all = past (suc g) in
+        new-stands e (stands e (starting k (suc (suc (suc (suc g))))) (starting k (suc (suc (suc (suc (suc g)))))) x (omega arith) (omega arith) c (omega arith))
+        (gives-both e (c .sound) (front e (starting k (suc (suc (suc (suc g))))) (starting k (suc (suc (suc (suc (suc g)))))) x (omega arith) (omega arith) c (omega arith))
+        (after-last e (starting k (suc (suc (suc (suc g))))) (starting k (suc (suc (suc (suc (suc g)))))) x (omega arith) (omega arith) c (omega arith) (omega arith)))
+
+    at-end : (g : ℕ) → 4 ≤ g → Known (starting k g) (starting k (suc g)) → Cut (storeIn groups) (starting k g) (starting k (suc g)) d e → IsNew Front e × Ready v e t r
+    at-end (suc (suc (suc (suc g)))) h x c =
+        let a : starting k (suc (suc (suc (suc g)))) ≡ all = past g in
+        let b : starting k (suc (suc (suc (suc (suc g))))) ≡ all = past (suc g) in
+        (
+          stands e (starting k (suc (suc (suc (suc g))))) (starting k (suc (suc (suc (suc (suc g)))))) x (omega arith) (omega arith) c (omega arith),
+          made-ready v e (c .sound) (front e (starting k (suc (suc (suc (suc g))))) (starting k (suc (suc (suc (suc (suc g)))))) x (omega arith) (omega arith) c (omega arith))
+              (after-last e (starting k (suc (suc (suc (suc g))))) (starting k (suc (suc (suc (suc (suc g)))))) x (omega arith) (omega arith) c (omega arith) (omega arith)) (changed-device Front) (changed-device Back) t refl refl,
+        )
+    at-end zero h x c = absurd (let o : _≡_ {A = ℕ} 0 1 = omega arith in omega arith)
+    at-end (suc zero) h x c = absurd (let o : _≡_ {A = ℕ} 0 1 = omega arith in omega arith)
+    at-end (suc (suc zero)) h x c = absurd (let o : _≡_ {A = ℕ} 0 1 = omega arith in omega arith)
+    at-end (suc (suc (suc zero))) h x c = absurd (let o : _≡_ {A = ℕ} 0 1 = omega arith in omega arith)
+
+    outcome : (g : ℕ) → CutIn groups g d e → (Excused v groups g d e → ⊥) → Outcome v d e u q t r g
+    outcome g c x =
+        record {
+          new = left .0;
+          only-new = λ h. elim-new h;
+          old = left .1;
+          landed = λ h. at-end g h known cut;
+        }
+      where
+        cut : Cut (storeIn groups) (starting k g) (starting k (suc g)) d e
+        cut =
+            subst (λ (n : ℕ). Cut (storeIn groups) n (starting k (suc g)) d e) (starts-at g)
+            (subst (λ (n : ℕ). Cut (storeIn groups) (groupStart groups g) n d e) (starts-at (suc g)) c)
+
+        known : Known (starting k g) (starting k (suc g))
+        known w p o a =
+            x (
+              w,
+              (λ h. p (h ∙ ap (λ (n : ℕ). landed (storeIn groups) n d (blockSector w v)) (starts-at g))),
+              (λ h. o (h ∙ ap (λ (n : ℕ). landed (storeIn groups) n d (blockSector w v)) (starts-at (suc g)))),
+              a,
+            )
+
+        left : Left e
+        left = by-group g known cut
+
+        elim-new : Gives (copyFrom Front v e) (copyFrom Back v e) t r → IsNew Front e
+        elim-new h = go (split (e (blockSector Front v)) (newBlock (copy Front) t r) (same (e (blockSector Front v)) (newBlock (copy Front) t r)) refl)
+          where
+            go : (IsNew Front e) ⊎ (IsNew Front e → ⊥) → IsNew Front e
+            go (inl p) = p
+            go (inr p) = absurd (times-apart e (left .1 p) h)
+
+  -- each store goes to its block or its area
+  fits : (i : ℕ) → i < all → Fits v (storeIn groups i)
+  fits =
+      by-side k (λ (i : ℕ). Fits v (storeIn groups i)) (λ w i m.
+      elim (ℕ-discrete i k) [
+        | yes e ↦ subst (λ (n : ℕ). Fits v (storeIn groups (begin k w + n))) (sym e) (subst (Fits v) (sym (laid w .block))
+            (record { side = w; place = inl refl; below = block-below v its-sizes w; size = new-size w }))
+        | no e ↦
+            let a : i < k = omega arith in
+            let y : k ≤ areaSectors = sectors-within (length r) (length-facts (length r) its-length .1) in
+            let n : k ≤ 1020 = tiny in
+            subst (Fits v) (sym (laid w .area i a))
+            (record {
+              side = w;
+              place = inr (spare (copy w), (i, (omega arith, refl)));
+              below = area-below v its-sizes w (spare (copy w)) i (omega arith);
+              size = length-sector r i;
+            })
+      ])
 
   -- the stores that the plan gives
   sectors-fit : v .sectors < 256 ^ 8
-  sectors-fit = subst (λ (w : Device). w .sectors < 256 ^ 8) (s .placed) (number-fits (blockIn (copy Front)) 20 8)
+  sectors-fit = subst (λ (w : Device). w .sectors < 256 ^ 8) says (number-fits (blockIn (copy Front)) 20 8)
 
   abbrev plan : Plan
   plan = planOn v d t r
 
   abbrev part : Side → Device → Part
-  part w u = partOf w u (copy w) (holdingFor t r)
+  part w z = partFor w z (fields w) (holdingFor t r)
+
+  copy-at : (w : Side) → isCopy (copy w) ≡ true
+  copy-at w = is-copy w v d sd
 
   module _ (w : Side) (out : List ℕ) (room : length out ≡ 512) where
     given-area : (j : ℕ) → j < k
-        → (partAnswer (part w v) k (copy w) j out ≡ Given.At (areaSector w (spare (copy w)) v + j))
-        × (partBytes (part w v) k (copy w) r j out ≡ sectorOf r j)
+        → (partGiven (part w v) k (copy w) r j out ≡ Given.At (areaSector w (spare (copy w)) v + j))
+        × (partLeft (part w v) k (copy w) r j out ≡ sectorOf r j)
     given-area j l =
         let m : k ≤ 1020 = tiny in
         let a : areaSector w (spare (copy w)) v + j < v .sectors = area-below v its-sizes w (spare (copy w)) j (omega arith) in
         let b : v .sectors < 256 ^ 8 = sectors-fit in
         let h : areaSector w (spare (copy w)) v ≤ 18446744073709551615 - j = omega arith in
-        area-given (part w v) k (copy w) r j out l h room
+        area-given (part w v) k (copy w) r j out (copy-at w) room its-length (omega arith) l h
 
-    given-block : (partAnswer (part w v) k (copy w) k out ≡ Given.At (blockSector w v)) × (partBytes (part w v) k (copy w) r k out ≡ newBlock (copy w) t r)
+    given-block : (partGiven (part w v) k (copy w) r k out ≡ Given.At (blockSector w v)) × (partLeft (part w v) k (copy w) r k out ≡ newBlock (copy w) t r)
     given-block =
-        part-given (part w v) k (copy w) r k out (le-refl k) (blockSector w v) (newBlock (copy w) t r)
-        (block-given (blockSector w v) (newFields w) (copy w) out (newBlock (copy w) t r)
+        part-given (part w v) k (copy w) r k out (copy-at w) room its-length (le-refl k) (le-refl k) (blockSector w v) (newBlock (copy w) t r)
+        (block-given (blockSector w v) (newFields w) (copy w) out (newBlock (copy w) t r) (copy-at w)
         (new-writes (copy w) (stepped .accepted w) (heldIn (copy w)) (its-used w) t r (s .fits) its-time its-length (its-later w) out room)
         (new-written (copy w) (stepped .accepted w) (heldIn (copy w)) (its-used w) t r (s .fits) its-time its-length (its-later w) out room))
 
     -- store j of a side is the store that the update has at its number
     given-store : (j : ℕ) → j ≤ k
-        → (partAnswer (part w v) k (copy w) j out ≡ Given.At (storeIn groups (begin k w + j) .sector))
-        × (partBytes (part w v) k (copy w) r j out ≡ storeIn groups (begin k w + j) .content)
+        → (partGiven (part w v) k (copy w) r j out ≡ Given.At (storeIn groups (begin k w + j) .sector))
+        × (partLeft (part w v) k (copy w) r j out ≡ storeIn groups (begin k w + j) .content)
     given-store j l =
         elim (ℕ-discrete j k) [
           | yes e ↦
@@ -376,11 +480,11 @@ module _ (v : Device) (d : Sectors) (t : Time) (r : List ℕ) (s : Start v d t r
 
     -- with the places as the front copy says them
     given-at : (j : ℕ) → j ≤ k
-        → (partAnswer (part w (deviceIn (copy Front))) k (copy w) j out ≡ Given.At (storeIn groups (begin k w + j) .sector))
-        × (partBytes (part w (deviceIn (copy Front))) k (copy w) r j out ≡ storeIn groups (begin k w + j) .content)
+        → (partGiven (part w (deviceIn (copy Front))) k (copy w) r j out ≡ Given.At (storeIn groups (begin k w + j) .sector))
+        × (partLeft (part w (deviceIn (copy Front))) k (copy w) r j out ≡ storeIn groups (begin k w + j) .content)
     given-at j l = (
-      ap (λ (u : Device). partAnswer (part w u) k (copy w) j out) (s .placed) ∙ given-store j l .0,
-      ap (λ (u : Device). partBytes (part w u) k (copy w) r j out) (s .placed) ∙ given-store j l .1,
+      ap (λ (u : Device). partGiven (part w u) k (copy w) r j out) says ∙ given-store j l .0,
+      ap (λ (u : Device). partLeft (part w u) k (copy w) r j out) says ∙ given-store j l .1,
     )
 
   module _ (out : List ℕ) (room : length out ≡ 512) where
@@ -389,20 +493,20 @@ module _ (v : Device) (d : Sectors) (t : Time) (r : List ℕ) (s : Start v d t r
 
     -- the plan gives it at that number
     plan-gives : (w : Side) (j : ℕ) → j ≤ k
-        → (partAnswer (part w (deviceIn (copy Front))) k (copy w) j out ≡ storeAnswer plan (copy Front) (copy Back) r (begin k w + j) out)
-        × (partBytes (part w (deviceIn (copy Front))) k (copy w) r j out ≡ storeBytes plan (copy Front) (copy Back) r (begin k w + j) out)
+        → (partGiven (part w (deviceIn (copy Front))) k (copy w) r j out ≡ storeAnswer plan (copy Front) (copy Back) r (begin k w + j) out)
+        × (partLeft (part w (deviceIn (copy Front))) k (copy w) r j out ≡ storeBytes plan (copy Front) (copy Back) r (begin k w + j) out)
     plan-gives Front j l =
         let n : j ≡ 0 + j = omega arith in
         let z : 0 + j < storesIn plan = omega arith in
         front-store plan (copy Front) (copy Back) r (0 + j) out lent its-length _ refl z _ _ (omega arith)
-        (ap (λ (i : ℕ). partAnswer (part Front (deviceIn (copy Front))) k (copy Front) i out) n)
-        (ap (λ (i : ℕ). partBytes (part Front (deviceIn (copy Front))) k (copy Front) r i out) n)
+        (ap (λ (i : ℕ). partGiven (part Front (deviceIn (copy Front))) k (copy Front) r i out) n)
+        (ap (λ (i : ℕ). partLeft (part Front (deviceIn (copy Front))) k (copy Front) r i out) n)
     plan-gives Back j l =
         let n : j ≡ k + 1 + j - (k + 1) = omega arith in
         let z : k + 1 + j < storesIn plan = omega arith in
         back-store plan (copy Front) (copy Back) r (k + 1 + j) out lent its-length _ refl z _ _ (omega arith)
-        (ap (λ (i : ℕ). partAnswer (part Back (deviceIn (copy Front))) k (copy Back) i out) n)
-        (ap (λ (i : ℕ). partBytes (part Back (deviceIn (copy Front))) k (copy Back) r i out) n)
+        (ap (λ (i : ℕ). partGiven (part Back (deviceIn (copy Front))) k (copy Back) r i out) n)
+        (ap (λ (i : ℕ). partLeft (part Back (deviceIn (copy Front))) k (copy Back) r i out) n)
 
     abbrev GivenAt : ℕ → Type 0
     GivenAt i =
@@ -425,29 +529,33 @@ module _ (v : Device) (d : Sectors) (t : Time) (r : List ℕ) (s : Start v d t r
   no-group : (i : ℕ) → all ≤ i → groupOf plan i ≡ 4
   no-group i l = sym (in-none plan i (omega arith) (omega arith) (omega arith) _ refl (omega arith))
 
-pub cutting : Cutting
-cutting v d e t r g s h c x = in-group v d t r s e x g h c
+  -- its number is 0
+  number : updateNumber (copy Front) (copy Back) t r ≡ 0
+  unfolding updateNumber
+  number =
+      ap (λ (a : Answer). numberAfter a (copy Front) (copy Back) t r) (stepped-found copy stepped)
+      ∙ first-all (testsAfter (inStep (copy Front) (copy Back)) (fields Front .device) (timeOf (heldIn (copy Front))) t r) (
+        s .ready .in-step .0,
+        (its-time, (its-later Front, subst (λ (z : Device). AllHold (contentTests z r)) (sym says) its-content)),
+      )
 
-pub landing : Landing
-landing v d t r s = all-landed v d t r s
+pub demand3 : Demand3
+demand3 v d u q t r s = (
+  (λ i l. fits v d u q t r s i (subst (λ (n : ℕ). i < n) (stores-count v d u q t r s) l)),
+  (groups-four (copyFrom Front v d) (copyFrom Back v d) t r, λ e g c x. outcome v d u q t r s e g c x),
+)
 
 pub giving : Giving
-giving v d t r s = (
-  sym (answer-yes (Planned.Ready (planOn v d t r)) Planned.Refused 0 (updateNumber (copyFrom Front v d) (copyFrom Back v d) t r) (sym (s .not-refused)) refl),
-  (
-    (let e : 2 * sectorsOf (length r) + 2 ≡ sectorsOf (length r) + 1 + sectorsOf (length r) + 1 = omega arith in e) ∙ sym (stores-count v d t r s),
-    (
-      refl,
-      (
-        λ g i h a b. sym (grouped (copyFrom Front v d) (copyFrom Back v d) t r (planOn v d t r) refl g i h a b),
-        (
-          λ i l. no-group v d t r s i (subst (λ (n : ℕ). n ≤ i) (stores-count v d t r s) l),
-          (
-            λ i out l room. all-given v d t r s out room i (subst (λ (n : ℕ). i < n) (stores-count v d t r s) l),
-            λ i out l room. none-given v d t r s out room i (subst (λ (n : ℕ). n ≤ i) (stores-count v d t r s) l),
-          ),
-        ),
-      ),
-    ),
-  ),
-)
+giving v d u q t r s =
+    record {
+      number = number v d u q t r s;
+      plan =
+          sym (answer-yes (Planned.Ready (planOn v d t r)) Planned.Refused 0 (updateNumber (copyFrom Front v d) (copyFrom Back v d) t r) (sym (number v d u q t r s)) refl);
+      count =
+          (let e : 2 * sectorsOf (length r) + 2 ≡ sectorsOf (length r) + 1 + sectorsOf (length r) + 1 = omega arith in e) ∙ sym (stores-count v d u q t r s);
+      two-k-two = refl;
+      grouped = λ g i h a b. sym (grouped (copyFrom Front v d) (copyFrom Back v d) t r (planOn v d t r) refl g i h a b);
+      no-group = λ i l. no-group v d u q t r s i (subst (λ (n : ℕ). n ≤ i) (stores-count v d u q t r s) l);
+      store = λ i out l room. all-given v d u q t r s out room i (subst (λ (n : ℕ). i < n) (stores-count v d u q t r s) l);
+      no-store = λ i out l room. none-given v d u q t r s out room i (subst (λ (n : ℕ). n ≤ i) (stores-count v d u q t r s) l);
+    }

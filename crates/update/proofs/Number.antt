@@ -9,7 +9,6 @@ use Rattle.discovery.specs.declared.Other.{Other}
 use Rattle.discovery.specs.declared.Answer.{Answer}
 use Rattle.discovery.specs.declared.Answer.the-variants.{Found, Refused}
 use Rattle.discovery.specs.Discovery.{discovery}
-use Rattle.discovery.specs.Newest.{timeAt}
 use Rattle.update.specs.Update.{updateTests, numberAfter, updateNumber}
 
 module _ (f b : List ℕ) (t : Time) (r : List ℕ) (a : Answer) (e : a ≡ discovery f b) where
@@ -17,6 +16,6 @@ module _ (f b : List ℕ) (t : Time) (r : List ℕ) (a : Answer) (e : a ≡ disc
   unfolding updateNumber
   number-refused n h = sym (ap (λ (z : Answer). numberAfter z f b t r) (sym e ∙ h))
 
-  pub number-found : (q : Finding) (o : Other) → a ≡ Found q o → (m : ℕ) → m ≡ first (updateTests f b (timeAt q) t r) → m ≡ updateNumber f b t r
+  pub number-found : (q : Finding) (o : Other) → a ≡ Found q o → (m : ℕ) → m ≡ first (updateTests f b q t r) → m ≡ updateNumber f b t r
   unfolding updateNumber
   number-found q o h m k = k ∙ sym (ap (λ (z : Answer). numberAfter z f b t r) (sym e ∙ h))

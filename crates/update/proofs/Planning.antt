@@ -1,21 +1,22 @@
 -- A plan, from what the code has worked out.
-use Prim.Native.Nat.{ℕ, _≤_, _<_, _*_}
-use mathlib.Core.Path.{_≡_, sym, ap, ap₂, _∙_}
+use Prim.Native.Nat.{ℕ, _<_}
+use mathlib.Core.Path.{_≡_, refl, sym, ap, ap₂, subst, _∙_}
 use mathlib.Core.Bool.{Bool, true, false, cond}
 use mathlib.Core.List.{List}
+use native.Mathlib.Decide.{ℕ-discrete}
 use native.Mathlib.Omega.{arith}
 use lib.Dec.{lit<}
 use lib.ListN.{length}
-use Rattle.endian.specs.Bytes.{same, window}
+use Rattle.endian.specs.Bytes.{same}
 use Rattle.checksum.specs.Crc as Crc
-use Rattle.refusal.specs.Tests.{AllHold}
-use Rattle.refusal.proofs.Order.{first-holds, answer-no, answer-yes}
+use Rattle.refusal.specs.Tests.{first, AllHold}
+use Rattle.refusal.proofs.Order.{Numbered, first-holds, answer-no, answer-yes}
 use Rattle.layout.specs.declared.Device.{Device}
 use Rattle.layout.specs.declared.Side.{Side}
 use Rattle.layout.specs.declared.Side.the-variants.{Front, Back}
 use Rattle.layout.specs.declared.Area.{Area}
+use Rattle.layout.specs.Limits.{lengthAllowed}
 use Rattle.layout.specs.Places.{blockSector, areaSector}
-use Rattle.layout.proofs.Laws.{length-fits}
 use Rattle.block.specs.declared.Time.{Time}
 use Rattle.block.specs.declared.Holding.{Holding}
 use Rattle.block.specs.declared.Entry.the-variants.{Used}
@@ -26,28 +27,34 @@ use Rattle.block.specs.Entry.{laterThan, sameTime, timeOf}
 use Rattle.block.specs.Block.{fieldsOf}
 use Rattle.copy.specs.declared.Present.{Present}
 use Rattle.copy.specs.declared.Present.the-variants.{Nothing, At}
+use Rattle.copy.specs.Copy.{blockIn, areaBytes, otherArea, newest, copyReading}
+use Rattle.discovery.specs.declared.Finding.{Finding}
+use Rattle.discovery.specs.declared.Other.{Other}
+use Rattle.discovery.specs.declared.Other.the-variants.{Both, One}
 use Rattle.discovery.specs.declared.Answer.{Answer}
 use Rattle.discovery.specs.declared.Answer.the-variants.{Found, Refused}
-use Rattle.copy.specs.Copy.{areaBytes, otherArea, newest, present, readingIn, deviceIn}
-use Rattle.discovery.specs.Discovery.{aloneOf, newestOf, togetherOf, sameDevice, sameUuids, decide, sized, discovery}
+use Rattle.discovery.specs.Discovery.{findingOf, aloneOf, newestOf, togetherOf, sameDevice, sameUuids, decide, decideOf, sized, discovery, inStep}
 use Rattle.discovery.specs.Newest.{timeAt}
+use Rattle.discovery.proofs.Latest.{found-same, found-other}
 use Rattle.stores.specs.declared.Part.{Part}
+use Rattle.stores.specs.Stores.{sectorsOf, holdingFor, withEntry}
+use Rattle.stores.proofs.Holding.{heldIn}
+use Rattle.stores.proofs.InStep.{Stepped, in-step-facts}
+use Rattle.stores.proofs.States.{stepped-found}
 use Rattle.update.specs.declared.Plan.{Plan}
 use Rattle.update.specs.declared.Planned.{Planned}
 use Rattle.update.specs.declared.Planned.the-variants as Planned
-use Rattle.update.specs.Update.{updateTests, numberAfter, updateNumber, spare}
-use Rattle.stores.specs.Stores.{sectorsOf, holdingFor, withEntry}
-use Rattle.update.specs.Plan.{partOf, planOf, planned}
+use Rattle.update.specs.Update.{testsAfter, updateTests, numberAfter, updateNumber}
+use Rattle.update.specs.Plan.{partFor, planFor, planOf, planWith, planFound, planned}
 
 -- one side, step by step
-pub part-made : (w : Side) (d : Device) (c : List ℕ) (h : Holding) (s : List ℕ) (x : BlockFields) (n y : Area) (g : BlockFields) (a m : ℕ)
-    → s ≡ window c 512 512 → x ≡ fieldsOf s → n ≡ newest x → y ≡ otherArea n → g ≡ withEntry x y (Used h) → a ≡ areaSector w y d → m ≡ blockSector w d
-    → _≡_ {A = Part} (record { area = a; block = m; fields = g }) (partOf w d c h)
-part-made w d c h s x n y g a m es ex en ey eg ea em =
-    let fx : x ≡ fieldsOf (window c 512 512) = ex ∙ ap fieldsOf es in
-    let fy : y ≡ spare c = ey ∙ ap otherArea (en ∙ ap newest fx) in
-    let fa : a ≡ areaSector w (spare c) d = ea ∙ ap (λ (z : Area). areaSector w z d) fy in
-    let fg : g ≡ withEntry (fieldsOf (window c 512 512)) (spare c) (Used h) = eg ∙ ap₂ (λ (q : BlockFields) (z : Area). withEntry q z (Used h)) fx fy in
+pub part-made : (w : Side) (d : Device) (x : BlockFields) (h : Holding) (n y : Area) (g : BlockFields) (a m : ℕ)
+    → n ≡ newest x → y ≡ otherArea n → g ≡ withEntry x y (Used h) → a ≡ areaSector w y d → m ≡ blockSector w d
+    → _≡_ {A = Part} (record { area = a; block = m; fields = g }) (partFor w d x h)
+part-made w d x h n y g a m en ey eg ea em =
+    let fy : y ≡ otherArea (newest x) = ey ∙ ap otherArea en in
+    let fa : a ≡ areaSector w (otherArea (newest x)) d = ea ∙ ap (λ (z : Area). areaSector w z d) fy in
+    let fg : g ≡ withEntry x (otherArea (newest x)) (Used h) = eg ∙ ap (λ (z : Area). withEntry x z (Used h)) fy in
     λ i. record { area = fa i; block = em i; fields = fg i }
 
 -- discovery never refuses with 0
@@ -62,65 +69,113 @@ either : (b : Bool) (x y : Answer) → Nonzero x → Nonzero y → Nonzero (cond
 either true x y p q = p
 either false x y p q = q
 
-alone-number : (s : Side) (p : Present) (n : ℕ) → Nonzero (aloneOf s p n)
-alone-number s Nothing n = above 12 (lit< tt)
-alone-number s (At x h) n = tt
+alone-number : (s : Side) (g : BlockFields) (p : Present) (n : ℕ) → Nonzero (aloneOf s g p n)
+alone-number s g Nothing n = above 12 (lit< tt)
+alone-number s g (At x h) n = tt
 
-newest-number : (f b : List ℕ) (x : Area) (h : Holding) (y : Area) (k : Holding) → Nonzero (newestOf f b x h y k)
-newest-number f b x h y k =
+newest-number : (f b : List ℕ) (i j : BlockFields) (x : Area) (h : Holding) (y : Area) (k : Holding) → Nonzero (newestOf f b i j x h y k)
+newest-number f b i j x h y k =
     either (sameTime (timeOf h) (timeOf k)) _ _
     (either (same (areaBytes f x (h .bytes)) (areaBytes b y (k .bytes))) (Found _ _) (Refused 13) tt (above 13 (lit< tt)))
     (either (laterThan (timeOf k) (timeOf h)) (Found _ _) (Found _ _) tt tt)
 
-together-number : (f b : List ℕ) (p q : Present) → Nonzero (togetherOf f b p q)
-together-number f b Nothing Nothing = above 12 (lit< tt)
-together-number f b Nothing (At y k) = tt
-together-number f b (At x h) Nothing = tt
-together-number f b (At x h) (At y k) = newest-number f b x h y k
+together-number : (f b : List ℕ) (i j : BlockFields) (p q : Present) → Nonzero (togetherOf f b i j p q)
+together-number f b i j Nothing Nothing = above 12 (lit< tt)
+together-number f b i j Nothing (At y k) = tt
+together-number f b i j (At x h) Nothing = tt
+together-number f b i j (At x h) (At y k) = newest-number f b i j x h y k
 
-decide-number : (v w : Verdict) (u : Bool) (f b : List ℕ) → Nonzero (decide v w u f b)
-decide-number (Verdict.Refused m) (Verdict.Refused n) u f b = above 10 (lit< tt)
-decide-number (Verdict.Refused m) (Verdict.Accepted y) u f b = alone-number Back (present b y) m
-decide-number (Verdict.Accepted x) (Verdict.Refused n) u f b = alone-number Front (present f x) n
-decide-number (Verdict.Accepted x) (Verdict.Accepted y) u f b =
-    either (mathlib.Core.Bool._&&_ (sameDevice x y) u) (togetherOf f b (present f x) (present b y)) (Refused 11) (together-number f b (present f x) (present b y)) (above 11 (lit< tt))
+decide-number : (v w : Verdict) (u : Bool) (p q : Present) (f b : List ℕ) → Nonzero (decide v w u p q f b)
+decide-number (Verdict.Refused m) (Verdict.Refused n) u p q f b = above 10 (lit< tt)
+decide-number (Verdict.Refused m) (Verdict.Accepted y) u p q f b = alone-number Back y q m
+decide-number (Verdict.Accepted x) (Verdict.Refused n) u p q f b = alone-number Front x p n
+decide-number (Verdict.Accepted x) (Verdict.Accepted y) u p q f b =
+    either (mathlib.Core.Bool._&&_ (sameDevice x y) u) (togetherOf f b x y p q) (Refused 11) (together-number f b x y p q) (above 11 (lit< tt))
 
 discovery-number : (f b : List ℕ) → Nonzero (discovery f b)
 unfolding discovery
-discovery-number f b =
-    either (sized f b) (decide (readingIn f .verdict) (readingIn b .verdict) (sameUuids (readingIn f) (readingIn b)) f b) (Refused 1)
-    (decide-number (readingIn f .verdict) (readingIn b .verdict) (sameUuids (readingIn f) (readingIn b)) f b) (above 1 (lit< tt))
+discovery-number f b = either (sized f b) (decideOf (copyReading f) (copyReading b) f b) (Refused 1) 
+    (decide-number (copyReading f .block .verdict) (copyReading b .block .verdict) (sameUuids (copyReading f .block) (copyReading b .block)) (copyReading f .present) (copyReading b .present) f b) (above 1 (lit< tt))
+
+tests-numbered : (b : Bool) (v : Device) (old t : Time) (r : List ℕ) → Numbered (testsAfter b v old t r)
+tests-numbered b v old t r = (lit< tt, (lit< tt, (lit< tt, (lit< tt, (lit< tt, (lit< tt, (lit< tt, tt)))))))
 
 module _ (f b : List ℕ) (t : Time) (r : List ℕ) where
-  tests-of : (a : Answer) → Nonzero a → numberAfter a f b t r ≡ 0 → (old : Time) × AllHold (updateTests f b old t r)
-  tests-of (Refused n) z h = absurd (z h)
-  tests-of (Found q o) z h = (
-    timeAt q,
-    first-holds (updateTests f b (timeAt q) t r) (lit< tt, (lit< tt, (lit< tt, (lit< tt, (lit< tt, (lit< tt, (lit< tt, tt))))))) h,
-  )
+  tests-of : (a : Answer) → discovery f b ≡ a → Nonzero a → numberAfter a f b t r ≡ 0
+      → (q : Finding) × ((o : Other) × ((discovery f b ≡ Found q o) × AllHold (updateTests f b q t r)))
+  tests-of (Refused n) e z h = absurd (z h)
+  tests-of (Found q o) e z h = (q, (o, (e, first-holds (updateTests f b q t r) (tests-numbered (inStep f b) (q .fields .device) (timeAt q) t r) h)))
 
   -- no test refuses an update whose number is 0
-  pub not-refused : updateNumber f b t r ≡ 0 → (old : Time) × AllHold (updateTests f b old t r)
+  pub not-refused : updateNumber f b t r ≡ 0 → (q : Finding) × ((o : Other) × ((discovery f b ≡ Found q o) × AllHold (updateTests f b q t r)))
   unfolding updateNumber
-  not-refused h = tests-of (discovery f b) (discovery-number f b) h
+  not-refused h = tests-of (discovery f b) refl (discovery-number f b) h
 
-  -- the record of an update that is not refused has a length that fits
-  pub record-small : (n : ℕ) → n ≡ updateNumber f b t r → n ≡ 0 → length r < 4294967296
-  record-small n e z = length-fits (length r) (not-refused (sym e ∙ z) .1 .1 .1 .1 .0)
+  -- the plan, from what discovery answers
+  pub plan-refused : (n : ℕ) → discovery f b ≡ Refused n → Planned.Refused n ≡ planned f b t r
+  unfolding updateNumber
+  plan-refused n e =
+      answer-no (Planned.Ready (planOf f b t r)) Planned.Refused n (updateNumber f b t r) (sym (ap (λ (a : Answer). numberAfter a f b t r) e))
+      (λ z. subst Nonzero e (discovery-number f b) z)
 
-  pub plan-refused : (n : ℕ) → n ≡ updateNumber f b t r → (n ≡ 0 → ⊥) → Planned.Refused n ≡ planned f b t r
-  plan-refused n e z = answer-no (Planned.Ready (planOf f b t r)) Planned.Refused n (updateNumber f b t r) e z
+  pub plan-found : (q : Finding) (o : Other) (step : Bool) → discovery f b ≡ Found q o → step ≡ inStep f b → planFound q o step t r ≡ planned f b t r
+  unfolding updateNumber
+  plan-found q o step e k =
+      ap (λ (s : Bool). planFound q o s t r) k
+      ∙ (elim (ℕ-discrete number 0) [
+        | yes z ↦ sym (answer-yes (planWith (q .fields) o t r) Planned.Refused number number refl z)
+            ∙ (ready z ∙ answer-yes (Planned.Ready (planOf f b t r)) Planned.Refused number (updateNumber f b t r) is z)
+        | no z ↦ sym (answer-no (planWith (q .fields) o t r) Planned.Refused number number refl z)
+            ∙ answer-no (Planned.Ready (planOf f b t r)) Planned.Refused number (updateNumber f b t r) is z
+      ])
+    where
+      number : ℕ
+      number = first (updateTests f b q t r)
 
-  pub plan-ready : (n : ℕ) → n ≡ updateNumber f b t r → n ≡ 0 → (x : BlockFields) (s : List ℕ) → s ≡ window f 512 512 → x ≡ fieldsOf s
-      → (q k : ℕ) → q ≡ Crc.checksum r → k ≡ sectorsOf (length r) → (y w : Part)
-      → y ≡ partOf Front (x .device) f (record { seconds = t .seconds; nanoseconds = t .nanoseconds; bytes = length r; checksum = q })
-      → w ≡ partOf Back (x .device) b (record { seconds = t .seconds; nanoseconds = t .nanoseconds; bytes = length r; checksum = q })
-      → Planned.Ready (record { sectors = k; front = y; back = w }) ≡ planned f b t r
-  plan-ready n e z x s es ex q k eq ek y w ey ew =
-      let d : x .device ≡ deviceIn f = ap (λ (g : BlockFields). g .device) (ex ∙ ap fieldsOf es) in
-      let h : _≡_ {A = Holding} (record { seconds = t .seconds; nanoseconds = t .nanoseconds; bytes = length r; checksum = q }) (holdingFor t r) =
-      λ i. record { seconds = t .seconds; nanoseconds = t .nanoseconds; bytes = length r; checksum = eq i } in
-      let fy : y ≡ partOf Front (deviceIn f) f (holdingFor t r) = ey ∙ ap₂ (λ (v : Device) (g : Holding). partOf Front v f g) d h in
-      let fw : w ≡ partOf Back (deviceIn f) b (holdingFor t r) = ew ∙ ap₂ (λ (v : Device) (g : Holding). partOf Back v b g) d h in
-      let p : _≡_ {A = Plan} (record { sectors = k; front = y; back = w }) (planOf f b t r) = λ i. record { sectors = ek i; front = fy i; back = fw i } in
-      ap Planned.Ready p ∙ answer-yes (Planned.Ready (planOf f b t r)) Planned.Refused n (updateNumber f b t r) e z
+      is : number ≡ updateNumber f b t r
+      is = sym (ap (λ (a : Answer). numberAfter a f b t r) e)
+
+      both : Side → List ℕ
+      both Front = f
+      both Back = b
+
+      -- not refused: the copies are in step, and discovery has named both
+      ready : number ≡ 0 → planWith (q .fields) o t r ≡ Planned.Ready (planOf f b t r)
+      ready z =
+          let s : Stepped both = in-step-facts both (first-holds (updateTests f b q t r) (tests-numbered (inStep f b) (q .fields .device) (timeAt q) t r) z .0) in
+          let p : Found (findingOf Front (fieldsOf (blockIn f)) (newest (fieldsOf (blockIn f))) (heldIn f)) (Both (fieldsOf (blockIn b))) ≡ Found q o =
+          sym (stepped-found both s) ∙ e in
+          ap₂ (λ (g : Finding) (h : Other). planWith (g .fields) h t r) (sym (found-same q o _ _ p)) (sym (found-other q o _ _ p))
+
+pub plan-made : (x y : BlockFields) (t : Time) (r : List ℕ) (q k : ℕ) → q ≡ Crc.checksum r → k ≡ sectorsOf (length r) → (p w : Part)
+    → p ≡ partFor Front (x .device) x (record { seconds = t .seconds; nanoseconds = t .nanoseconds; bytes = length r; checksum = q })
+    → w ≡ partFor Back (x .device) y (record { seconds = t .seconds; nanoseconds = t .nanoseconds; bytes = length r; checksum = q })
+    → _≡_ {A = Plan} (record { sectors = k; front = p; back = w }) (planFor x y t r)
+plan-made x y t r q k eq ek p w ep ew =
+    let h : _≡_ {A = Holding} (record { seconds = t .seconds; nanoseconds = t .nanoseconds; bytes = length r; checksum = q }) (holdingFor t r) =
+    λ i. record { seconds = t .seconds; nanoseconds = t .nanoseconds; bytes = length r; checksum = eq i } in
+    let fp : p ≡ partFor Front (x .device) x (holdingFor t r) = ep ∙ ap (partFor Front (x .device) x) h in
+    let fw : w ≡ partFor Back (x .device) y (holdingFor t r) = ew ∙ ap (partFor Back (x .device) y) h in
+    λ i. record { sectors = ek i; front = fp i; back = fw i }
+
+-- the plan of a found record, test by test
+module _ (q : Finding) (o : Other) (step : Bool) (t : Time) (r : List ℕ) (n : ℕ) (old : Time) (eo : old ≡ timeAt q)
+    (e : n ≡ first (testsAfter step (q .fields .device) old t r)) where
+  its-number : n ≡ first (testsAfter step (q .fields .device) (timeAt q) t r)
+  its-number = e ∙ ap (λ (z : Time). first (testsAfter step (q .fields .device) z t r)) eo
+
+  pub found-refused : (n ≡ 0 → ⊥) → Planned.Refused n ≡ planFound q o step t r
+  found-refused z = answer-no (planWith (q .fields) o t r) Planned.Refused n (first (testsAfter step (q .fields .device) (timeAt q) t r)) its-number z
+
+  module _ (z : n ≡ 0) where
+    taken : planWith (q .fields) o t r ≡ planFound q o step t r
+    taken = answer-yes (planWith (q .fields) o t r) Planned.Refused n (first (testsAfter step (q .fields .device) (timeAt q) t r)) its-number z
+
+    pub found-one : (m : ℕ) → o ≡ One m → Planned.Refused 16 ≡ planFound q o step t r
+    found-one m h = sym (ap (λ (z : Other). planWith (q .fields) z t r) h) ∙ taken
+
+    pub found-both : (y : BlockFields) → o ≡ Both y → (p : Plan) → p ≡ planFor (q .fields) y t r → Planned.Ready p ≡ planFound q o step t r
+    found-both y h p k = ap Planned.Ready k ∙ (sym (ap (λ (z : Other). planWith (q .fields) z t r) h) ∙ taken)
+
+    pub found-length : lengthAllowed (length r) ≡ true
+    found-length = first-holds (testsAfter step (q .fields .device) (timeAt q) t r) (tests-numbered step (q .fields .device) (timeAt q) t r) (sym its-number ∙ z) .1 .1 .1 .0

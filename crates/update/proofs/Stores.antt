@@ -20,6 +20,7 @@ use Rattle.update.specs.declared.Plan.{Plan}
 use Rattle.update.specs.Plan.{groupOf}
 use Rattle.update.proofs.Choosing.{in-front-area, in-front-block, in-back-area, in-back-block}
 use Rattle.stores.proofs.Padding.{length-sector}
+use Rattle.stores.proofs.Records.{length-record, at-record}
 use Rattle.stores.proofs.Places.{Sizes, near, area-near, block-near, block-apart, same-side}
 use Rattle.stores.proofs.OneSide as OneSide
 
@@ -48,6 +49,11 @@ module _ (f b : List ℕ) (t : Time) (r : List ℕ) where
   group-lengths : map length (updateGroups f b t r) ≡ sectorsOf (length r) ∷ 1 ∷ sectorsOf (length r) ∷ 1 ∷ []
   unfolding updateGroups
   group-lengths = rw (length-record, length-record)
+
+  -- and there are four
+  pub groups-four : length (updateGroups f b t r) ≡ 4
+  unfolding updateGroups
+  groups-four = refl
 
   pub group-starts : (g : ℕ) → groupStart (updateGroups f b t r) g ≡ starting (sectorsOf (length r)) g
   group-starts g = starts (updateGroups f b t r) g ∙ ap (λ (ns : List ℕ). total (take g ns)) group-lengths

@@ -1,75 +1,83 @@
--- Demand 3: what a cut in an update leaves. `proofs/Demand.antt` proves `Cutting`, `Landing` and `Giving`, and
--- `proofs/Changing.antt` `Changing`.
+-- What an update promises. `proofs/Allowing.antt` proves `Exactly` and `Ordered`, `proofs/Demand.antt` `Demand3` and `Giving`, `proofs/Changing.antt`
+-- `Changing`. That there is a start for every allowed device is `format`'s `Possible`.
 use Prim.Native.Nat.{ℕ, suc, _+_, _*_, _^_, _≤_, _<_}
 use mathlib.Core.Path.{_≡_}
-use mathlib.Core.Bool.{true}
+use mathlib.Core.Bool.{true, false}
 use mathlib.Core.List.{List}
-use lib.ListN.{length, take, getD}
+use lib.ListN.{length, getD}
 use Rattle.endian.specs.Bytes.{Bytes}
-use Rattle.refusal.specs.Numbers.{noStore}
+use Rattle.refusal.specs.Numbers.{notInStep, areaEntry, notLater, noStore}
 use Rattle.refusal.specs.Tests.{first}
 use Rattle.layout.specs.declared.Device.{Device}
 use Rattle.layout.specs.declared.Side.{Side}
 use Rattle.layout.specs.declared.Side.the-variants.{Front, Back}
 use Rattle.layout.specs.declared.Area.{Area}
 use Rattle.layout.specs.declared.Area.the-variants.{A, B}
+use Rattle.layout.specs.Limits.{mostNanoseconds}
+use Rattle.layout.specs.Places.{blockSector, copyBytes}
 use Rattle.block.specs.declared.Time.{Time}
-use Rattle.block.specs.declared.Holding.{Holding}
-use Rattle.block.specs.Entry.{timeOf}
-use Rattle.block.specs.Block.{fieldsOf, readTests}
-use Rattle.block.specs.Writing.{holdingOf}
+use Rattle.block.specs.Entry.{laterThan}
+use Rattle.block.specs.Accepted.{Accepted}
+use Rattle.record.specs.Accept.{contentTests}
+use Rattle.record.specs.Demand.{RightBytes}
+use Rattle.copy.specs.Copy.{deviceIn, blockIn}
 use Rattle.discovery.specs.declared.Finding.{Finding}
 use Rattle.discovery.specs.declared.Other.{Other}
-use Rattle.discovery.specs.declared.Answer.the-variants.{Found}
-use Rattle.copy.specs.Copy.{blockIn, areaBytes, entryIn, newest, deviceIn}
-use Rattle.discovery.specs.Discovery.{discovery, inStep, copyOn, recordBytes, readAnswer, readBytes}
-use Rattle.crash.specs.Crash.{Sectors, Sound, Groups, stores, storeIn, groupStart, CutIn, allLanded, copyFrom}
-use Rattle.update.specs.declared.Plan.{Plan}
-use Rattle.update.specs.declared.Planned.the-variants.{Ready}
+use Rattle.discovery.specs.declared.Answer.the-variants as Answer
+use Rattle.discovery.specs.Discovery.{discovery, inStep, copyOn}
+use Rattle.discovery.specs.Newest.{timeAt}
+use Rattle.crash.specs.Crash.{Sectors, Groups, stores, storeIn, groupStart, CutIn, copyFrom}
 use Rattle.stores.specs.declared.Given.the-variants.{At, Refused}
-use Rattle.update.specs.Plan.{planOf, planned, storesIn, groupOf, storeAnswer, storeBytes}
-use Rattle.update.specs.Update.{updateNumber, spare, newBlock, updateGroups}
 use Rattle.stores.specs.Stores.{sectorsOf}
+use Rattle.stores.specs.States.{Presents, Gives, Ready, Answered, Excused, AllFit}
+use Rattle.update.specs.declared.Plan.{Plan}
+use Rattle.update.specs.declared.Planned.the-variants.{Ready as ReadyPlan}
+use Rattle.update.specs.Update.{updateNumber, spare, newBlock, updateGroups}
+use Rattle.update.specs.Plan.{planOf, planned, storesIn, groupOf, storeAnswer, storeBytes}
 
--- Document 01's 'discovery gives a record': it answers that length and time, the area it names starts with those bytes, and
--- reading what it found into a buffer with room copies them to the buffer's start.
-pub record Gives (f b : List ℕ) (t : Time) (r : List ℕ) : Type 0 where
+-- An update that document 01 does not refuse, in plain words: two copies, which discovery answers and which are in step; a time within
+-- its limit, later than the present record's; and a record that is right on the device that the copies are of.
+pub record Allowed (f b : List ℕ) (t : Time) (r : List ℕ) : Type 0 where
+  pub front-copy : length f ≡ copyBytes
+  pub back-copy : length b ≡ copyBytes
   pub found : Finding
   pub other : Other
-  pub answers : discovery f b ≡ Found found other
-  pub long : found .bytes ≡ length r
-  pub seconds : found .seconds ≡ t .seconds
-  pub nanoseconds : found .nanoseconds ≡ t .nanoseconds
-  pub starts : recordBytes found f b ≡ r
-  pub reads : (out : List ℕ) → length r ≤ length out → readAnswer (discovery f b) (length out) ≡ Found found other
-  pub copies : (out : List ℕ) → length r ≤ length out → take (length r) (readBytes (discovery f b) f b out) ≡ r
+  pub answers : discovery f b ≡ Answer.Found found other
+  pub in-step : inStep f b ≡ true
+  pub nanoseconds : t .nanoseconds ≤ mostNanoseconds
+  pub old : Time
+  pub old-record : List ℕ
+  pub presents : (s : Side) → Presents (copyOn s f b) old old-record
+  pub later : laterThan t old ≡ true
+  pub right : RightBytes (deviceIn f) r
 
--- what the newest entry of a copy's block says, and the record of its area: the present one of copies in step
-abbrev pub heldIn : List ℕ → Holding
-heldIn c = holdingOf (entryIn (fieldsOf (blockIn c)) (newest (fieldsOf (blockIn c))))
+-- An update's number is 0 exactly then. A device's size below 2^64 and elements below 256 are what the machine's types have.
+abbrev pub Exactly : Type 0
+Exactly =
+    (f b : List ℕ) (t : Time) (r : List ℕ) → Bytes r
+    → (updateNumber f b t r ≡ 0 → Allowed f b t r) × (Allowed f b t r → updateNumber f b t r ≡ 0)
 
-abbrev pub recordIn : List ℕ → List ℕ
-recordIn c = areaBytes c (newest (fieldsOf (blockIn c))) (heldIn c .bytes)
+-- Otherwise it is the first that applies in document 01's order: discovery's, then 16, then 9 for the nanoseconds of its time, then 14,
+-- then the record's own.
+pub record InOrder (f b : List ℕ) (t : Time) (r : List ℕ) : Type 0 where
+  pub refused : (n : ℕ) → discovery f b ≡ Answer.Refused n → updateNumber f b t r ≡ n
+  pub apart : (q : Finding) (o : Other) → discovery f b ≡ Answer.Found q o → inStep f b ≡ false → updateNumber f b t r ≡ notInStep
+  pub limit : inStep f b ≡ true → mostNanoseconds < t .nanoseconds → updateNumber f b t r ≡ areaEntry
+  pub earlier : inStep f b ≡ true → t .nanoseconds ≤ mostNanoseconds → (old : Time) (q : List ℕ) → Presents f old q → laterThan t old ≡ false
+      → updateNumber f b t r ≡ notLater
+  pub content : inStep f b ≡ true → t .nanoseconds ≤ mostNanoseconds → (old : Time) (q : List ℕ) → Presents f old q → laterThan t old ≡ true
+      → updateNumber f b t r ≡ first (contentTests (deviceIn f) r)
 
--- Document 01's 'in step on a record': in step, and it is the present record of both.
-abbrev pub InStepOn : List ℕ → List ℕ → Time → List ℕ → Type 0
-InStepOn f b t r = (inStep f b ≡ true) × ((s : Side) → (recordIn (copyOn s f b) ≡ r) × (timeOf (heldIn (copyOn s f b)) ≡ t))
+abbrev pub Ordered : Type 0
+Ordered = (f b : List ℕ) (t : Time) (r : List ℕ) → InOrder f b t r
 
--- any two copies in step, read from the device where their own S and L place them, and any update that is not refused
-pub record Start (v : Device) (d : Sectors) (t : Time) (r : List ℕ) : Type 0 where
-  pub sound : Sound d
-  pub placed : deviceIn (copyFrom Front v d) ≡ v
-  pub in-step : inStep (copyFrom Front v d) (copyFrom Back v d) ≡ true
+-- the start of an update: any two copies in step on a record q with its time u, and any update that is not refused
+pub record Start (v : Device) (d : Sectors) (u : Time) (q : List ℕ) (t : Time) (r : List ℕ) : Type 0 where
+  pub ready : Ready v d u q
   pub fits : t .seconds < 2 ^ 64
-  pub not-refused : updateNumber (copyFrom Front v d) (copyFrom Back v d) t r ≡ 0
-
--- a signature block equals neither of its versions, document 01's word for its old and its new bytes, and is still accepted
-abbrev pub Excused : Device → Sectors → Sectors → Time → List ℕ → Type 0
-Excused v d e t r =
-    (s : Side)
-    × (blockIn (copyFrom s v e) ≡ blockIn (copyFrom s v d) → ⊥)
-    × (blockIn (copyFrom s v e) ≡ newBlock (copyFrom s v d) t r → ⊥)
-    × (first (readTests (blockIn (copyFrom s v e))) ≡ 0)
+  pub nanoseconds : t .nanoseconds ≤ mostNanoseconds
+  pub later : laterThan t u ≡ true
+  pub right : RightBytes v r
 
 -- the groups of the update, and its plan
 abbrev pub groupsOn : Device → Sectors → Time → List ℕ → Groups
@@ -78,45 +86,47 @@ groupsOn v d t r = updateGroups (copyFrom Front v d) (copyFrom Back v d) t r
 abbrev pub planOn : Device → Sectors → Time → List ℕ → Plan
 planOn v d t r = planOf (copyFrom Front v d) (copyFrom Back v d) t r
 
--- Whatever a cut in one of the four groups leaves, discovery gives the new record exactly when the front signature block
--- stands in its new version, and otherwise the old record.
-abbrev pub Cutting : Type 0
-Cutting =
-    (v : Device) (d e : Sectors) (t : Time) (r : List ℕ) (g : ℕ) → Start v d t r → g < 4
-    → CutIn (groupsOn v d t r) g d e
-    → (Excused v d e t r → ⊥)
-    → (blockIn (copyFrom Front v e) ≡ newBlock (copyFrom Front v d) t r → Gives (copyFrom Front v e) (copyFrom Back v e) t r)
-    × ((blockIn (copyFrom Front v e) ≡ newBlock (copyFrom Front v d) t r → ⊥)
-    → Gives (copyFrom Front v e) (copyFrom Back v e) (timeOf (heldIn (copyFrom Front v d))) (recordIn (copyFrom Front v d)))
+-- the front signature block stands in its new version
+abbrev pub FrontNew : Device → Sectors → Sectors → Time → List ℕ → Type 0
+FrontNew v d e t r = e (blockSector Front v) ≡ newBlock (copyFrom Front v d) t r
 
--- the device after all stores
-abbrev pub after : Device → Sectors → Time → List ℕ → Sectors
-after v d t r = allLanded (groupsOn v d t r) d
+-- What a cut in group g leaves: discovery gives the new record with its time exactly when the front signature block stands in its new
+-- version, and otherwise the old one; after the last group the two copies are in step on the new one. `Answered` is what a mend asks for,
+-- `Ready` what the next update does.
+pub record Outcome (v : Device) (d e : Sectors) (u : Time) (q : List ℕ) (t : Time) (r : List ℕ) (g : ℕ) : Type 0 where
+  pub new : FrontNew v d e t r → Answered v e t r
+  pub only-new : Gives (copyFrom Front v e) (copyFrom Back v e) t r → FrontNew v d e t r
+  pub old : (FrontNew v d e t r → ⊥) → Answered v e u q
+  pub landed : 4 ≤ g → FrontNew v d e t r × Ready v e t r
 
--- All stores landed: discovery gives the new record with its time, and the two copies are in step on it.
-abbrev pub Landing : Type 0
-Landing =
-    (v : Device) (d : Sectors) (t : Time) (r : List ℕ) → Start v d t r
-    → Gives (copyFrom Front v (after v d t r)) (copyFrom Back v (after v d t r)) t r
-    × InStepOn (copyFrom Front v (after v d t r)) (copyFrom Back v (after v d t r)) t r
+-- Demand 3: of every start, update and cut, in any of the four groups, 0 to 3, or after the last, unless a signature block equals
+-- neither of its versions and is still accepted. The update's stores go only where they belong, and their groups are four.
+abbrev pub Demand3 : Type 0
+Demand3 =
+    (v : Device) (d : Sectors) (u : Time) (q : List ℕ) (t : Time) (r : List ℕ) → Start v d u q t r
+    → AllFit v (groupsOn v d t r)
+    × ((length (groupsOn v d t r) ≡ 4)
+    × ((e : Sectors) (g : ℕ) → CutIn (groupsOn v d t r) g d e → (Excused v (groupsOn v d t r) g d e → ⊥) → Outcome v d e u q t r g))
 
--- The stores of the plan that `work_out` gives are those that a cut and a landing speak of: the plan is not refused, it has
--- as many stores, 2k + 2, each is in its group, and each is given with its sector and its 512 bytes; past the last there is
+-- The stores of the plan that `work_out` gives are those that demand 3 speaks of: the update's number is 0 and the plan is not refused, it
+-- has as many stores, 2k + 2, each is in its group, and each is given with its sector and its 512 bytes; past the last there is
 -- none, and no group.
+pub record PlanGives (v : Device) (d : Sectors) (t : Time) (r : List ℕ) : Type 0 where
+  pub number : updateNumber (copyFrom Front v d) (copyFrom Back v d) t r ≡ 0
+  pub plan : planned (copyFrom Front v d) (copyFrom Back v d) t r ≡ ReadyPlan (planOn v d t r)
+  pub count : storesIn (planOn v d t r) ≡ length (stores (groupsOn v d t r))
+  pub two-k-two : storesIn (planOn v d t r) ≡ 2 * sectorsOf (length r) + 2
+  pub grouped : (g i : ℕ) → g < 4 → groupStart (groupsOn v d t r) g ≤ i → i < groupStart (groupsOn v d t r) (suc g) → groupOf (planOn v d t r) i ≡ g
+  pub no-group : (i : ℕ) → length (stores (groupsOn v d t r)) ≤ i → groupOf (planOn v d t r) i ≡ 4
+  pub store : (i : ℕ) (out : List ℕ) → i < length (stores (groupsOn v d t r)) → length out ≡ 512
+      → (storeAnswer (planOn v d t r) (copyFrom Front v d) (copyFrom Back v d) r i out ≡ At (storeIn (groupsOn v d t r) i .sector))
+      × (storeBytes (planOn v d t r) (copyFrom Front v d) (copyFrom Back v d) r i out ≡ storeIn (groupsOn v d t r) i .content)
+  pub no-store : (i : ℕ) (out : List ℕ) → length (stores (groupsOn v d t r)) ≤ i → length out ≡ 512
+      → (storeAnswer (planOn v d t r) (copyFrom Front v d) (copyFrom Back v d) r i out ≡ Refused noStore)
+      × (storeBytes (planOn v d t r) (copyFrom Front v d) (copyFrom Back v d) r i out ≡ out)
+
 abbrev pub Giving : Type 0
-Giving =
-    (v : Device) (d : Sectors) (t : Time) (r : List ℕ) → Start v d t r
-    → (planned (copyFrom Front v d) (copyFrom Back v d) t r ≡ Ready (planOn v d t r))
-    × ((storesIn (planOn v d t r) ≡ length (stores (groupsOn v d t r)))
-    × ((storesIn (planOn v d t r) ≡ 2 * sectorsOf (length r) + 2)
-    × (((g i : ℕ) → g < 4 → groupStart (groupsOn v d t r) g ≤ i → i < groupStart (groupsOn v d t r) (suc g) → groupOf (planOn v d t r) i ≡ g)
-    × (((i : ℕ) → length (stores (groupsOn v d t r)) ≤ i → groupOf (planOn v d t r) i ≡ 4)
-    × (((i : ℕ) (out : List ℕ) → i < length (stores (groupsOn v d t r)) → length out ≡ 512
-    → (storeAnswer (planOn v d t r) (copyFrom Front v d) (copyFrom Back v d) r i out ≡ At (storeIn (groupsOn v d t r) i .sector))
-    × (storeBytes (planOn v d t r) (copyFrom Front v d) (copyFrom Back v d) r i out ≡ storeIn (groupsOn v d t r) i .content))
-    × ((i : ℕ) (out : List ℕ) → length (stores (groupsOn v d t r)) ≤ i → length out ≡ 512
-    → (storeAnswer (planOn v d t r) (copyFrom Front v d) (copyFrom Back v d) r i out ≡ Refused noStore)
-    × (storeBytes (planOn v d t r) (copyFrom Front v d) (copyFrom Back v d) r i out ≡ out)))))))
+Giving = (v : Device) (d : Sectors) (u : Time) (q : List ℕ) (t : Time) (r : List ℕ) → Start v d u q t r → PlanGives v d t r
 
 -- where an area's entry lies in the block, 20 bytes
 abbrev pub entryPlace : Area → ℕ
@@ -126,6 +136,6 @@ entryPlace B = 128
 -- The block changes only that area's entry and the CRC: each byte outside them is as it was.
 abbrev pub Changing : Type 0
 Changing =
-    (c : List ℕ) (t : Time) (r : List ℕ) (i : ℕ) → Bytes (blockIn c) → first (readTests (blockIn c)) ≡ 0
+    (c : List ℕ) (t : Time) (r : List ℕ) (i : ℕ) → Bytes (blockIn c) → Accepted (blockIn c)
     → 4 ≤ i → (entryPlace (spare c) ≤ i → i < entryPlace (spare c) + 20 → ⊥)
     → getD (newBlock c t r) i 0 ≡ getD (blockIn c) i 0

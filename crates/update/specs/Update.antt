@@ -24,26 +24,28 @@ use Rattle.block.specs.Entry.{laterThan}
 use Rattle.block.specs.Block.{deviceOf, poolOf, blockdevOf, fieldsOf}
 use Rattle.block.specs.Writing.{blockOf}
 use Rattle.record.specs.Accept.{contentTests}
+use Rattle.discovery.specs.declared.Finding.{Finding}
 use Rattle.discovery.specs.declared.Answer.{Answer}
 use Rattle.discovery.specs.declared.Answer.the-variants as Answer
-use Rattle.copy.specs.Copy.{blockIn, otherArea, newest}
+use Rattle.copy.specs.Copy.{deviceIn, blockIn, otherArea, newest}
 use Rattle.discovery.specs.Discovery.{discovery, inStep}
 use Rattle.discovery.specs.Newest.{timeAt}
-use Rattle.crash.specs.Crash.{Store, Groups, storesFrom}
+use Rattle.crash.specs.Crash.{Groups}
+use Rattle.stores.specs.Stores.{holdingFor, withEntry, recordStores, blockStore}
 
--- the tests after discovery has found a record of time old, where `step` says whether the copies are in step: 16, then 9 for the
--- nanoseconds of its time, then 14, then those of the record
-abbrev pub testsAfter : Bool → List ℕ → Time → Time → List ℕ → List Test
-testsAfter step f old t r =
-    (step elseRefuse notInStep) ∷ (nanosecondsAllowed (t .nanoseconds) elseRefuse areaEntry) ∷ (laterThan t old elseRefuse notLater) ∷ contentTests (deviceIn f) r
+-- the tests after discovery has found a record of time old on the device v, where `step` says whether the copies are in step: 16, then 9
+-- for the nanoseconds of its time, then 14, then those of the record
+abbrev pub testsAfter : Bool → Device → Time → Time → List ℕ → List Test
+testsAfter step v old t r =
+    (step elseRefuse notInStep) ∷ (nanosecondsAllowed (t .nanoseconds) elseRefuse areaEntry) ∷ (laterThan t old elseRefuse notLater) ∷ contentTests v r
 
-abbrev pub updateTests : List ℕ → List ℕ → Time → Time → List ℕ → List Test
-updateTests f b old t r = testsAfter (inStep f b) f old t r
+abbrev pub updateTests : List ℕ → List ℕ → Finding → Time → List ℕ → List Test
+updateTests f b q t r = testsAfter (inStep f b) (q .fields .device) (timeAt q) t r
 
 -- discovery's number, or the first of those tests that fails
 abbrev pub numberAfter : Answer → List ℕ → List ℕ → Time → List ℕ → ℕ
 numberAfter (Answer.Refused n) f b t r = n
-numberAfter (Answer.Found q o) f b t r = first (updateTests f b (timeAt q) t r)
+numberAfter (Answer.Found q o) f b t r = first (updateTests f b q t r)
 
 -- the refusal number of an update of the copies f and b with a time and a record; 0 where it is not refused
 unfoldable pub updateNumber : List ℕ → List ℕ → Time → List ℕ → ℕ

@@ -1,20 +1,23 @@
 // An update: its refusal number, and what it stores. The copies are lent as discovery takes them.
 ghost use mathlib.Core.Path.{_≡_};
+ghost use mathlib.Core.Bool.{true};
 ghost use lib.ListN.{length};
-ghost use Rattle.endian.specs.Bytes.{zeros, splice};
 ghost use Rattle.refusal.specs.Tests.{first};
+ghost use Rattle.layout.specs.Limits.{lengthAllowed};
+ghost use Rattle.discovery.specs.Newest.{timeAt};
 ghost use Rattle.update.specs.Update.{testsAfter, updateNumber};
-ghost use Rattle.stores.specs.Stores.{sectorsOf, withEntry};
-ghost use Rattle.update.specs.Plan.{partOf, planned, storesIn, groupOf, storeAnswer, storeBytes};
-ghost use Rattle.stores.specs.Given.{sectorIn, blockAnswer, blockBytes, partAnswer, partBytes, layTests, laid};
+ghost use Rattle.update.specs.Plan.{partFor, planFor, planFound, planned, storesIn, groupOf, storeAnswer, storeBytes};
 use block::BlockFields;
 use block::Entry;
 use block::Holding;
 use block::Time;
 use discovery::Answer;
-use layout::Area;
+use discovery::Finding;
+use discovery::Other;
 use layout::Device;
 use layout::Side;
+use stores::Given;
+use stores::Part;
 
 // An update worked out once: the sectors that the record fills, and the two sides.
 pub struct Plan {
@@ -29,9 +32,9 @@ pub enum Planned {
     Refused(u8),
 }
 
-// The tests after discovery has found a record of time `old`, where `step` says whether the copies are in step.
-fn check_after(f: &[u8], step: bool, old: Time, t: Time, r: &[u8]) -> u8
-    ensures { λ n. ⌜ n ≡ first (testsAfter step (now (f .entry)) old t (now (r .entry))) ⌝ }
+// The tests after discovery has found a record of time `old` on the device d, where `step` says whether the copies are in step.
+fn check_after(d: Device, step: bool, old: Time, t: Time, r: &[u8]) -> u8
+    ensures { λ n. ⌜ n ≡ first (testsAfter step d old t (now (r .entry))) ⌝ }
 {
     if !step {
         return refusal::NOT_IN_STEP;
@@ -43,8 +46,17 @@ fn check_after(f: &[u8], step: bool, old: Time, t: Time, r: &[u8]) -> u8
     if !block::later(t, old) {
         return refusal::NOT_LATER;
     }
-    let x = block::fields(endian::window(f, 512, 512));
-    record::check_content(x.device, r)
+    record::check_content(d, r)
+}
+
+// The time of a found record.
+fn time_at(q: Finding) -> Time
+    ensures { λ t. ⌜ t ≡ timeAt q ⌝ }
+{
+    Time {
+        seconds: q.seconds,
+        nanoseconds: q.nanoseconds,
+    }
 }
 
 // The refusal number of an update of a front and a back copy with a time and a record: discovery's, or 16, 9, 14, 15, 17, 18
@@ -52,27 +64,23 @@ fn check_after(f: &[u8], step: bool, old: Time, t: Time, r: &[u8]) -> u8
 pub fn check(f: &[u8], b: &[u8], t: Time, r: &[u8]) -> u8
     ensures { λ n. ⌜ n ≡ updateNumber (now (f .entry)) (now (b .entry)) t (now (r .entry)) ⌝ }
 {
-    let v = discovery::survey(f, b);
+    let v = discovery::examine(f, b);
     let a = v.answer;
     match a {
         Answer::Refused(n) => n,
         Answer::Found(q, _) => {
-            let old = Time {
-                seconds: q.seconds,
-                nanoseconds: q.nanoseconds,
-            };
-            check_after(f, v.step, old, t, r)
+            let x = q.fields;
+            check_after(x.device, v.step, time_at(q), t, r)
         }
     }
 }
 
-// One side of an update of a copy, with what the new entry says.
-fn side_part(w: Side, d: Device, c: &[u8], h: Holding) -> Part
-    ensures { λ p. ⌜ p ≡ partOf w d (now (c .entry)) h ⌝ }
+// One side of an update of a copy whose block has the fields x, with what the new entry says.
+fn side_part(w: Side, d: Device, x: BlockFields, h: Holding) -> Part
+    ensures { λ p. ⌜ p ≡ partFor w d x h ⌝ }
 {
-    let x = block::fields(endian::window(c, 512, 512));
-    let y = discovery::other_area(discovery::newest(x));
-    let fields = with_entry(x, y, Entry::Used(h));
+    let y = copy::other_area(copy::newest(x));
+    let fields = stores::with_entry(x, y, Entry::Used(h));
     let area = layout::area_sector(w, y, d);
     let block = layout::block_sector(w, d);
     Part {
@@ -82,14 +90,11 @@ fn side_part(w: Side, d: Device, c: &[u8], h: Holding) -> Part
     }
 }
 
-// Works an update out: the plan of its stores, or its refusal number.
-pub fn work_out(f: &[u8], b: &[u8], t: Time, r: &[u8]) -> Planned
-    ensures { λ p. ⌜ p ≡ planned (now (f .entry)) (now (b .entry)) t (now (r .entry)) ⌝ }
+// The plan of an update of two copies whose blocks have these fields.
+fn plan_for(x: BlockFields, y: BlockFields, t: Time, r: &[u8]) -> Plan
+    requires { ⌜ lengthAllowed (length (now r)) ≡ true ⌝ }
+    ensures { λ p. ⌜ p ≡ planFor x y t (now (r .entry)) ⌝ }
 {
-    let n = check(f, b, t, r);
-    if n != 0 {
-        return Planned::Refused(n);
-    }
     let bytes = r.len() as u32;
     let h = Holding {
         seconds: t.seconds,
@@ -97,15 +102,42 @@ pub fn work_out(f: &[u8], b: &[u8], t: Time, r: &[u8]) -> Planned
         bytes: bytes,
         checksum: checksum::checksum(r),
     };
-    let x = block::fields(endian::window(f, 512, 512));
-    let k = sectors(bytes);
-    let front = side_part(Side::Front, x.device, f, h);
-    let back = side_part(Side::Back, x.device, b, h);
-    Planned::Ready(Plan {
+    let k = stores::sectors(bytes);
+    let front = side_part(Side::Front, x.device, x, h);
+    let back = side_part(Side::Back, x.device, y, h);
+    Plan {
         sectors: k,
         front: front,
         back: back,
-    })
+    }
+}
+
+// The plan of an update where discovery answers with a record and the other copy, or its refusal number.
+fn plan_found(q: Finding, o: Other, step: bool, t: Time, r: &[u8]) -> Planned
+    ensures { λ p. ⌜ p ≡ planFound q o step t (now (r .entry)) ⌝ }
+{
+    let x = q.fields;
+    let n = check_after(x.device, step, time_at(q), t, r);
+    if n != 0 {
+        return Planned::Refused(n);
+    }
+    let Other::Both(y) = o else {
+        return Planned::Refused(refusal::NOT_IN_STEP);
+    };
+    let p = plan_for(x, y, t, r);
+    Planned::Ready(p)
+}
+
+// Works an update out: the plan of its stores, or its refusal number.
+pub fn work_out(f: &[u8], b: &[u8], t: Time, r: &[u8]) -> Planned
+    ensures { λ p. ⌜ p ≡ planned (now (f .entry)) (now (b .entry)) t (now (r .entry)) ⌝ }
+{
+    let v = discovery::examine(f, b);
+    let a = v.answer;
+    match a {
+        Answer::Refused(n) => Planned::Refused(n),
+        Answer::Found(q, o) => plan_found(q, o, v.step, t, r),
+    }
 }
 
 // How many stores a plan has.
@@ -144,7 +176,7 @@ pub fn store(p: Plan, f: &[u8], b: &[u8], r: &[u8], i: u64, out: &mut [u8]) -> G
     ensures { λ _. ⌜ now (out .exit) ≡ storeBytes p (now (f .entry)) (now (b .entry)) (now (r .entry)) i (now (out .entry)) ⌝ }
 {
     let n = layout::copy_bytes();
-    let sized = ((f.len() == n) & (b.len() == n)) & (out.len() == 512);
+    let sized = ((f.len() == n) & (b.len() == n)) & (out.len() == layout::SECTOR_BYTES);
     if !sized {
         return Given::Refused(refusal::SLICE_SIZE);
     }
@@ -156,7 +188,7 @@ pub fn store(p: Plan, f: &[u8], b: &[u8], r: &[u8], i: u64, out: &mut [u8]) -> G
     }
     let k = p.sectors;
     if i <= k as u64 {
-        return put_part(p.front, k, f, r, i, out);
+        return stores::put_part(p.front, k, f, r, i, out);
     }
-    put_part(p.back, k, b, r, i - (k as u64 + 1), out)
+    stores::put_part(p.back, k, b, r, i - (k as u64 + 1), out)
 }

@@ -4,12 +4,6 @@ use borrow.Author.Needs.{needs}
 use Rattle.update.proofs.side_part.Statement.{statement}
 use Rattle.update.proofs.side_part.Tie as tie
 
-window-requires : tie.Need-window-requires
-window-requires c κs = search needs
-
-fields-requires : tie.Need-fields-requires
-fields-requires c κs = search needs
-
 newest-requires : tie.Need-newest-requires
 newest-requires c κs = search needs
 
@@ -26,16 +20,13 @@ block-sector-requires : tie.Need-block-sector-requires
 block-sector-requires c κs = search needs
 
 returns : tie.Need-returns
-returns c =
-    part-made (c .before .before .before .before .before .before .before .before .args .w) (c .before .before .before .before .before .before .before .before .args .d) (c .before .before .before .before .before .before .before .before .args .c .now) (c .before .before .before .before .before .before .before .before .args .h) _ _ _ _ _ _ _ (c .before .before .before .before .before .before .window .ensures) (c .before .before .before .before .before .fields .ensures) (c .before .before .before .before .newest .ensures) (c .before .before .before .other-area .ensures)
-    (c .before .before .with-entry .ensures) (c .before .area-sector .ensures) (c .block-sector .ensures)
+returns c = 
+    part-made (c .before .before .before .before .before .args .w) (c .before .before .before .before .before .args .d) (c .before .before .before .before .before .args .x) (c .before .before .before .before .before .args .h) _ _ _ _ _ (c .before .before .before .before .newest .ensures) (c .before .before .before .other-area .ensures) (c .before .before .with-entry .ensures) (c .before .area-sector .ensures) (c .block-sector .ensures)
 
 pub side-part-spec : {M : Type 1} → statement M
 side-part-spec =
     tie.close
     (tie.spec
-    window-requires
-    fields-requires
     newest-requires
     other-area-requires
     with-entry-requires
