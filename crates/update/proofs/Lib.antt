@@ -3,6 +3,7 @@ pub mod NewBlock
 pub mod NewHeld
 pub mod Stores
 pub mod Demand
+pub mod Allowing
 pub mod Number
 pub mod Choosing
 pub mod Planning
