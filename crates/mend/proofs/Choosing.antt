@@ -15,7 +15,7 @@ use Rattle.copy.specs.Copy.{areaBytes}
 use Rattle.discovery.specs.Discovery.{copyOn}
 use Rattle.stores.specs.declared.Given.{Given}
 use Rattle.stores.specs.declared.Given.the-variants as Given
-use Rattle.stores.specs.Given.{lentRight, blockAnswer, blockBytes, partAnswer, partBytes}
+use Rattle.stores.specs.Given.{lentRight, blockGiven, blockLeft, partGiven, partLeft}
 use Rattle.mend.specs.declared.Last.{Last}
 use Rattle.mend.specs.declared.Last.the-variants as Last
 use Rattle.mend.specs.declared.Rewrite.{Rewrite}
@@ -28,7 +28,7 @@ module _ (x : Last) (c out : List ℕ) where
   pub absent-put : x ≡ Last.Absent → (Given.Refused 23 ≡ lastAnswer x c out) × (out ≡ lastBytes x c out)
   absent-put e = (ap (λ (z : Last). lastAnswer z c out) (sym e), ap (λ (z : Last). lastBytes z c out) (sym e))
 
-  pub blank-put : (s : ℕ) (h : BlockFields) → x ≡ Last.Blank s h → (g : Given) (w : List ℕ) → g ≡ blockAnswer s h c out → w ≡ blockBytes h c out
+  pub blank-put : (s : ℕ) (h : BlockFields) → x ≡ Last.Blank s h → (g : Given) (w : List ℕ) → g ≡ blockGiven s h c out → w ≡ blockLeft h c out
       → (g ≡ lastAnswer x c out) × (w ≡ lastBytes x c out)
   blank-put s h e g w eg ew = (eg ∙ ap (λ (z : Last). lastAnswer z c out) (sym e), ew ∙ ap (λ (z : Last). lastBytes z c out) (sym e))
 
@@ -72,29 +72,30 @@ module _ (p : Rewrite) (c : List ℕ) (i : ℕ) (out : List ℕ) (g : Given) (w 
   -- the answer and the bytes, by what the tests say
   abbrev answerBy : Bool → Bool → Bool → Given
   answerBy x y z =
-      cond x (blockAnswer (p .part .block) (p .empty) c out)
-      (cond y (partAnswer (p .part) (p .sectors) c (i - 1) out) (cond z (lastAnswer (p .last) c out) (Given.Refused noStore)))
+      cond x (blockGiven (p .part .block) (p .empty) c out)
+      (cond y (partGiven (p .part) (p .sectors) c (areaBytes c (p .area) (p .bytes)) (i - 1) out) (cond z (lastAnswer (p .last) c out) (Given.Refused noStore)))
 
   abbrev bytesBy : Bool → Bool → Bool → List ℕ
   bytesBy x y z =
-      cond x (blockBytes (p .empty) c out)
-      (cond y (partBytes (p .part) (p .sectors) c (areaBytes c (p .area) (p .bytes)) (i - 1) out) (cond z (lastBytes (p .last) c out) out))
+      cond x (blockLeft (p .empty) c out)
+      (cond y (partLeft (p .part) (p .sectors) c (areaBytes c (p .area) (p .bytes)) (i - 1) out) (cond z (lastBytes (p .last) c out) out))
 
   tested : (x y z : Bool) → eqb i 0 ≡ x → leb i (p .sectors + 1) ≡ y → leb i (p .sectors + 2) ≡ z → g ≡ answerBy x y z → w ≡ bytesBy x y z
       → (g ≡ rewriteAnswer p c i out) × (w ≡ rewriteBytes p c i out)
   tested x y z ex ey ez eg ew = (eg ∙ (λ n. answerBy (sym ex n) (sym ey n) (sym ez n)), ew ∙ (λ n. bytesBy (sym ex n) (sym ey n) (sym ez n)))
 
-  pub first-store : i ≡ 0 → g ≡ blockAnswer (p .part .block) (p .empty) c out → w ≡ blockBytes (p .empty) c out
+  pub first-store : i ≡ 0 → g ≡ blockGiven (p .part .block) (p .empty) c out → w ≡ blockLeft (p .empty) c out
       → (g ≡ rewriteAnswer p c i out) × (w ≡ rewriteBytes p c i out)
   first-store e x y = tested true (leb i (p .sectors + 1)) (leb i (p .sectors + 2)) (eq-eqb i 0 e) refl refl x y
 
   module _ (z : i ≡ 0 → ⊥) where
     pub part-store : i ≤ p .sectors + 1 → (at : ℕ) (r : List ℕ) → at ≡ areaOffset (p .area) → r ≡ window c at (p .bytes)
-        → g ≡ partAnswer (p .part) (p .sectors) c (i - 1) out → w ≡ partBytes (p .part) (p .sectors) c r (i - 1) out
+        → g ≡ partGiven (p .part) (p .sectors) c r (i - 1) out → w ≡ partLeft (p .part) (p .sectors) c r (i - 1) out
         → (g ≡ rewriteAnswer p c i out) × (w ≡ rewriteBytes p c i out)
     part-store h at r ea er x y =
-        tested false true (leb i (p .sectors + 2)) (ne-eqb i 0 z) (le-leb i (p .sectors + 1) h) refl x
-        (y ∙ ap (λ (s : List ℕ). partBytes (p .part) (p .sectors) c s (i - 1) out) (er ∙ ap (λ (n : ℕ). window c n (p .bytes)) ea))
+        tested false true (leb i (p .sectors + 2)) (ne-eqb i 0 z) (le-leb i (p .sectors + 1) h) refl
+        (x ∙ ap (λ (s : List ℕ). partGiven (p .part) (p .sectors) c s (i - 1) out) (er ∙ ap (λ (n : ℕ). window c n (p .bytes)) ea))
+        (y ∙ ap (λ (s : List ℕ). partLeft (p .part) (p .sectors) c s (i - 1) out) (er ∙ ap (λ (n : ℕ). window c n (p .bytes)) ea))
 
     module _ (a : p .sectors + 1 < i) where
       pub last-stored : i ≤ p .sectors + 2 → g ≡ lastAnswer (p .last) c out → w ≡ lastBytes (p .last) c out

@@ -1,5 +1,5 @@
 -- What mending promises of the device, proved.
-use Prim.Native.Nat.{ℕ, _+_, _<_}
+use Prim.Native.Nat.{ℕ, _+_, _≤_, _<_}
 use mathlib.Core.Path.{_≡_, refl, sym, ap, subst, _∙_}
 use mathlib.Core.Bool.{Bool, true, false, cond}
 use mathlib.Core.Logic.{_⊎_, inl, inr}
@@ -15,30 +15,30 @@ use Rattle.layout.specs.declared.Area.the-variants.{A}
 use Rattle.layout.specs.Places.{blockSector, areaSector}
 use Rattle.block.specs.declared.Time.{Time}
 use Rattle.block.specs.declared.Holding.{Holding}
-use Rattle.block.specs.declared.Entry.the-variants.{Unused}
+use Rattle.block.specs.declared.Entry.the-variants.{Unused, Used}
 use Rattle.block.specs.declared.BlockFields.{BlockFields}
 use Rattle.block.specs.Entry.{timeOf}
 use Rattle.block.specs.Block.{poolOf, blockdevOf, fieldsOf}
 use Rattle.discovery.specs.declared.Finding.{Finding}
-use Rattle.discovery.specs.declared.Other.the-variants.{Both}
 use Rattle.discovery.specs.declared.Answer.{Answer}
-use Rattle.copy.specs.Copy.{blockIn, otherSide, newest}
-use Rattle.discovery.specs.Discovery.{recordAt, sameDevice, inStep, copyOn, recordBytes}
+use Rattle.copy.specs.Copy.{deviceIn, blockIn, otherSide, newest}
+use Rattle.discovery.specs.Discovery.{findingOf, inStep, copyOn, recordBytes}
 use Rattle.discovery.specs.Newest.{timeAt}
 use Rattle.discovery.proofs.Latest.{found-same}
-use Rattle.crash.specs.Crash.{Sectors, Sound, Store, Groups, stores, storeIn, landed, allLanded, copyFrom}
+use Rattle.crash.specs.Crash.{Sectors, Sound, Store, Groups, stores, storeIn, landed, allLanded, areaSectors, copyFrom}
 use Rattle.stores.specs.Stores.{sectorsOf}
-use Rattle.stores.specs.States.{Gives, InStepOn}
+use Rattle.stores.specs.States.{Ready, Answered, Fits, AllFit}
 use Rattle.stores.proofs.Holding.{heldIn, recordIn, Holds}
 use Rattle.stores.proofs.Blocks.{device-kept}
-use Rattle.stores.proofs.InStep.{Stepped, in-step-facts, same-device-test}
+use Rattle.stores.proofs.InStep.{Stepped, in-step-facts}
+use Rattle.stores.proofs.States.{stepped-found, made-ready}
+use Rattle.stores.proofs.Padding.{sectors-few, sectors-within, length-sector}
 use Rattle.stores.proofs.OneCopy.{stepped-held}
-use Rattle.stores.proofs.Places.{Sizes, sizes-accepted}
-use Rattle.stores.proofs.Facts.{sized-copies}
-use Rattle.stores.proofs.Agreeing.{found-front, agree-gives, agree-in-step}
-use Rattle.mend.specs.Mend.{laterWhole, rewriting, groupsAfter, mendGroups}
-use Rattle.mend.specs.Demand.{State, after, foundIn, Landing, Touching}
-use Rattle.mend.proofs.Kept.{Kept, held, kept, found-time, found-long}
+use Rattle.stores.proofs.Places.{Sizes, sizes-accepted, area-below, block-below}
+use Rattle.mend.specs.Mend.{refilled, laterWhole, rewriting, groupsAfter, mendGroups}
+use Rattle.mend.specs.Demand.{after, Mended, Goes, Touching}
+use Rattle.mend.proofs.Kept.{Kept, kept-small, held, kept, found-time, found-long}
+use Rattle.mend.proofs.Blocks.{right-empty, right-filled, right-blank, like-size}
 use Rattle.mend.proofs.Stores.{by-store}
 use Rattle.mend.proofs.Landing.{first-at, sector-at, second-at, last-at, end-sound, other-holds, kept-whole, kept-blank}
 
@@ -47,23 +47,16 @@ side-copy : (v : Device) (d : Sectors) (s : Side) → copyOn s (copyFrom Front v
 side-copy v d Front = refl
 side-copy v d Back = refl
 
--- discovery gives a record with its time, and the copies are in step on it
-abbrev Done : Device → Sectors → Time → List ℕ → Type 0
-Done v e t r = Gives (copyFrom Front v e) (copyFrom Back v e) t r × InStepOn (copyFrom Front v e) (copyFrom Back v e) t r
-
 -- both sides hold the record, whichever is called which
 both-hold : (v : Device) (e : Sectors) → Sound e → (w : Side) {g j : BlockFields} {p u : List ℕ} {x y : Area} {h : Holding} {r : List ℕ}
-    → Holds (copyFrom w v e) g p u x h r → Holds (copyFrom (otherSide w) v e) j p u y h r → g .device ≡ j .device → Done v e (timeOf h) r
-both-hold v e se Front {g} {j} {p} {u} {x} {y} {h} m n i = (
-  agree-gives m n (sized-copies v e e se se) (same-device-test g j i) (timeOf h) refl refl,
-  agree-in-step m n (sized-copies v e e se se) (same-device-test g j i) (timeOf h) refl refl,
-)
-both-hold v e se Back {g} {j} {p} {u} {x} {y} {h} m n i = (
-  agree-gives n m (sized-copies v e e se se) (same-device-test j g (sym i)) (timeOf h) refl refl,
-  agree-in-step n m (sized-copies v e e se se) (same-device-test j g (sym i)) (timeOf h) refl refl,
-)
+    → Holds (copyFrom w v e) g p u x h r → Holds (copyFrom (otherSide w) v e) j p u y h r → g .device ≡ v → j .device ≡ v → Ready v e (timeOf h) r
+both-hold v e se Front {g} {j} {p} {u} {x} {y} {h} m n i k = made-ready v e se m n i k (timeOf h) refl refl
+both-hold v e se Back {g} {j} {p} {u} {x} {y} {h} m n i k = made-ready v e se n m k i (timeOf h) refl refl
 
-module _ (v : Device) (d : Sectors) (q : Finding) (s : State v d q) where
+module _ (v : Device) (d : Sectors) (t : Time) (r₀ : List ℕ) (s : Answered v d t r₀) where
+  abbrev q : Finding
+  q = s .gives .found
+
   abbrev f : List ℕ
   f = copyFrom Front v d
 
@@ -74,102 +67,134 @@ module _ (v : Device) (d : Sectors) (q : Finding) (s : State v d q) where
   r = recordBytes q f b
 
   abbrev h : Holding
-  h = held f b q (s .other) (s .answers)
+  h = held f b q (s .gives .other) (s .gives .answers)
 
   abbrev c : List ℕ
   c = copyFrom (q .side) v d
 
   itself : Kept c (q .area) h r
-  itself = subst (λ (z : List ℕ). Kept z (q .area) h r) (side-copy v d (q .side)) (kept f b q (s .other) (s .answers))
+  itself = subst (λ (z : List ℕ). Kept z (q .area) h r) (side-copy v d (q .side)) (kept f b q (s .gives .other) (s .gives .answers))
 
   sizes : Sizes v
-  sizes = subst Sizes (s .placed) (sizes-accepted (blockIn c) (itself .accepted))
+  sizes = subst Sizes (s .says) (sizes-accepted (blockIn c) (itself .accepted))
 
   -- its groups
   groups : mendGroups f b ≡ cond (inStep f b) [] (rewriting (q .side) c (q .area) r)
   unfolding mendGroups
   groups =
-      ap (λ (a : Answer). groupsAfter a f b) (s .answers)
+      ap (λ (a : Answer). groupsAfter a f b) (s .gives .answers)
       ∙ ap (λ (z : List ℕ). cond (inStep f b) [] (rewriting (q .side) z (q .area) r)) (side-copy v d (q .side))
 
+  -- the record and its time, as they were given
+  its-record : r ≡ r₀
+  its-record = s .gives .starts
+
+  its-time : timeAt q ≡ t
+  its-time = λ i. record { seconds = s .gives .seconds i; nanoseconds = s .gives .nanoseconds i }
+
   -- not in step: the stores have landed
-  rewritten : Done v (allLanded (rewriting (q .side) c (q .area) r) d) (timeAt q) r
-  rewritten =
-      subst (λ (t : Time). Done v (allLanded (rewriting (q .side) c (q .area) r) d) t r) (sym (found-time f b q (s .other) (s .answers)))
-      (go (laterWhole c) refl)
+  abbrev end : Sectors
+  end = allLanded (rewriting (q .side) c (q .area) r) d
+
+  other-device : refilled (deviceIn c) (Used h) .device ≡ v
+  other-device = s .says
+
+  rewritten : Ready v end (timeAt q) r
+  rewritten = subst (λ (u : Time). Ready v end u r) (sym (found-time f b q (s .gives .other) (s .gives .answers))) (go (laterWhole c) refl)
     where
-      go : (t : Bool) → laterWhole c ≡ t → Done v (allLanded (rewriting (q .side) c (q .area) r) d) (timeOf h) r
+      go : (u : Bool) → laterWhole c ≡ u → Ready v end (timeOf h) r
       go true n =
-          both-hold v (allLanded (rewriting (q .side) c (q .area) r) d) (end-sound (q .side) v d (s .sound) (s .placed) (q .area) h r itself) (q .side)
-          (kept-whole (q .side) v d (s .sound) (s .placed) (q .area) h r itself n) (other-holds (q .side) v d (s .sound) (s .placed) (q .area) h r itself) refl
+          both-hold v end (end-sound (q .side) v d (s .sound) (s .says) (q .area) h r itself) (q .side)
+          (kept-whole (q .side) v d (s .sound) (s .says) (q .area) h r itself n) (other-holds (q .side) v d (s .sound) (s .says) (q .area) h r itself) (s .says) other-device
       go false n =
-          both-hold v (allLanded (rewriting (q .side) c (q .area) r) d) (end-sound (q .side) v d (s .sound) (s .placed) (q .area) h r itself) (q .side)
-          (kept-blank (q .side) v d (s .sound) (s .placed) (q .area) h r itself n) (other-holds (q .side) v d (s .sound) (s .placed) (q .area) h r itself)
-          (device-kept (fieldsOf (blockIn c)) (newest (fieldsOf (blockIn c))) Unused)
+          both-hold v end (end-sound (q .side) v d (s .sound) (s .says) (q .area) h r itself) (q .side)
+          (kept-blank (q .side) v d (s .sound) (s .says) (q .area) h r itself n) (other-holds (q .side) v d (s .sound) (s .says) (q .area) h r itself)
+          (device-kept (fieldsOf (blockIn c)) (newest (fieldsOf (blockIn c))) Unused ∙ s .says) other-device
 
   -- in step: nothing is stored
   module _ (i : inStep f b ≡ true) where
     stepped : Stepped (λ (w : Side). copyFrom w v d)
     stepped = in-step-facts (λ (w : Side). copyFrom w v d) i
 
+    -- what discovery found is the front's
+    is-front : q ≡ findingOf Front (fieldsOf (blockIn f)) (newest (fieldsOf (blockIn f))) (heldIn f)
+    is-front =
+        found-same (findingOf Front (fieldsOf (blockIn f)) (newest (fieldsOf (blockIn f))) (heldIn f)) _ q (s .gives .other)
+        (sym (s .gives .answers) ∙ stepped-found (λ (w : Side). copyFrom w v d) stepped)
+
+    front-says : deviceIn f ≡ v
+    front-says = sym (ap (λ (z : Finding). deviceIn (copyFrom (z .side) v d)) is-front) ∙ s .says
+
     holds : (w : Side) → Holds (copyFrom w v d) (fieldsOf (blockIn (copyFrom w v d))) (poolOf (blockIn f)) (blockdevOf (blockIn f))
         (newest (fieldsOf (blockIn (copyFrom w v d)))) (heldIn (copyFrom w v d)) (recordIn f)
     holds w = stepped-held v d (s .sound) sizes stepped w d (s .sound) refl (λ n l. refl)
 
-    one-device : sameDevice (fieldsOf (blockIn f)) (fieldsOf (blockIn b)) ≡ true
-    one-device = same-device-test (fieldsOf (blockIn f)) (fieldsOf (blockIn b)) (stepped .device)
-
-    -- what discovery found is the front's
-    is-front : q ≡ recordAt Front (newest (fieldsOf (blockIn f))) (heldIn f)
-    is-front =
-        found-same (recordAt Front (newest (fieldsOf (blockIn f))) (heldIn f)) Both q (s .other)
-        (sym (s .answers) ∙ found-front (holds Front) (holds Back) (stepped .sizes) one-device (timeOf (heldIn f)) refl (stepped .times Back))
-
-    untouched : Done v d (timeAt q) r
+    untouched : Ready v d (timeAt q) r
     untouched =
-        subst (λ (z : Finding). Done v d (timeAt z) (recordBytes z f b)) (sym is-front) (
-          agree-gives (holds Front) (holds Back) (stepped .sizes) one-device (timeOf (heldIn f)) refl (stepped .times Back),
-          agree-in-step (holds Front) (holds Back) (stepped .sizes) one-device (timeOf (heldIn f)) refl (stepped .times Back),
-        )
+        subst (λ (z : Finding). Ready v d (timeAt z) (recordBytes z f b)) (sym is-front)
+        (made-ready v d (s .sound) (holds Front) (holds Back) front-says (sym (stepped .device) ∙ front-says) (timeOf (heldIn f)) refl (stepped .times Back))
 
-  done : (t : Bool) → inStep f b ≡ t → Done v (allLanded (cond t [] (rewriting (q .side) c (q .area) r)) d) (timeAt q) r
+  done : (u : Bool) → inStep f b ≡ u → Ready v (allLanded (cond u [] (rewriting (q .side) c (q .area) r)) d) (timeAt q) r
   unfolding flatten landed
   done true i = untouched i
   done false i = rewritten
 
-  all-done : Done v (after v d) (timeAt q) (foundIn v d q)
+  all-done : Ready v (after v d) t r₀
   all-done =
-      subst (λ (g : Groups). Done v (allLanded g d) (timeAt q) r) (sym groups) (done (inStep f b) refl)
-
-  -- where a store of the groups g goes
-  abbrev Goes : Groups → ℕ → Type 0
-  Goes g i =
-      (storeIn g i .sector ≡ blockSector (otherSide (q .side)) v)
-      ⊎ (((j : ℕ) × (j < sectorsOf (q .bytes)) × (storeIn g i .sector ≡ areaSector (otherSide (q .side)) A v + j))
-      ⊎ ((i ≡ sectorsOf (q .bytes) + 2) × (storeIn g i .sector ≡ blockSector (q .side) v)))
+      subst (λ (u : Time). Ready v (after v d) u r₀) its-time
+      (subst (λ (z : List ℕ). Ready v (after v d) (timeAt q) z) its-record (subst (λ (g : Groups). Ready v (allLanded g d) (timeAt q) r) (sym groups) (done (inStep f b) refl)))
 
   sectors : sectorsOf (q .bytes) ≡ sectorsOf (length r)
-  sectors = ap sectorsOf (found-long f b q (s .other) (s .answers))
+  sectors = ap sectorsOf (found-long f b q (s .gives .other) (s .gives .answers))
 
-  goes : (i : ℕ) → i < length (stores (rewriting (q .side) c (q .area) r)) → Goes (rewriting (q .side) c (q .area) r) i
+  goes : (i : ℕ) → i < length (stores (rewriting (q .side) c (q .area) r)) → Goes v q (rewriting (q .side) c (q .area) r) i
   goes =
       let k : sectorsOf (q .bytes) ≡ sectorsOf (length r) = sectors in
-      by-store (q .side) c (q .area) r (Goes (rewriting (q .side) c (q .area) r))
-      (inl (ap (λ (z : Store). z .sector) (first-at (q .side) v d (s .sound) (s .placed) (q .area) h r itself)))
-      (λ j m. inr (inl (j, omega arith, ap (λ (z : Store). z .sector) (sector-at (q .side) v d (s .sound) (s .placed) (q .area) h r itself j m))))
-      (inl (ap (λ (z : Store). z .sector) (second-at (q .side) v d (s .sound) (s .placed) (q .area) h r itself)))
-      (λ n. inr (inr (omega arith, ap (λ (z : Store). z .sector) (last-at (q .side) v d (s .sound) (s .placed) (q .area) h r itself n))))
+      by-store (q .side) c (q .area) r (Goes v q (rewriting (q .side) c (q .area) r))
+      (inl (ap (λ (z : Store). z .sector) (first-at (q .side) v d (s .sound) (s .says) (q .area) h r itself)))
+      (λ j m. inr (inl (j, omega arith, ap (λ (z : Store). z .sector) (sector-at (q .side) v d (s .sound) (s .says) (q .area) h r itself j m))))
+      (inl (ap (λ (z : Store). z .sector) (second-at (q .side) v d (s .sound) (s .says) (q .area) h r itself)))
+      (λ n. inr (inr (omega arith, ap (λ (z : Store). z .sector) (last-at (q .side) v d (s .sound) (s .says) (q .area) h r itself n))))
 
-  by-step : (t : Bool) (i : ℕ) → i < length (stores (cond t [] (rewriting (q .side) c (q .area) r))) → Goes (cond t [] (rewriting (q .side) c (q .area) r)) i
+  by-step : (u : Bool) (i : ℕ) → i < length (stores (cond u [] (rewriting (q .side) c (q .area) r))) → Goes v q (cond u [] (rewriting (q .side) c (q .area) r)) i
   unfolding flatten
   by-step true i l = absurd (not-suc-le-zero l)
   by-step false i l = goes i l
 
-  touches : (i : ℕ) → i < length (stores (mendGroups f b)) → Goes (mendGroups f b) i
-  touches = subst (λ (g : Groups). (i : ℕ) → i < length (stores g) → Goes g i) (sym groups) (by-step (inStep f b))
+  touches : (i : ℕ) → i < length (stores (mendGroups f b)) → Goes v q (mendGroups f b) i
+  touches = subst (λ (g : Groups). (i : ℕ) → i < length (stores g) → Goes v q g i) (sym groups) (by-step (inStep f b))
 
-pub landing : Landing
-landing v d q s = all-done v d q s
+  -- each store is one that the device has room for
+  fits : (i : ℕ) → i < length (stores (rewriting (q .side) c (q .area) r)) → Fits v (storeIn (rewriting (q .side) c (q .area) r) i)
+  fits =
+      by-store (q .side) c (q .area) r (λ (i : ℕ). Fits v (storeIn (rewriting (q .side) c (q .area) r) i))
+      (subst (Fits v) (sym (first-at (q .side) v d (s .sound) (s .says) (q .area) h r itself)) (block-fits (otherSide (q .side)) _ (like-size c (itself .accepted) _ (right-empty c (itself .accepted)))))
+      (λ j m.
+      let k : sectorsOf (length r) ≤ areaSectors = sectors-within (length r) (kept-small itself) in
+      let n : sectorsOf (length r) ≤ 1020 = sectors-few (length r) (kept-small itself) in
+      subst (Fits v) (sym (sector-at (q .side) v d (s .sound) (s .says) (q .area) h r itself j m))
+      (record {
+        side = otherSide (q .side);
+        place = inr (A, (j, (omega arith, refl)));
+        below = area-below v sizes (otherSide (q .side)) A j (omega arith);
+        size = length-sector r j;
+      }))
+      (subst (Fits v) (sym (second-at (q .side) v d (s .sound) (s .says) (q .area) h r itself)) (block-fits (otherSide (q .side)) _ (like-size c (itself .accepted) _ (right-filled c (itself .accepted) (q .area)))))
+      (λ n. subst (Fits v) (sym (last-at (q .side) v d (s .sound) (s .says) (q .area) h r itself n)) (block-fits (q .side) _ (like-size c (itself .accepted) _ (right-blank c (itself .accepted)))))
+    where
+      block-fits : (w : Side) (z : List ℕ) → length z ≡ 512 → Fits v (record { sector = blockSector w v; content = z })
+      block-fits w z l = record { side = w; place = inl refl; below = block-below v sizes w; size = l }
+
+  fit-step : (u : Bool) (i : ℕ) → i < length (stores (cond u [] (rewriting (q .side) c (q .area) r))) → Fits v (storeIn (cond u [] (rewriting (q .side) c (q .area) r)) i)
+  unfolding flatten
+  fit-step true i l = absurd (not-suc-le-zero l)
+  fit-step false i l = fits i l
+
+  all-fit : AllFit v (mendGroups f b)
+  all-fit = subst (λ (g : Groups). (i : ℕ) → i < length (stores g) → Fits v (storeIn g i)) (sym groups) (fit-step (inStep f b))
+
+pub mended : Mended
+mended v d t r s = (all-done v d t r s, all-fit v d t r s)
 
 pub touching : Touching
-touching v d q s = touches v d q s
+touching v d t r s = touches v d t r s

@@ -8,7 +8,11 @@ use native.Mathlib.Decide.{decLe}
 use native.Mathlib.Omega.{arith}
 use lib.ListN.{length, take}
 use Rattle.refusal.specs.Numbers.{noStore}
+use Rattle.endian.proofs.Tests.{and-left, and-right}
+use Rattle.layout.specs.declared.Side.{Side}
+use Rattle.layout.specs.declared.Side.the-variants.{Front, Back}
 use Rattle.layout.specs.declared.Area.the-variants.{A}
+use Rattle.layout.specs.Limits.{lengthAllowed}
 use Rattle.layout.specs.Places.{blockSector, areaSector}
 use Rattle.block.specs.declared.BlockFields.{BlockFields}
 use Rattle.block.specs.Block.{fieldsOf}
@@ -16,14 +20,14 @@ use Rattle.discovery.specs.declared.Finding.{Finding}
 use Rattle.discovery.specs.declared.Other.{Other}
 use Rattle.discovery.specs.declared.Answer.{Answer}
 use Rattle.discovery.specs.declared.Answer.the-variants as Answer
-use Rattle.copy.specs.Copy.{blockIn, otherSide, deviceIn}
+use Rattle.copy.specs.Copy.{isCopy, blockIn, entryIn, otherSide, deviceIn}
 use Rattle.discovery.specs.Discovery.{sized, discovery, inStep, copyOn, recordBytes}
 use Rattle.crash.specs.Crash.{Store, Groups, stores, storeIn, groupStart}
 use Rattle.crash.proofs.Groups.{total}
 use Rattle.stores.specs.declared.Given.{Given}
 use Rattle.stores.specs.declared.Given.the-variants as Given
 use Rattle.stores.specs.Stores.{sectorsOf}
-use Rattle.stores.specs.Given.{blockAnswer, blockBytes, partAnswer, partBytes}
+use Rattle.stores.specs.Given.{blockGiven, blockLeft, partGiven, partLeft}
 use Rattle.stores.proofs.Blocks.{number-fits}
 use Rattle.stores.proofs.Padding.{sectors-few}
 use Rattle.stores.proofs.Places.{Sizes, sizes-accepted, area-below}
@@ -33,23 +37,13 @@ use Rattle.mend.specs.declared.Last.the-variants as Last
 use Rattle.mend.specs.declared.Rewrite.{Rewrite}
 use Rattle.mend.specs.declared.Mending.{Mending}
 use Rattle.mend.specs.declared.Mending.the-variants as Mending
-use Rattle.mend.specs.Mend.{blockLike, blanked, laterWhole, rewriting, groupsAfter, mendGroups}
+use Rattle.mend.specs.Mend.{blockLike, emptied, refilled, blanked, laterWhole, rewriting, groupsAfter, mendGroups}
 use Rattle.mend.specs.Plan.{rewriteOf, mendingAfter, mending, lastCount, storesIn, groupIn, groupOf, lastAnswer, lastBytes, rewriteAnswer, rewriteBytes, mendAnswer, mendBytes, storeAnswer, storeBytes}
-use Rattle.mend.specs.Demand.{Giving}
-use Rattle.mend.proofs.Choosing.{right-size, first-store, part-store, last-stored, no-such, in-first, in-record, in-second, in-last}
-use Rattle.mend.proofs.Kept.{Kept, kept-small, found-sized, held, kept, found-long}
+use Rattle.mend.specs.Demand.{MendGives, Giving}
+use Rattle.mend.proofs.Choosing.{right-size, first-store, part-store, last-stored, no-such, past-last, in-first, in-record, in-second, in-last}
+use Rattle.mend.proofs.Kept.{Kept, kept-small, kept-allowed, found-sized, held, kept, found-fields, found-later, found-long}
 use Rattle.mend.proofs.Stores.{filledBlock, at-first, at-sector, at-second, at-last, last-none, last-one, count-whole, count-blank, group-starts, by-store}
 use Rattle.mend.proofs.Blocks.{Right, right-empty, right-filled, right-blank, like-writes, like-written}
-
--- what is given of a mend m is what the groups gs have
-abbrev Agrees : List ℕ → List ℕ → Mending → Groups → Type 0
-Agrees f b m gs =
-    (storesIn m ≡ length (stores gs))
-    × (((g i : ℕ) → g < 4 → groupStart gs g ≤ i → i < groupStart gs (suc g) → groupOf m i ≡ g)
-    × (((i : ℕ) (out : List ℕ) → i < length (stores gs) → length out ≡ 512
-    → (storeAnswer m f b i out ≡ Given.At (storeIn gs i .sector)) × (storeBytes m f b i out ≡ storeIn gs i .content))
-    × ((i : ℕ) (out : List ℕ) → length (stores gs) ≤ i → sized f b ≡ true → length out ≡ 512
-    → (storeAnswer m f b i out ≡ Given.Refused noStore) × (storeBytes m f b i out ≡ out))))
 
 -- nothing to store
 starts-none : (g : ℕ) → groupStart [] g ≡ 0
@@ -57,22 +51,38 @@ unfolding groupStart flatten
 starts-none zero = refl
 starts-none (suc g) = refl
 
-nothing : (f b : List ℕ) (m : Mending) → storesIn m ≡ 0 → ((i : ℕ) (out : List ℕ) → (mendAnswer m f b i out ≡ Given.Refused noStore) × (mendBytes m f b i out ≡ out))
-    → Agrees f b m []
+nothing : (f b : List ℕ) (m : Mending) → storesIn m ≡ 0 → ((i : ℕ) → groupOf m i ≡ 4)
+    → ((i : ℕ) (out : List ℕ) → (mendAnswer m f b i out ≡ Given.Refused noStore) × (mendBytes m f b i out ≡ out)) → MendGives f b m []
 unfolding flatten
-nothing f b m e h = (
-  e,
-  (
-    λ g i l p q. absurd (not-suc-le-zero (subst (λ (n : ℕ). i < n) (starts-none (suc g)) q)),
-    (
-      λ i out l room. absurd (not-suc-le-zero l),
-      λ i out l z room.
+nothing f b m e n h =
+    record {
+      count = e;
+      grouped = λ g i l p q. absurd (not-suc-le-zero (subst (λ (n : ℕ). i < n) (starts-none (suc g)) q));
+      no-group = λ i l. n i;
+      store = λ i out l room. absurd (not-suc-le-zero l);
+      no-store = λ i out l z room.
           let a : (mendAnswer m f b i out ≡ storeAnswer m f b i out) × (mendBytes m f b i out ≡ storeBytes m f b i out) =
           right-size m f b i out (lent-right f b out z room) _ _ m refl refl refl in
-          (sym (a .0) ∙ h i out .0, sym (a .1) ∙ h i out .1),
-    ),
-  ),
-)
+          (sym (a .0) ∙ h i out .0, sym (a .1) ∙ h i out .1);
+    }
+
+-- what is stored, by the kept copy's bytes
+abbrev rewriteIn : List ℕ → Finding → Rewrite
+rewriteIn c q =
+    record {
+      kept = q .side;
+      area = q .area;
+      bytes = q .bytes;
+      sectors = sectorsOf (q .bytes);
+      empty = emptied (deviceIn c);
+      part =
+          record {
+            area = areaSector (otherSide (q .side)) A (deviceIn c);
+            block = blockSector (otherSide (q .side)) (deviceIn c);
+            fields = refilled (deviceIn c) (entryIn (fieldsOf (blockIn c)) (q .area));
+          };
+      last = cond (laterWhole c) Last.Absent (Last.Blank (blockSector (q .side) (deviceIn c)) (blanked (fieldsOf (blockIn c))));
+    }
 
 -- a copy is kept
 module _ (f b : List ℕ) (q : Finding) (o : Other) (e : discovery f b ≡ Answer.Found q o) where
@@ -89,7 +99,28 @@ module _ (f b : List ℕ) (q : Finding) (o : Other) (e : discovery f b ≡ Answe
   k = sectorsOf (length r)
 
   abbrev p : Rewrite
-  p = rewriteOf c q
+  p = rewriteIn c q
+
+  -- which discovery's answer says too
+  same-plan : rewriteOf q ≡ p
+  same-plan = ap₂ (λ (g : BlockFields) (t : Bool). planned g t) (found-fields f b q o e) (found-later f b q o e)
+    where
+      planned : BlockFields → Bool → Rewrite
+      planned g t =
+          record {
+            kept = q .side;
+            area = q .area;
+            bytes = q .bytes;
+            sectors = sectorsOf (q .bytes);
+            empty = emptied (g .device);
+            part =
+                record {
+                  area = areaSector (otherSide (q .side)) A (g .device);
+                  block = blockSector (otherSide (q .side)) (g .device);
+                  fields = refilled (g .device) (entryIn g (q .area));
+                };
+            last = cond t Last.Absent (Last.Blank (blockSector (q .side) (g .device)) (blanked g));
+          }
 
   abbrev gs : Groups
   gs = rewriting (q .side) c (q .area) r
@@ -153,11 +184,21 @@ module _ (f b : List ℕ) (q : Finding) (o : Other) (e : discovery f b ≡ Answe
           (subst (λ (n : ℕ). n ≤ i) (group-starts (q .side) c (q .area) r g ∙ ap (λ (z : Groups). total (take g (1 ∷ k ∷ 1 ∷ map length z))) (last-one (q .side) c (q .area) r h)) a)
           (subst (λ (n : ℕ). i < n) (group-starts (q .side) c (q .area) r (suc g) ∙ ap (λ (z : Groups). total (take (suc g) (1 ∷ k ∷ 1 ∷ map length z))) (last-one (q .side) c (q .area) r h)) b)
 
+  here : isCopy c ≡ true
+  here = go (q .side)
+    where
+      go : (s : Side) → isCopy (copyOn s f b) ≡ true
+      go Front = and-left (isCopy f) (isCopy b) (found-sized f b q o e)
+      go Back = and-right (isCopy f) (isCopy b) (found-sized f b q o e)
+
+  allowed : lengthAllowed (length r) ≡ true
+  allowed = kept-allowed itself
+
   module _ (out : List ℕ) (room : length out ≡ 512) where
     -- a block that a mend stores
-    block-of : (s : ℕ) (g : BlockFields) → Right c g → (blockAnswer s g c out ≡ Given.At s) × (blockBytes g c out ≡ blockLike c g)
+    block-of : (s : ℕ) (g : BlockFields) → Right c g → (blockGiven s g c out ≡ Given.At s) × (blockLeft g c out ≡ blockLike c g)
     block-of s g h =
-        block-given s g c out (blockLike c g) (like-writes c (itself .accepted) g h out room) (like-written c (itself .accepted) g h out room)
+        block-given s g c out (blockLike c g) here (like-writes c (itself .accepted) g h out room) (like-written c (itself .accepted) g h out room)
 
     -- store i is given with its sector and its bytes
     abbrev GivenAt : ℕ → Type 0
@@ -195,8 +236,8 @@ module _ (f b : List ℕ) (q : Finding) (o : Other) (e : discovery f b ≡ Answe
             let y : deviceIn c .sectors < 256 ^ 8 = sectors-fit in
             let t : areaSector (otherSide (q .side)) A (deviceIn c) ≤ 18446744073709551615 - j = omega arith in
             joined (suc j) _ _ _ (part-store p c (suc j) out _ _ (λ u. omega arith) (omega arith) _ _ refl refl refl refl) (
-              ap (λ (u : ℕ). partAnswer (p .part) (p .sectors) c u out) m ∙ area-given (p .part) (p .sectors) c r j out (omega arith) t room .0,
-              ap (λ (u : ℕ). partBytes (p .part) (p .sectors) c r u out) m ∙ area-given (p .part) (p .sectors) c r j out (omega arith) t room .1,
+              ap (λ (u : ℕ). partGiven (p .part) (p .sectors) c r u out) m ∙ area-given (p .part) (p .sectors) c r j out here room allowed (omega arith) (omega arith) t .0,
+              ap (λ (u : ℕ). partLeft (p .part) (p .sectors) c r u out) m ∙ area-given (p .part) (p .sectors) c r j out here room allowed (omega arith) (omega arith) t .1,
             )
             (at-sector (q .side) c (q .area) r j h)
 
@@ -204,7 +245,7 @@ module _ (f b : List ℕ) (q : Finding) (o : Other) (e : discovery f b ≡ Answe
         second =
             let n : p .sectors ≡ k = filled in
             joined (suc k) _ _ _ (part-store p c (suc k) out _ _ (λ u. omega arith) (omega arith) _ _ refl refl refl refl)
-            (part-given (p .part) (p .sectors) c r (suc k - 1) out (omega arith) (p .part .block) (filledBlock (q .side) c (q .area) r)
+            (part-given (p .part) (p .sectors) c r (suc k - 1) out here room allowed (omega arith) (omega arith) (p .part .block) (filledBlock (q .side) c (q .area) r)
             (block-of (p .part .block) (p .part .fields) (right-filled c (itself .accepted) (q .area))))
             (at-second (q .side) c (q .area) r)
 
@@ -244,18 +285,27 @@ module _ (f b : List ℕ) (q : Finding) (o : Other) (e : discovery f b ≡ Answe
             let m : length (stores gs) ≡ k + 3 = count-blank (q .side) c (q .area) r h in
             absurd (let z : _≡_ {A = ℕ} 0 1 = omega arith in omega arith)
 
-  needed : Agrees f b (Mending.Needed p) gs
-  needed = (counted, (grouped, (λ i out l room. given out room i l, λ i out l z room. past out room i l)))
+  needed : MendGives f b (Mending.Needed p) gs
+  needed =
+      record {
+        count = counted;
+        grouped = grouped;
+        no-group = λ i l. ap (λ (n : ℕ). groupIn (p .sectors) n i) counted ∙ sym (past-last (p .sectors) (length (stores gs)) i l);
+        store = λ i out l room. given out room i l;
+        no-store = λ i out l z room. past out room i l;
+      }
 
 module _ (f b : List ℕ) where
-  by-answer : (a : Answer) → discovery f b ≡ a → Agrees f b (mendingAfter a f b) (groupsAfter a f b)
-  by-answer (Answer.Refused n) e = nothing f b (Mending.Refused n) refl (λ i out. (refl, refl))
+  by-answer : (a : Answer) → discovery f b ≡ a → MendGives f b (mendingAfter a f b) (groupsAfter a f b)
+  by-answer (Answer.Refused n) e = nothing f b (Mending.Refused n) refl (λ i. refl) (λ i out. (refl, refl))
   by-answer (Answer.Found q o) e = go (inStep f b)
     where
-      go : (t : Bool) → Agrees f b (cond t Mending.InStep (Mending.Needed (rewriteOf (copyOn (q .side) f b) q)))
+      go : (t : Bool) → MendGives f b (cond t Mending.InStep (Mending.Needed (rewriteOf q)))
           (cond t [] (rewriting (q .side) (copyOn (q .side) f b) (q .area) (recordBytes q f b)))
-      go true = nothing f b Mending.InStep refl (λ i out. (refl, refl))
-      go false = needed f b q o e
+      go true = nothing f b Mending.InStep refl (λ i. refl) (λ i out. (refl, refl))
+      go false =
+          subst (λ (z : Rewrite). MendGives f b (Mending.Needed z) (rewriting (q .side) (copyOn (q .side) f b) (q .area) (recordBytes q f b))) (sym (same-plan f b q o e))
+          (needed f b q o e)
 
 pub giving : Giving
 unfolding mending mendGroups

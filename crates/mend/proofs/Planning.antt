@@ -3,8 +3,6 @@ use Prim.Native.Nat.{ℕ}
 use mathlib.Core.Path.{_≡_, sym, ap, ap₂, _∙_}
 use mathlib.Core.Bool.{Bool, true, false, cond}
 use mathlib.Core.List.{List}
-use Rattle.endian.specs.Bytes.{window}
-use Rattle.layout.specs.declared.Device.{Device}
 use Rattle.layout.specs.declared.Side.{Side}
 use Rattle.layout.specs.declared.Area.{Area}
 use Rattle.layout.specs.declared.Area.the-variants.{A}
@@ -12,71 +10,59 @@ use Rattle.layout.specs.Places.{blockSector, areaSector}
 use Rattle.block.specs.declared.Entry.{Entry}
 use Rattle.block.specs.declared.Entry.the-variants.{Unused}
 use Rattle.block.specs.declared.BlockFields.{BlockFields}
-use Rattle.block.specs.Block.{fieldsOf}
 use Rattle.discovery.specs.declared.Finding.{Finding}
 use Rattle.discovery.specs.declared.Other.{Other}
 use Rattle.discovery.specs.declared.Answer.{Answer}
 use Rattle.discovery.specs.declared.Answer.the-variants as Answer
-use Rattle.copy.specs.Copy.{blockIn, entryIn, otherSide, whole, newest, deviceIn}
-use Rattle.discovery.specs.Discovery.{discovery, inStep, copyOn}
+use Rattle.copy.specs.Copy.{entryIn, otherSide, newest, sameArea}
+use Rattle.discovery.specs.Discovery.{discovery, inStep}
 use Rattle.stores.specs.Stores.{sectorsOf, withEntry}
 use Rattle.mend.specs.declared.Last.{Last}
 use Rattle.mend.specs.declared.Last.the-variants as Last
 use Rattle.mend.specs.declared.Rewrite.{Rewrite}
 use Rattle.mend.specs.declared.Mending.{Mending}
 use Rattle.mend.specs.declared.Mending.the-variants as Mending
-use Rattle.mend.specs.Mend.{blanked, laterWhole}
+use Rattle.mend.specs.Mend.{blanked}
 use Rattle.mend.specs.Plan.{lastOf, rewriteOf, mendingAfter, mending}
 
-module _ (w : Side) (c s : List ℕ) (x : BlockFields) (y : Area) (t : Bool) (es : s ≡ window c 512 512) (ex : x ≡ fieldsOf s) (ey : y ≡ newest x)
-    (et : t ≡ whole c x y) where
-  numbers : x ≡ fieldsOf (blockIn c)
-  numbers = ex ∙ ap fieldsOf es
+module _ (q : Finding) (y : Area) (t : Bool) (ey : y ≡ newest (q .fields)) (et : t ≡ sameArea (q .area) y) where
+  tested : t ≡ sameArea (q .area) (newest (q .fields))
+  tested = et ∙ ap (sameArea (q .area)) ey
 
-  latest : y ≡ newest (fieldsOf (blockIn c))
-  latest = ey ∙ ap newest numbers
-
-  tested : t ≡ laterWhole c
-  tested = et ∙ ap₂ (whole c) numbers latest
-
-  pub last-absent : t ≡ true → Last.Absent ≡ lastOf w c
+  pub last-absent : t ≡ true → Last.Absent ≡ lastOf q
   last-absent h =
-      sym (ap (λ (q : Bool). cond q Last.Absent (Last.Blank (blockSector w (deviceIn c)) (blanked (fieldsOf (blockIn c))))) (sym tested ∙ h))
+      sym (ap (λ (z : Bool). cond z Last.Absent (Last.Blank (blockSector (q .side) (q .fields .device)) (blanked (q .fields)))) (sym tested ∙ h))
 
-  pub last-blank : t ≡ false → (m : ℕ) (g : BlockFields) → m ≡ blockSector w (x .device) → g ≡ withEntry x y Unused → Last.Blank m g ≡ lastOf w c
+  pub last-blank : t ≡ false → (m : ℕ) (g : BlockFields) → m ≡ blockSector (q .side) (q .fields .device) → g ≡ withEntry (q .fields) y Unused → Last.Blank m g ≡ lastOf q
   last-blank h m g em eg =
-      ap₂ Last.Blank (em ∙ ap (λ (z : BlockFields). blockSector w (z .device)) numbers)
-      (eg ∙ ap₂ (λ (z : BlockFields) (a : Area). withEntry z a Unused) numbers latest)
-      ∙ sym (ap (λ (q : Bool). cond q Last.Absent (Last.Blank (blockSector w (deviceIn c)) (blanked (fieldsOf (blockIn c))))) (sym tested ∙ h))
+      ap₂ Last.Blank em (eg ∙ ap (λ (a : Area). withEntry (q .fields) a Unused) ey)
+      ∙ sym (ap (λ (z : Bool). cond z Last.Absent (Last.Blank (blockSector (q .side) (q .fields .device)) (blanked (q .fields)))) (sym tested ∙ h))
 
-pub rewrite-made : (c : List ℕ) (q : Finding) (s : List ℕ) (x : BlockFields) (w : Side) (e : Entry) (at m k : ℕ) (l : Last)
-    → s ≡ window c 512 512 → x ≡ fieldsOf s → w ≡ otherSide (q .side) → e ≡ entryIn x (q .area) → at ≡ areaSector w A (x .device)
-    → m ≡ blockSector w (x .device) → k ≡ sectorsOf (q .bytes) → l ≡ lastOf (q .side) c
+pub rewrite-made : (q : Finding) (w : Side) (e : Entry) (at m k : ℕ) (l : Last)
+    → w ≡ otherSide (q .side) → e ≡ entryIn (q .fields) (q .area) → at ≡ areaSector w A (q .fields .device)
+    → m ≡ blockSector w (q .fields .device) → k ≡ sectorsOf (q .bytes) → l ≡ lastOf q
     → _≡_ {A = Rewrite}
     (record {
       kept = q .side;
       area = q .area;
       bytes = q .bytes;
       sectors = k;
-      empty = record { device = x .device; a = Unused; b = Unused };
-      part = record { area = at; block = m; fields = record { device = x .device; a = e; b = Unused } };
+      empty = record { device = q .fields .device; a = Unused; b = Unused };
+      part = record { area = at; block = m; fields = record { device = q .fields .device; a = e; b = Unused } };
       last = l;
     })
-    (rewriteOf c q)
-rewrite-made c q s x w e at m k l es ex ew ee ea em ek el =
-    let fx : x ≡ fieldsOf (blockIn c) = ex ∙ ap fieldsOf es in
-    let fd : x .device ≡ deviceIn c = ap (λ (z : BlockFields). z .device) fx in
-    let fe : e ≡ entryIn (fieldsOf (blockIn c)) (q .area) = ee ∙ ap (λ (z : BlockFields). entryIn z (q .area)) fx in
-    let fa : at ≡ areaSector (otherSide (q .side)) A (deviceIn c) = ea ∙ ap₂ (λ (z : Side) (v : Device). areaSector z A v) ew fd in
-    let fm : m ≡ blockSector (otherSide (q .side)) (deviceIn c) = em ∙ ap₂ blockSector ew fd in
+    (rewriteOf q)
+rewrite-made q w e at m k l ew ee ea em ek el =
+    let fa : at ≡ areaSector (otherSide (q .side)) A (q .fields .device) = ea ∙ ap (λ (z : Side). areaSector z A (q .fields .device)) ew in
+    let fm : m ≡ blockSector (otherSide (q .side)) (q .fields .device) = em ∙ ap (λ (z : Side). blockSector z (q .fields .device)) ew in
     λ i.
     record {
       kept = q .side;
       area = q .area;
       bytes = q .bytes;
       sectors = ek i;
-      empty = record { device = fd i; a = Unused; b = Unused };
-      part = record { area = fa i; block = fm i; fields = record { device = fd i; a = fe i; b = Unused } };
+      empty = record { device = q .fields .device; a = Unused; b = Unused };
+      part = record { area = fa i; block = fm i; fields = record { device = q .fields .device; a = ee i; b = Unused } };
       last = el i;
     }
 
@@ -89,12 +75,12 @@ module _ (f b : List ℕ) (a : Answer) (ea : a ≡ discovery f b) where
     pub mend-none : t ≡ true → Mending.InStep ≡ mending f b
     unfolding mending
     mend-none h =
-        sym (ap (λ (z : Bool). cond z Mending.InStep (Mending.Needed (rewriteOf (copyOn (q .side) f b) q))) (sym et ∙ h))
+        sym (ap (λ (z : Bool). cond z Mending.InStep (Mending.Needed (rewriteOf q))) (sym et ∙ h))
         ∙ ap (λ (z : Answer). mendingAfter z f b) (sym e ∙ ea)
 
-    pub mend-needed : t ≡ false → (s : Side) → q .side ≡ s → (p : Rewrite) → p ≡ rewriteOf (copyOn s f b) q → Mending.Needed p ≡ mending f b
+    pub mend-needed : t ≡ false → (p : Rewrite) → p ≡ rewriteOf q → Mending.Needed p ≡ mending f b
     unfolding mending
-    mend-needed h s es p ep =
-        ap Mending.Needed (ep ∙ ap (λ (z : Side). rewriteOf (copyOn z f b) q) (sym es))
-        ∙ (sym (ap (λ (z : Bool). cond z Mending.InStep (Mending.Needed (rewriteOf (copyOn (q .side) f b) q))) (sym et ∙ h))
+    mend-needed h p ep =
+        ap Mending.Needed ep
+        ∙ (sym (ap (λ (z : Bool). cond z Mending.InStep (Mending.Needed (rewriteOf q))) (sym et ∙ h))
         ∙ ap (λ (z : Answer). mendingAfter z f b) (sym e ∙ ea))

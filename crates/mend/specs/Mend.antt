@@ -1,7 +1,7 @@
 -- Mending, document 01's word for repair: what it stores, in which groups. Document 01, 'Updates, formatting and mending'.
 use Prim.Native.Nat.{ℕ}
 use mathlib.Core.Bool.{Bool, cond}
-use mathlib.Core.List.{List, [], _∷_}
+use mathlib.Core.List.{List, [], _∷_, _++_}
 use Rattle.layout.specs.declared.Device.{Device}
 use Rattle.layout.specs.declared.Side.{Side}
 use Rattle.layout.specs.declared.Area.{Area}
@@ -43,14 +43,18 @@ laterWhole c = whole c (fieldsOf (blockIn c)) (newest (fieldsOf (blockIn c)))
 unfoldable pub lastGroup : Side → List ℕ → Groups
 lastGroup w c = cond (laterWhole c) [] (blockStore w (deviceIn c) (blockLike c (blanked (fieldsOf (blockIn c)))) ∷ [])
 
--- The copy c of side w, with the found record r in area x, is kept and the other is rewritten: its signature block with both
--- entries unused, then the record in area a, its last sector filled with zeros, then its block with that entry.
+-- A copy is written anew on side w, with the identity of the copy c, a record r and its entry e: its signature block with both entries
+-- unused, then the record in area a, its last sector filled with zeros, then its block with that entry.
+abbrev pub anewGroups : Side → List ℕ → Entry → List ℕ → Groups
+anewGroups w c e r =
+    blockStore w (deviceIn c) (blockLike c (emptied (deviceIn c)))
+    ∷ recordStores (areaSector w A (deviceIn c)) r
+    ∷ blockStore w (deviceIn c) (blockLike c (refilled (deviceIn c) e))
+    ∷ []
+
+-- The copy c of side w, with the found record r in area x, is kept and the other is rewritten.
 unfoldable pub rewriting : Side → List ℕ → Area → List ℕ → Groups
-rewriting w c x r =
-    blockStore (otherSide w) (deviceIn c) (blockLike c (emptied (deviceIn c)))
-    ∷ recordStores (areaSector (otherSide w) A (deviceIn c)) r
-    ∷ blockStore (otherSide w) (deviceIn c) (blockLike c (refilled (deviceIn c) (entryIn (fieldsOf (blockIn c)) x)))
-    ∷ lastGroup w c
+rewriting w c x r = anewGroups (otherSide w) c (entryIn (fieldsOf (blockIn c)) x) r ++ lastGroup w c
 
 -- Mending serves any state that discovery answers. In step: no stores. Otherwise the copy with the found record is kept.
 abbrev pub groupsAfter : Answer → List ℕ → List ℕ → Groups

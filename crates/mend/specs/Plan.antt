@@ -5,52 +5,51 @@ use mathlib.Core.Bool.{cond}
 use mathlib.Core.List.{List}
 use lib.Dec.{leb, ltb, eqb}
 use Rattle.refusal.specs.Numbers.{sliceSize, noStore}
-use Rattle.layout.specs.declared.Side.{Side}
 use Rattle.layout.specs.declared.Area.the-variants.{A}
 use Rattle.layout.specs.Places.{blockSector, areaSector}
-use Rattle.block.specs.Block.{fieldsOf}
 use Rattle.discovery.specs.declared.Finding.{Finding}
 use Rattle.discovery.specs.declared.Answer.{Answer}
 use Rattle.discovery.specs.declared.Answer.the-variants as Answer
-use Rattle.copy.specs.Copy.{blockIn, areaBytes, entryIn, otherSide, deviceIn}
+use Rattle.copy.specs.Copy.{areaBytes, entryIn, otherSide, newest, sameArea}
 use Rattle.discovery.specs.Discovery.{discovery, inStep, copyOn}
 use Rattle.stores.specs.declared.Given.{Given}
 use Rattle.stores.specs.declared.Given.the-variants as Given
 use Rattle.stores.specs.Stores.{sectorsOf}
-use Rattle.stores.specs.Given.{lentRight, blockAnswer, blockBytes, partAnswer, partBytes}
+use Rattle.stores.specs.Given.{lentRight, blockGiven, blockLeft, partGiven, partLeft}
 use Rattle.mend.specs.declared.Last.{Last}
 use Rattle.mend.specs.declared.Last.the-variants as Last
 use Rattle.mend.specs.declared.Rewrite.{Rewrite}
 use Rattle.mend.specs.declared.Mending.{Mending}
 use Rattle.mend.specs.declared.Mending.the-variants as Mending
-use Rattle.mend.specs.Mend.{emptied, refilled, blanked, laterWhole}
+use Rattle.mend.specs.Mend.{emptied, refilled, blanked}
 
--- the last store, to the kept block
-abbrev pub lastOf : Side → List ℕ → Last
-lastOf w c = cond (laterWhole c) Last.Absent (Last.Blank (blockSector w (deviceIn c)) (blanked (fieldsOf (blockIn c))))
+-- the last store, to the kept block: there is one where its later entry is not whole, which is where the found record is not that entry's
+abbrev pub lastOf : Finding → Last
+lastOf q =
+    cond (sameArea (q .area) (newest (q .fields))) Last.Absent (Last.Blank (blockSector (q .side) (q .fields .device)) (blanked (q .fields)))
 
--- what is stored where the copy c, with the found record q, is kept
-abbrev pub rewriteOf : List ℕ → Finding → Rewrite
-rewriteOf c q =
+-- what is stored where the copy with the found record q is kept
+abbrev pub rewriteOf : Finding → Rewrite
+rewriteOf q =
     record {
       kept = q .side;
       area = q .area;
       bytes = q .bytes;
       sectors = sectorsOf (q .bytes);
-      empty = emptied (deviceIn c);
+      empty = emptied (q .fields .device);
       part =
           record {
-            area = areaSector (otherSide (q .side)) A (deviceIn c);
-            block = blockSector (otherSide (q .side)) (deviceIn c);
-            fields = refilled (deviceIn c) (entryIn (fieldsOf (blockIn c)) (q .area));
+            area = areaSector (otherSide (q .side)) A (q .fields .device);
+            block = blockSector (otherSide (q .side)) (q .fields .device);
+            fields = refilled (q .fields .device) (entryIn (q .fields) (q .area));
           };
-      last = lastOf (q .side) c;
+      last = lastOf q;
     }
 
 -- what `work_out` answers
 abbrev pub mendingAfter : Answer → List ℕ → List ℕ → Mending
 mendingAfter (Answer.Refused n) f b = Mending.Refused n
-mendingAfter (Answer.Found q o) f b = cond (inStep f b) Mending.InStep (Mending.Needed (rewriteOf (copyOn (q .side) f b) q))
+mendingAfter (Answer.Found q o) f b = cond (inStep f b) Mending.InStep (Mending.Needed (rewriteOf q))
 
 unfoldable pub mending : List ℕ → List ℕ → Mending
 mending f b = mendingAfter (discovery f b) f b
@@ -78,23 +77,23 @@ groupOf (Mending.Refused n) i = 4
 -- the last store's sector and bytes
 abbrev pub lastAnswer : Last → List ℕ → List ℕ → Given
 lastAnswer Last.Absent c out = Given.Refused noStore
-lastAnswer (Last.Blank s g) c out = blockAnswer s g c out
+lastAnswer (Last.Blank s g) c out = blockGiven s g c out
 
 abbrev pub lastBytes : Last → List ℕ → List ℕ → List ℕ
 lastBytes Last.Absent c out = out
-lastBytes (Last.Blank s g) c out = blockBytes g c out
+lastBytes (Last.Blank s g) c out = blockLeft g c out
 
 -- store i with the kept copy c: the other block emptied, then the record and the block that names it, then the last
 abbrev pub rewriteAnswer : Rewrite → List ℕ → ℕ → List ℕ → Given
 rewriteAnswer p c i out =
-    cond (eqb i 0) (blockAnswer (p .part .block) (p .empty) c out)
-    (cond (leb i (p .sectors + 1)) (partAnswer (p .part) (p .sectors) c (i - 1) out)
+    cond (eqb i 0) (blockGiven (p .part .block) (p .empty) c out)
+    (cond (leb i (p .sectors + 1)) (partGiven (p .part) (p .sectors) c (areaBytes c (p .area) (p .bytes)) (i - 1) out)
     (cond (leb i (p .sectors + 2)) (lastAnswer (p .last) c out) (Given.Refused noStore)))
 
 abbrev pub rewriteBytes : Rewrite → List ℕ → ℕ → List ℕ → List ℕ
 rewriteBytes p c i out =
-    cond (eqb i 0) (blockBytes (p .empty) c out)
-    (cond (leb i (p .sectors + 1)) (partBytes (p .part) (p .sectors) c (areaBytes c (p .area) (p .bytes)) (i - 1) out)
+    cond (eqb i 0) (blockLeft (p .empty) c out)
+    (cond (leb i (p .sectors + 1)) (partLeft (p .part) (p .sectors) c (areaBytes c (p .area) (p .bytes)) (i - 1) out)
     (cond (leb i (p .sectors + 2)) (lastBytes (p .last) c out) out))
 
 -- what `store` answers and leaves, where the slices have their sizes: 23 past the last store

@@ -9,8 +9,8 @@ use discovery::Answer;
 use discovery::Finding;
 use layout::Area;
 use layout::Side;
-use update::Given;
-use update::Part;
+use stores::Given;
+use stores::Part;
 
 // The last store of a mend, where the kept copy's later entry is not whole: the sector of its block, and the block's numbers
 // with that entry unused.
@@ -38,35 +38,37 @@ pub enum Mending {
     Refused(u8),
 }
 
-// The last store where the copy c of side w is kept.
-fn last_store(w: Side, c: &[u8]) -> Last
-    ensures { λ r. ⌜ r ≡ lastOf w (now (c .entry)) ⌝ }
+// The last store where the copy with the found record q is kept: none where that record is the later entry's, which is whole then.
+fn last_store(q: Finding) -> Last
+    ensures { λ r. ⌜ r ≡ lastOf q ⌝ }
 {
-    let x = block::fields(endian::window(c, 512, 512));
-    let y = discovery::newest(x);
-    if discovery::whole(c, x, y) {
+    let side = q.side;
+    let area = q.area;
+    let x = q.fields;
+    let y = copy::newest(x);
+    if copy::same_area(area, y) {
         return Last::Absent;
     }
     Last::Blank(
-        layout::block_sector(w, x.device),
-        update::with_entry(x, y, Entry::Unused),
+        layout::block_sector(side, x.device),
+        stores::with_entry(x, y, Entry::Unused),
     )
 }
 
-// What is stored where the copy c, with the found record q, is kept.
-fn plan_for(c: &[u8], q: Finding) -> Rewrite
-    ensures { λ r. ⌜ r ≡ rewriteOf (now (c .entry)) q ⌝ }
+// What is stored where the copy with the found record q is kept.
+fn plan_for(q: Finding) -> Rewrite
+    ensures { λ r. ⌜ r ≡ rewriteOf q ⌝ }
 {
-    let x = block::fields(endian::window(c, 512, 512));
+    let x = q.fields;
     let d = x.device;
     let side = q.side;
     let area = q.area;
-    let w = discovery::other_side(side);
-    let e = discovery::entry_in(x, area);
+    let w = copy::other_side(side);
+    let e = copy::entry_in(x, area);
     let at = layout::area_sector(w, Area::A, d);
     let block = layout::block_sector(w, d);
-    let k = update::sectors(q.bytes);
-    let last = last_store(side, c);
+    let k = stores::sectors(q.bytes);
+    let last = last_store(q);
     let empty = BlockFields {
         device: d,
         a: Entry::Unused,
@@ -98,7 +100,7 @@ fn plan_for(c: &[u8], q: Finding) -> Rewrite
 pub fn work_out(f: &[u8], b: &[u8]) -> Mending
     ensures { λ m. ⌜ m ≡ mending (now (f .entry)) (now (b .entry)) ⌝ }
 {
-    let v = discovery::survey(f, b);
+    let v = discovery::examine(f, b);
     let a = v.answer;
     match a {
         Answer::Refused(n) => Mending::Refused(n),
@@ -106,11 +108,7 @@ pub fn work_out(f: &[u8], b: &[u8]) -> Mending
             if v.step {
                 return Mending::InStep;
             }
-            let side = q.side;
-            match side {
-                Side::Front => Mending::Needed(plan_for(f, q)),
-                Side::Back => Mending::Needed(plan_for(b, q)),
-            }
+            Mending::Needed(plan_for(q))
         }
     }
 }
@@ -177,7 +175,7 @@ fn put_last(x: Last, c: &[u8], out: &mut [u8]) -> Given
 {
     match x {
         Last::Absent => Given::Refused(refusal::NO_STORE),
-        Last::Blank(s, g) => update::put_block(s, g, c, out),
+        Last::Blank(s, g) => stores::put_block(s, g, c, out),
     }
 }
 
@@ -192,11 +190,11 @@ fn put_rewrite(p: Rewrite, c: &[u8], i: u64, out: &mut [u8]) -> Given
     let last = p.last;
     let k = p.sectors;
     if i == 0 {
-        return update::put_block(part.block, empty, c, out);
+        return stores::put_block(part.block, empty, c, out);
     }
     if i <= k as u64 + 1 {
         let r = endian::window(c, layout::area_offset(area), p.bytes as usize);
-        return update::put_part(part, k, c, r, i - 1, out);
+        return stores::put_part(part, k, c, r, i - 1, out);
     }
     if i <= k as u64 + 2 {
         return put_last(last, c, out);
@@ -212,7 +210,7 @@ pub fn store(m: Mending, f: &[u8], b: &[u8], i: u64, out: &mut [u8]) -> Given
     ensures { λ _. ⌜ now (out .exit) ≡ storeBytes m (now (f .entry)) (now (b .entry)) i (now (out .entry)) ⌝ }
 {
     let n = layout::copy_bytes();
-    let sized = ((f.len() == n) & (b.len() == n)) & (out.len() == 512);
+    let sized = ((f.len() == n) & (b.len() == n)) & (out.len() == layout::SECTOR_BYTES);
     if !sized {
         return Given::Refused(refusal::SLICE_SIZE);
     }

@@ -34,9 +34,12 @@ unfolding areaOffset copyBytes
 area-fits A = omega arith
 area-fits B = omega arith
 
+-- the bytes of a used entry within its limits are a record's
+pub used-allowed : (e : Entry) (h : Holding) → e ≡ Used h → entryAllowed e ≡ true → lengthAllowed (h .bytes) ≡ true
+used-allowed e h d w = and-left (lengthAllowed (h .bytes)) (nanosecondsAllowed (h .nanoseconds)) (sym (ap entryAllowed d) ∙ w)
+
 pub used-bytes : (e : Entry) (h : Holding) → e ≡ Used h → entryAllowed e ≡ true → h .bytes ≤ recordLimit
-used-bytes e h d w =
-    length-facts (h .bytes) (and-left (lengthAllowed (h .bytes)) (nanosecondsAllowed (h .nanoseconds)) (sym (ap entryAllowed d) ∙ w)) .1
+used-bytes e h d w = length-facts (h .bytes) (used-allowed e h d w) .1
 
 module _ (c : List ℕ) (ok : first (readTests (blockIn c)) ≡ 0) (wh : whole c (fieldsOf (blockIn c)) (newest (fieldsOf (blockIn c))) ≡ true) where
   abbrev x : Area

@@ -4,12 +4,6 @@ use borrow.Author.Needs.{needs}
 use Rattle.mend.proofs.plan_for.Statement.{statement}
 use Rattle.mend.proofs.plan_for.Tie as tie
 
-window-requires : tie.Need-window-requires
-window-requires c κs = search needs
-
-fields-requires : tie.Need-fields-requires
-fields-requires c κs = search needs
-
 other-side-requires : tie.Need-other-side-requires
 other-side-requires c κs = search needs
 
@@ -29,14 +23,12 @@ last-store-requires : tie.Need-last-store-requires
 last-store-requires c κs = search needs
 
 returns : tie.Need-returns
-returns c = rewrite-made (c .before .before .before .before .before .before .before .before .before .before .args .c .now) (c .before .before .before .before .before .before .before .before .before .before .args .q) _ _ _ _ _ _ _ _ (c .before .before .before .before .before .before .before .before .window .ensures) (c .before .before .before .before .before .before .before .fields .ensures) (c .before .before .before .before .before .other-side .ensures) (c .before .before .before .before .entry-in .ensures) (c .before .before .before .area-sector .ensures) (c .before .before .block-sector .ensures) (c .before .sectors .ensures) (c .last-store .ensures)
+returns c = rewrite-made (c .before .before .before .before .before .before .before .before .args .q) _ _ _ _ _ _ (c .before .before .before .before .before .other-side .ensures) (c .before .before .before .before .entry-in .ensures) (c .before .before .before .area-sector .ensures) (c .before .before .block-sector .ensures) (c .before .sectors .ensures) (c .last-store .ensures)
 
 pub plan-for-spec : {M : Type 1} → statement M
 plan-for-spec =
     tie.close
     (tie.spec
-    window-requires
-    fields-requires
     other-side-requires
     entry-in-requires
     area-sector-requires
