@@ -32,7 +32,7 @@ use Rattle.block.proofs.RoundTrip.{read-back}
 use Rattle.discovery.specs.declared.Other.the-variants.{Both}
 use Rattle.discovery.specs.declared.Answer.the-variants.{Found}
 use Rattle.copy.specs.Copy.{blockIn, newest, deviceIn}
-use Rattle.discovery.specs.Discovery.{recordAt, sized, sameDevice, discovery}
+use Rattle.discovery.specs.Discovery.{findingOf, sized, sameDevice, discovery}
 use Rattle.stores.specs.Stores.{sectorsOf, holdingFor}
 use Rattle.stores.specs.Given.{layTests, laid}
 use Rattle.stores.proofs.Holding.{Holds}
@@ -145,7 +145,7 @@ module _ {f b : List ℕ} {v : Device} {p u : List ℕ} {t : Time} {r : List ℕ
   one-device : sameDevice (firstFields v t r) (firstFields v t r) ≡ true
   one-device = same-device-test (firstFields v t r) (firstFields v t r) refl
 
-  pub format-found : discovery (formattedCopy v p u t r) (formattedCopy v p u t r) ≡ Found (recordAt Front A (holdingFor t r)) Both
+  pub format-found : discovery (formattedCopy v p u t r) (formattedCopy v p u t r) ≡ Found (findingOf Front (firstFields v t r) A (holdingFor t r)) (Both (firstFields v t r))
   format-found = found-front (holds k ts vs) (holds k ts vs) both-sized one-device t refl refl
 
   pub format-in-step : InStepOn (formattedCopy v p u t r) (formattedCopy v p u t r) t r

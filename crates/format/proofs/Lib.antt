@@ -2,5 +2,5 @@
 pub mod Checking
 pub mod Filling
 pub mod Demand
-pub mod Placed
+pub mod OnDevice
 pub mod Starting

@@ -6,23 +6,21 @@ use mathlib.Core.Bool.{true}
 use mathlib.Core.List.{List}
 use lib.Dec.{leb}
 use lib.ListN.{length, getD}
-use Rattle.refusal.specs.Tests.{first, AllHold, Fails}
+use Rattle.refusal.specs.Tests.{first, Fails}
 use Rattle.layout.specs.declared.Device.{Device}
 use Rattle.layout.specs.declared.Side.{Side}
 use Rattle.layout.specs.declared.Area.the-variants.{A}
-use Rattle.layout.specs.Limits.{deviceTests, nanosecondsAllowed}
+use Rattle.layout.specs.Limits.{deviceTests, mostNanoseconds, sectorBytes, blockOffset}
 use Rattle.layout.specs.Places.{areaOffset, copyBytes}
 use Rattle.block.specs.declared.Time.{Time}
 use Rattle.block.specs.declared.Verdict.the-variants as Verdict
-use Rattle.block.specs.Entry.{laterThan}
-use Rattle.record.specs.Accept.{contentTests}
+use Rattle.record.specs.Demand.{RightBytes}
 use Rattle.copy.specs.Copy.{readingIn, deviceIn}
 use Rattle.discovery.specs.Discovery.{copyOn}
 use Rattle.crash.specs.Crash.{Sectors, Sound, copyFrom}
-use Rattle.stores.specs.States.{Gives, InStepOn}
-use Rattle.update.specs.Demand.{Start}
+use Rattle.stores.specs.States.{Gives, InStepOn, Ready}
 use Rattle.format.specs.Format.{formatTests, formatNumber, firstFields, formattedCopy}
-use Rattle.format.specs.Placed.{onDevice}
+use Rattle.format.specs.OnDevice.{onDevice}
 
 -- A refusal is the lowest number that applies.
 abbrev pub Lowest : Type 0
@@ -46,7 +44,7 @@ Formatting =
 abbrev pub Zero : Type 0
 Zero =
     (f b : List ℕ) (v : Device) (p u : List ℕ) (t : Time) (r : List ℕ) (i : ℕ) → formatNumber f b v p u t r ≡ 0
-    → (512 ≤ i → i < 1024 → ⊥) → (areaOffset A ≤ i → i < areaOffset A + length r → ⊥)
+    → (blockOffset ≤ i → i < blockOffset + sectorBytes → ⊥) → (areaOffset A ≤ i → i < areaOffset A + length r → ⊥)
     → getD (formattedCopy v p u t r) i 0 ≡ 0
 
 -- On any allowed device numbers a device has any two copies: each is read from it where S and L place it.
@@ -55,16 +53,15 @@ Placing =
     (v : Device) (f b : List ℕ) → first (deviceTests v) ≡ 0 → length f ≡ copyBytes → length b ≡ copyBytes
     → Sound (onDevice v f b) × ((s : Side) → copyFrom s v (onDevice v f b) ≡ copyOn s f b)
 
--- Demand 3 speaks of something: on a device with formatted copies every update that the paper does not refuse, by its time
--- and its record, has a start.
+-- Demand 3 speaks of something: a device with formatted copies is one that every update may start from.
 abbrev pub Starting : Type 0
 Starting =
     (f b : List ℕ) (v : Device) (p u : List ℕ) (t : Time) (r : List ℕ) → t .seconds < 2 ^ 64 → v .sectors < 2 ^ 64
     → formatNumber f b v p u t r ≡ 0
-    → (t' : Time) (r' : List ℕ) → t' .seconds < 2 ^ 64 → nanosecondsAllowed (t' .nanoseconds) ≡ true → laterThan t' t ≡ true
-    → AllHold (contentTests v r')
-    → Start v (onDevice v (formattedCopy v p u t r) (formattedCopy v p u t r)) t' r'
+    → Ready v (onDevice v (formattedCopy v p u t r) (formattedCopy v p u t r)) t r
 
--- And there is such a device for any allowed device numbers.
+-- And there is such a device for any allowed device numbers, with any time and any record that is right there.
 abbrev pub Possible : Type 0
-Possible = (v : Device) → first (deviceTests v) ≡ 0 → v .sectors < 2 ^ 64 → (d : Sectors) × ((t : Time) × ((r : List ℕ) × Start v d t r))
+Possible =
+    (v : Device) (t : Time) (r : List ℕ) → first (deviceTests v) ≡ 0 → v .sectors < 2 ^ 64 → t .seconds < 2 ^ 64 → t .nanoseconds ≤ mostNanoseconds → RightBytes v r
+    → (d : Sectors) × Ready v d t r

@@ -4,6 +4,7 @@ use Prim.Native.Nat.{ℕ}
 use mathlib.Core.List.{List}
 use Rattle.endian.specs.Bytes.{window, splice, zeros}
 use Rattle.layout.specs.declared.Area.the-variants.{A}
+use Rattle.layout.specs.Limits.{sectorBytes, blockOffset}
 use Rattle.layout.specs.Places.{copyBytes}
 use Rattle.block.specs.declared.BlockFields.{BlockFields}
 use Rattle.block.specs.Writing.{written}
@@ -11,4 +12,4 @@ use Rattle.stores.specs.Given.{laid}
 
 -- zeros, then the block into sector 1 as the writer leaves it, then the record into area a
 unfoldable pub filled : List ℕ → List ℕ → BlockFields → List ℕ → List ℕ
-filled p u x r = laid (splice (zeros copyBytes) 512 (written (window (zeros copyBytes) 512 512) p u x)) A r
+filled p u x r = laid (splice (zeros copyBytes) blockOffset (written (window (zeros copyBytes) blockOffset sectorBytes) p u x)) A r

@@ -9,7 +9,7 @@ use Rattle.refusal.specs.Numbers.{sliceSize, deviceSize, uuidByte, metadataSize
 use Rattle.refusal.specs.Tests.{Test, _elseRefuse_, first}
 use Rattle.layout.specs.declared.Device.{Device}
 use Rattle.layout.specs.declared.Area.the-variants.{A}
-use Rattle.layout.specs.Limits.{sizeAllowed, metadataAllowed, reservedAllowed, nanosecondsAllowed}
+use Rattle.layout.specs.Limits.{sizeAllowed, metadataAllowed, reservedAllowed, nanosecondsAllowed, blockOffset}
 use Rattle.layout.specs.Places.{copyBytes}
 use Rattle.block.specs.declared.Time.{Time}
 use Rattle.block.specs.declared.Entry.the-variants.{Unused, Used}
@@ -45,7 +45,7 @@ firstFields v t r = record { device = v; a = Used (holdingFor t r); b = Unused }
 
 -- the copy that formatting leaves, front and back the same: zeros, the signature block in sector 1, the record in area a
 unfoldable pub formattedCopy : Device → List ℕ → List ℕ → Time → List ℕ → List ℕ
-formattedCopy v p u t r = laid (splice (zeros copyBytes) 512 (blockOf p u (firstFields v t r))) A r
+formattedCopy v p u t r = laid (splice (zeros copyBytes) blockOffset (blockOf p u (firstFields v t r))) A r
 
 -- what a lent copy c holds after formatting f and b: that, or what was there
 unfoldable pub formatted : List ℕ → List ℕ → List ℕ → Device → List ℕ → List ℕ → Time → List ℕ → List ℕ

@@ -1,5 +1,5 @@
 -- What the contracts of `format` cite, and what holds of formatted copies.
 pub mod Format
 pub mod Filling
-pub mod Placed
+pub mod OnDevice
 pub mod Demand

@@ -76,8 +76,8 @@ fn fill(c: &mut [u8], pool: &[u8], blockdev: &[u8], x: BlockFields, r: &[u8])
     ensures { λ _. ⌜ now (c .exit) ≡ filled (now (pool .entry)) (now (blockdev .entry)) x (now (r .entry)) ⌝ }
 {
     endian::clear(c);
-    block::write(&mut c[512..1024], pool, blockdev, x);
-    update::lay(c, Area::A, r);
+    block::write(&mut c[layout::BLOCK_OFFSET..layout::BLOCK_END], pool, blockdev, x);
+    stores::lay(c, Area::A, r);
 }
 
 // Formats the two copies of a device with these numbers and UUIDs, with a record and its time, and answers 0; or changes

@@ -14,8 +14,10 @@ pub const HEADER_SECTORS: u64 = 8;
 
 pub const HEADER_BYTES: usize = HEADER_SECTORS as usize * SECTOR_BYTES;
 
-// Where the signature block begins in a copy as it is lent, in bytes: in the header's sector 1.
+// Where the signature block begins and ends in a copy as it is lent, in bytes: the header's sector 1.
 pub const BLOCK_OFFSET: usize = SECTOR_BYTES;
+
+pub const BLOCK_END: usize = BLOCK_OFFSET + SECTOR_BYTES;
 
 // The most bytes of a record.
 pub const RECORD_LIMIT: u64 = 8192;

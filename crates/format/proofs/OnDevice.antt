@@ -25,7 +25,7 @@ use Rattle.crash.specs.Crash.{Sectors, Sound, gather, areaSectors, copyFrom}
 use Rattle.crash.proofs.Copies.{limit-sectors, limit-small}
 use Rattle.stores.proofs.Places.{Sizes}
 use Rattle.stores.proofs.Whole.{area-fits}
-use Rattle.format.specs.Placed.{Run, has, holding, headerRun, areaRun, runsOf, onDevice}
+use Rattle.format.specs.OnDevice.{Run, has, holding, headerRun, areaRun, runsOf, onDevice}
 
 -- a run's bytes are those of its sectors
 abbrev Full : List Run → Type 0
