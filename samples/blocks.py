@@ -1,104 +1,52 @@
 #!/usr/bin/env python3
 """Makes the samples of the program block_samples: its stdin and the stdout that it must print.
 
-It stands apart from the library: the layout, the limits and the refusals are written out here from document 01 alone,
-with struct and zlib of the standard library, and nothing here is taken from what the program prints. Each sample says
-by itself what must come of it, and the reader below must come to the same before a byte is written.
+    python3 samples/blocks.py [FOLDER]
 
-Run it from anywhere; it writes crates/block_samples/stdin and crates/block_samples/stdout, the same bytes each time.
+Each sample says by itself what must come of it, and the reader in layout.py must come to the same before a byte is written.
+
 stdin: for each sample a length of two bytes, lowest first, then that many bytes; the length 65,535 ends the list.
 stdout: a line for each sample, then a line for each device's places, then a line for each refusal number.
 """
-import struct
-import zlib
-from pathlib import Path
-
-SIGNATURE = bytes.fromhex("21 53 74 72 61 30 74 69 73 86 ff 02 5e 41 72 68")
-
-# Document 01's table, all but the CRC: signature, S, flags, two UUIDs, entry a, zeros, entry b, zeros, L, R, zeros.
-BODY = struct.Struct("<16sQI32s32sQIII12sQIII12sII344s")
-assert BODY.size == 508
+import layout
+from layout import (LEAST_METADATA, LEAST_SIZE, MOST_METADATA, MOST_NANOSECONDS, MOST_RESERVED, MOST_SIZE, RECORD_LIMIT,
+                    SIGNATURE, UNUSED, block_faults, data_range, device_refusal, fields_of, number, places, seal, write)
 
 POOL = b"0123456789abcdef0f1e2d3c4b5a6978"
 UUID = b"fedcba9876543210a1b2c3d4e5f60789"
-UNUSED = (0, 0, 0, 0)
-
-LEAST_S, MOST_S = 2097152, 2**64 - 1
-LEAST_L, MOST_L = 2040, 16384
-MOST_R = 65536
-MOST_BYTES = 8192
-MOST_NS = 999999999
 
 
 # Making blocks
 
-def seal(body):
-    """The block with these bytes 4 to 511 and their CRC."""
-    return struct.pack("<I", zlib.crc32(body)) + body
-
-
-def body(s=LEAST_S, l=LEAST_L, r=0, pool=POOL, uuid=UUID, a=UNUSED, b=UNUSED, flags=0, signature=SIGNATURE):
-    return BODY.pack(signature, s, flags, pool, uuid, *a, bytes(12), *b, bytes(12), l, r, bytes(344))
-
-
-def block(**fields):
-    return seal(body(**fields))
+def block(s=LEAST_SIZE, l=LEAST_METADATA, r=0, pool=POOL, uuid=UUID, **fields):
+    return layout.block((s, l, r), pool, uuid, **fields)
 
 
 def changed(whole, at, value):
     """The block with another byte at an offset, and its CRC anew."""
-    b = bytearray(whole)
-    assert b[at] != value
-    b[at] = value
-    return seal(bytes(b[4:]))
+    assert whole[at] != value
+    return seal(layout.laid(whole, [(at, bytes([value]))])[4:])
 
 
 def spoiled(whole, at, bits):
     """The block with bits of a byte flipped, and its CRC left as it was."""
-    b = bytearray(whole)
-    b[at] ^= bits
-    return bytes(b)
+    return layout.laid(whole, [(at, bytes([whole[at] ^ bits]))])
 
 
-# Reading blocks: a list of all the refusals that apply, and the line of the lowest
-
-def entry_fault(e):
-    seconds, nanoseconds, used, crc = e
-    return e != UNUSED and not (1 <= used <= MOST_BYTES and nanoseconds <= MOST_NS)
-
-
-def faults(b):
-    """Each of 1 to 9 that applies to these bytes, ascending."""
-    if len(b) != 512:
-        return [1]
-    sig, s, flags, pool, uuid, sa, na, ua, ca, z1, sb, nb, ub, cb, z2, l, r, z3 = BODY.unpack(b[4:])
-    ea, eb = (sa, na, ua, ca), (sb, nb, ub, cb)
-    both = ea != UNUSED and eb != UNUSED
-    broken = {
-        2: sig != SIGNATURE,
-        3: struct.unpack("<I", b[:4])[0] != zlib.crc32(b[4:]),
-        4: s < LEAST_S,
-        5: flags != 0 or any(z1) or any(z2) or any(z3),
-        6: any(x not in b"0123456789abcdef" for x in pool + uuid),
-        7: l % 2 == 1 or l < LEAST_L or l > MOST_L,
-        8: r > MOST_R,
-        9: entry_fault(ea) or entry_fault(eb) or (both and (sa, na) == (sb, nb)),
-    }
-    return [n for n in sorted(broken) if broken[n]]
-
+# The line of a block
 
 def entry_text(e):
     return "-" if e == UNUSED else "%d.%d:%d:%08x" % e
 
 
 def line(b):
-    found = faults(b)
+    found = block_faults(b)
     if found:
         return "refused %d" % found[0]
-    f = BODY.unpack(b[4:])
-    s, pool, uuid, l, r = f[1], f[3], f[4], f[15], f[16]
-    names = (pool.decode("ascii"), uuid.decode("ascii"), entry_text(f[5:9]), entry_text(f[10:14]))
-    return "accepted %d %d %d %s same" % (s, l, r, " ".join(names))
+    f = fields_of(b)
+    device, pool, uuid = f.identity
+    names = (pool.decode("ascii"), uuid.decode("ascii"), *(entry_text(f.entries[area]) for area in "ab"))
+    return "accepted %d %d %d %s same" % (*device, " ".join(names))
 
 
 # The samples: pairs of bytes and what must come of them, 0 for accepted
@@ -112,24 +60,25 @@ def accepted():
         dict(a=first, b=second),
         dict(a=second, b=first),
         # S at its limits, and with its lower half zero
-        dict(s=LEAST_S + 1),
+        dict(s=LEAST_SIZE + 1),
         dict(s=2**32),
         dict(s=2**63),
-        dict(s=MOST_S),
+        dict(s=MOST_SIZE),
         # L and R at their limits
-        dict(l=LEAST_L + 2),
-        dict(l=MOST_L - 2),
-        dict(l=MOST_L),
+        dict(l=LEAST_METADATA + 2),
+        dict(l=MOST_METADATA - 2),
+        dict(l=MOST_METADATA),
         dict(r=1),
-        dict(r=MOST_R),
-        dict(l=MOST_L, r=MOST_R),
-        dict(s=MOST_S, l=MOST_L, r=MOST_R, a=(2**64 - 1, MOST_NS, MOST_BYTES, 2**32 - 1), b=(2**64 - 1, 0, 1, 0)),
+        dict(r=MOST_RESERVED),
+        dict(l=MOST_METADATA, r=MOST_RESERVED),
+        dict(s=MOST_SIZE, l=MOST_METADATA, r=MOST_RESERVED, a=(2**64 - 1, MOST_NANOSECONDS, RECORD_LIMIT, 2**32 - 1),
+             b=(2**64 - 1, 0, 1, 0)),
         # used bytes and nanoseconds at their limits
         dict(a=(0, 0, 1, 0)),
         dict(b=(0, 0, 1, 0)),
-        dict(a=(7, MOST_NS, MOST_BYTES, 0xFFFFFFFF)),
-        dict(b=(7, MOST_NS, MOST_BYTES, 0xFFFFFFFF)),
-        dict(a=(1, 0, 1, 5), b=(1, MOST_NS, MOST_BYTES, 5)),
+        dict(a=(7, MOST_NANOSECONDS, RECORD_LIMIT, 0xFFFFFFFF)),
+        dict(b=(7, MOST_NANOSECONDS, RECORD_LIMIT, 0xFFFFFFFF)),
+        dict(a=(1, 0, 1, 5), b=(1, MOST_NANOSECONDS, RECORD_LIMIT, 5)),
         # one time in seconds but not in nanoseconds, and the other way round
         dict(a=(77, 1, 100, 9), b=(77, 0, 100, 9)),
         dict(a=(76, 3, 100, 9), b=(77, 3, 100, 9)),
@@ -172,7 +121,7 @@ def checksums():
 
 
 def device_sizes():
-    return [(block(s=s), 4) for s in (LEAST_S - 1, 0, 1)]
+    return [(block(s=s), 4) for s in (LEAST_SIZE - 1, 0, 1)]
 
 
 def zero_fields():
@@ -219,17 +168,17 @@ def entries():
     wrong.append(dict(a=(10, 5, 28, 5), b=(10, 5, 28, 5)))
     wrong.append(dict(a=(10, 5, 28, 5), b=(10, 5, 508, 6)))
     wrong.append(dict(a=(0, 0, 1, 5), b=(0, 0, 1, 6)))
-    wrong.append(dict(a=(2**64 - 1, MOST_NS, 1, 5), b=(2**64 - 1, MOST_NS, 1, 6)))
+    wrong.append(dict(a=(2**64 - 1, MOST_NANOSECONDS, 1, 5), b=(2**64 - 1, MOST_NANOSECONDS, 1, 6)))
     return [(block(**f), 9) for f in wrong]
 
 
 # What breaks a rule of 4 to 9, as fields.
 BREAKS = {
-    4: dict(s=LEAST_S - 1),
+    4: dict(s=LEAST_SIZE - 1),
     5: dict(flags=1),
     6: dict(uuid=b"F" + UUID[1:]),
-    7: dict(l=LEAST_L + 1),
-    8: dict(r=MOST_R + 1),
+    7: dict(l=LEAST_METADATA + 1),
+    8: dict(r=MOST_RESERVED + 1),
     9: dict(a=(10, 1000000000, 28, 5)),
 }
 
@@ -244,7 +193,7 @@ def breaking(numbers):
     b = block(**fields)
     if 3 in numbers:
         b = spoiled(b, 0, 1)
-    assert faults(b) == sorted(numbers)
+    assert block_faults(b) == sorted(numbers)
     return b
 
 
@@ -265,33 +214,29 @@ def samples():
 # Places: document 01, 'Where things lie', with the device numbers of its examples
 
 DEVICES = [
-    (LEAST_S, LEAST_L, 0),
-    (LEAST_S - 1, LEAST_L, 0),
-    (LEAST_S, 2041, 0),
-    (LEAST_S, 2038, 0),
-    (LEAST_S, MOST_L, MOST_R),
-    (LEAST_S, MOST_L, MOST_R + 1),
-    (MOST_S, LEAST_L, 0),
-    (MOST_S, MOST_L, MOST_R),
+    (LEAST_SIZE, LEAST_METADATA, 0),
+    (LEAST_SIZE - 1, LEAST_METADATA, 0),
+    (LEAST_SIZE, 2041, 0),
+    (LEAST_SIZE, 2038, 0),
+    (LEAST_SIZE, MOST_METADATA, MOST_RESERVED),
+    (LEAST_SIZE, MOST_METADATA, MOST_RESERVED + 1),
+    (MOST_SIZE, LEAST_METADATA, 0),
+    (MOST_SIZE, MOST_METADATA, MOST_RESERVED),
 ]
 
 
-def places_text(s, l, r):
-    n = 4 if s < LEAST_S else 7 if l % 2 or not LEAST_L <= l <= MOST_L else 8 if r > MOST_R else 0
-    head = "places %d %d %d" % (s, l, r)
+def places_text(*device):
+    n = device_refusal(device)
+    head = "places %d %d %d" % device
     if n:
         return "%s refused %d" % (head, n)
-    # header, signature block, area a, area b, reserved space; each from its first sector
-    front = (0, 1, 8, 8 + l // 2, 8 + l)
-    back = (s - 8, s - 7, s - 8 - l, s - 8 - l // 2, s - 8 - l - r)
-    data = (8 + l + r, s - 8 - l - r)
-    parts = (("front", front), ("back", back), ("data", data))
+    parts = [(side, where.values()) for side, where in places(device).items()] + [("data", data_range(device))]
     return head + "".join(" %s %s" % (name, " ".join(map(str, numbers))) for name, numbers in parts)
 
 
 def examples():
     """Examples 1, 2, 3, 5 and 6 of document 01 and the number of example 4, as the paper has them."""
-    text = places_text(LEAST_S, LEAST_L, 0).split()
+    text = places_text(LEAST_SIZE, LEAST_METADATA, 0).split()
     assert text[11:16] == ["2097144", "2097145", "2095104", "2096124", "2095104"]
     assert text[17:] == ["2048", "2095104"] and 2095104 - 2048 == 2093056
     assert places_text(2097151, 2040, 0).endswith("refused 4")
@@ -316,20 +261,18 @@ def subject_text(n):
 
 
 def main():
-    crate = Path(__file__).resolve().parent.parent / "crates" / "block_samples"
     examples()
     given, wanted = b"", []
     for b, n in samples():
-        assert (faults(b) or [0])[0] == n, (n, faults(b))
-        given += struct.pack("<H", len(b)) + b
+        assert (block_faults(b) or [0])[0] == n, (n, block_faults(b))
+        given += number(len(b), 2) + b
         wanted.append(line(b))
-    given += struct.pack("<H", 65535)
+    given += number(65535, 2)
     count = len(wanted)
     wanted += [places_text(*d) for d in DEVICES]
     wanted += [subject_text(n) for n in [*range(31), 255]]
-    (crate / "stdin").write_bytes(given)
-    (crate / "stdout").write_text("\n".join(wanted) + "\n", encoding="ascii")
-    print("%d samples, %d bytes; %d lines" % (count, len(given), len(wanted)))
+    write("block_samples", wanted, given)
+    print("blocks: %d samples, %d bytes; %d lines" % (count, len(given), len(wanted)))
 
 
 if __name__ == "__main__":

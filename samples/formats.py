@@ -1,61 +1,26 @@
 #!/usr/bin/env python3
-"""Makes the sample formats and what must be printed for them.
+"""Makes the sample formats and what must be printed for them, of the program format_samples.
 
-    python3 samples/formats.py        run at the repository's root
+    python3 samples/formats.py [FOLDER]
 
-Written from document 01 alone, with Python's own zlib.crc32; nothing is taken
-from the library. Each sample states its refusal number by hand, and `refusal`
-below works it out a second time by the paper's rules: where the two differ the
-script stops. Running it again gives the same bytes. It writes
-crates/format_samples/stdin and stdout.
+Each sample states its refusal number by hand, and `refusal` below works it out a second time by document 01's rules: where the
+two differ the script stops.
 
-A sample, every number little-endian: the sizes of the two copies that are lent,
-2 bytes each; S in 8, L in 4, R in 4; seconds in 8, nanoseconds in 4; the lengths
-of the pool UUID, the block device UUID and the record, 2 bytes each; then these
-three. Before each sample the front copy holds the first bytes of the whole
-input, and the back copy those from byte 7 on.
+A sample, every number little-endian: the sizes of the two copies that are lent, 2 bytes each; S in 8, L in 4, R in 4; seconds
+in 8, nanoseconds in 4; the lengths of the pool UUID, the block device UUID and the record, 2 bytes each; then these three.
+Before each sample the front copy holds the first bytes of the whole input, and the back copy those from byte 7 on.
 """
-import zlib
-from pathlib import Path
+from layout import (COPY, LEAST_SIZE, MOST_NANOSECONDS, MOST_RESERVED, POOL, RECORD, SMALL, UUID, copy, crc32, data_range,
+                    discover, held, line, metadata_allowed, number, record, record_refusal, uuid_allowed, write)
 
-from dumps import COPY, POOL, RECORD, UUID, answer, copy, held, number
-from updates import record, segments_of
-
-SMALL = (2097152, 2040, 0)
 LARGE = (2 ** 40 + 3, 16384, 65536)
 BACK_FROM = 7
-
-
-def data_range(device):
-    size, metadata, reserved = device
-    return 8 + metadata + reserved, size - 8 - metadata - reserved
 
 
 def many(n, device):
     """A record of n segments with gaps, the last one at the end of the data range."""
     first, end = data_range(device)
-    return record([(1 + i % 4, first + 4 * i, 1 + i % 3) for i in range(n - 1)] + [(2, end - 9, 9)])
-
-
-def record_refusal(device, data):
-    if not 1 <= len(data) <= 8192:
-        return 15
-    size = int.from_bytes(data[4:8], "little")
-    if (len(data) < 8 or data[0:4] != b"\x08\x00\x10\x00" or (len(data) - 8) % 20 or size % 128
-            or not 128 <= size <= 2097152):
-        return 17
-    segments = segments_of(data)
-    if any(data[i:i + 2] != b"\x14\x00" for i in range(8, len(data), 20)):
-        return 17
-    if any(kind not in (1, 2, 3, 4) for kind, _, _ in segments):
-        return 17
-    first, end = data_range(device)
-    if any(n == 0 or s < first or s + n > end for _, s, n in segments):
-        return 18
-    taken = sorted((s, s + n) for _, s, n in segments)
-    if any(a[1] > b[0] for a, b in zip(taken, taken[1:])):
-        return 19
-    return 0
+    return record(*((1 + i % 4, first + 4 * i, 1 + i % 3) for i in range(n - 1)), (2, end - 9, 9))
 
 
 def refusal(front, back, device, pool, uuid, time, data):
@@ -63,15 +28,15 @@ def refusal(front, back, device, pool, uuid, time, data):
     size, metadata, reserved = device
     if (front, back, len(pool), len(uuid)) != (COPY, COPY, 32, 32):
         return 1
-    if size < 2097152:
+    if size < LEAST_SIZE:
         return 4
-    if any(byte not in b"0123456789abcdef" for byte in pool + uuid):
+    if not uuid_allowed(pool + uuid):
         return 6
-    if metadata % 2 or not 2040 <= metadata <= 16384:
+    if not metadata_allowed(metadata):
         return 7
-    if reserved > 65536:
+    if reserved > MOST_RESERVED:
         return 8
-    if time[1] > 999999999:
+    if time[1] > MOST_NANOSECONDS:
         return 9
     return record_refusal(device, data)
 
@@ -79,13 +44,13 @@ def refusal(front, back, device, pool, uuid, time, data):
 def samples():
     """Number, then what differs from a format that is not refused."""
     first, end = data_range(SMALL)
-    yield 0, {"data": record([]), "time": (0, 0)}
+    yield 0, {"data": record(), "time": (0, 0)}
     yield 0, {"data": RECORD}
     yield 0, {"data": many(25, LARGE), "device": LARGE, "time": (2 ** 64 - 1, 999999999)}
     yield 0, {"data": many(26, LARGE), "device": LARGE, "pool": UUID, "uuid": POOL}
     yield 0, {"data": many(409, SMALL), "time": (1, 2)}
-    yield 0, {"data": record([(3, first, end - first)], block_size=2097152), "pool": b"0" * 32, "uuid": b"f" * 32}
-    yield 0, {"device": (2 ** 64 - 1, 2040, 1), "data": record([(1, 2049, 1), (4, 2 ** 64 - 2050 - 8, 1)])}
+    yield 0, {"data": record((3, first, end - first), block_size=2097152), "pool": b"0" * 32, "uuid": b"f" * 32}
+    yield 0, {"device": (2 ** 64 - 1, 2040, 1), "data": record((1, 2049, 1), (4, 2 ** 64 - 2050 - 8, 1))}
     for size in (0, COPY - 1, COPY + 1, 2 * COPY):
         yield 1, {"front": size}
         yield 1, {"back": size}
@@ -113,19 +78,19 @@ def samples():
     yield 15, {"data": bytes(8193)}
     yield 17, {"data": RECORD[:-1]}
     yield 17, {"data": RECORD + b"\x00"}
-    yield 17, {"data": record([])[:7]}
-    yield 17, {"data": record([(2, first, 1)], kind=17)}
-    yield 17, {"data": record([(5, first - 1, 1)])}
-    yield 17, {"data": record([(2, first, 1)], block_size=129)}
-    yield 18, {"data": record([(2, first - 1, 1)])}
-    yield 18, {"data": record([(2, end, 1)])}
-    yield 18, {"data": record([(2, first, 0)])}
-    yield 18, {"data": record([(2, 2 ** 64 - 1, 2 ** 64 - 1)])}
-    yield 18, {"data": record([(2, first, 2), (2, first, 2), (2, end - 1, 2)])}
+    yield 17, {"data": record()[:7]}
+    yield 17, {"data": record((2, first, 1), kind=17)}
+    yield 17, {"data": record((5, first - 1, 1))}
+    yield 17, {"data": record((2, first, 1), block_size=129)}
+    yield 18, {"data": record((2, first - 1, 1))}
+    yield 18, {"data": record((2, end, 1))}
+    yield 18, {"data": record((2, first, 0))}
+    yield 18, {"data": record((2, 2 ** 64 - 1, 2 ** 64 - 1))}
+    yield 18, {"data": record((2, first, 2), (2, first, 2), (2, end - 1, 2))}
     yield 18, {"device": (2097152, 2040, 1), "data": RECORD}
-    yield 19, {"data": record([(2, 2048, 100), (2, 2147, 1)])}
-    yield 19, {"data": record([(1, first + 9, 1), (4, first, 3), (3, first, 10)])}
-    yield 0, {"data": record([(2, 2048, 100), (2, 2148, 1)])}
+    yield 19, {"data": record((2, 2048, 100), (2, 2147, 1))}
+    yield 19, {"data": record((1, first + 9, 1), (4, first, 3), (3, first, 10))}
+    yield 0, {"data": record((2, 2048, 100), (2, 2148, 1))}
 
 
 def main():
@@ -138,7 +103,7 @@ def main():
         stream += number(x["time"][0], 8) + number(x["time"][1], 4)
         stream += b"".join(number(len(x[name]), 2) for name in ("pool", "uuid", "data"))
         stream += x["pool"] + x["uuid"] + x["data"]
-    assert COPY + BACK_FROM <= len(stream) <= 65536
+    assert COPY + BACK_FROM <= len(stream)
     lines, lengths = [], set()
     for n, x in stated:
         assert refusal(**x) == n, (n, refusal(**x), x)
@@ -146,17 +111,14 @@ def main():
         back = stream[BACK_FROM:][:x["back"]].ljust(x["back"], b"\0")
         if n == 0:
             size, metadata, reserved = x["device"]
-            front = back = copy(a=held(*x["time"], x["data"]), size=size, metadata=metadata, reserved=reserved,
-                                pool=x["pool"], uuid=x["uuid"])
+            front = back = copy(held(*x["time"], x["data"]), size=size, metadata=metadata, reserved=reserved, pool=x["pool"],
+                                uuid=x["uuid"])
             lengths.add(len(x["data"]))
-        line = answer(front + back) if len(front) == len(back) == COPY else "refused 1"
-        lines.append(f"{n} {zlib.crc32(front):08x} {zlib.crc32(back):08x} {line}")
+        lines.append(f"{n} {crc32(front):08x} {crc32(back):08x} {line(discover(front, back))}")
     assert {8, 28, 508, 528, 8188} <= lengths, lengths
     assert {n for n, _ in stated} == {0, 1, 4, 6, 7, 8, 9, 15, 17, 18, 19}
-    folder = Path(__file__).resolve().parent.parent / "crates" / "format_samples"
-    (folder / "stdin").write_bytes(stream)
-    (folder / "stdout").write_text("".join(line + "\n" for line in lines))
-    print(f"{len(lines)} samples, {len(stream)} bytes")
+    write("format_samples", lines, stream)
+    print(f"formats: {len(lines)} samples, {len(stream)} bytes")
 
 
 if __name__ == "__main__":

@@ -1,26 +1,17 @@
 #!/usr/bin/env python3
-"""Makes the sample mends and what must be printed for them.
+"""Makes the sample mends and what must be printed for them, of the program mend_samples.
 
-    python3 samples/mends.py          run at the repository's root
+    python3 samples/mends.py [FOLDER]
 
-Written from document 01 alone, with Python's own zlib.crc32; nothing is taken
-from the library. Each sample states by hand what mending answers, and `mend`
-below works it out by the paper's rules: where the two differ the script stops.
-The stores are applied to a device of numbered sectors, from which the copies
-are read again; the script stops unless they are then in step on the record that
-was found. Running it again gives the same bytes. It writes
-crates/mend_samples/stdin and stdout.
+Each sample states by hand what mending answers, and `mend` below works it out by document 01's rules: where the two differ the
+script stops. The stores are applied to a device of numbered sectors, from which the copies are read again; the script stops
+unless they are then in step on the record that was found.
 
-A packed sample, every number of 2 bytes, little-endian: the length of its name,
-the name, the sizes of the front and of the back copy, the number of patches,
-and for each patch its offset, its length and its bytes. The pair is zeros with
-the patches laid over; the front begins at byte 0, the back at byte 20,480.
+stdin: the samples, packed as `packed` in layout.py says, with the sizes of the front and of the back copy. The front begins at
+byte 0 of a pair, the back where a whole front ends.
 """
-import zlib
-from pathlib import Path
-
-from dumps import (COPY, LONG, OFFSETS, OTHER, RECORD, SECTOR, WAYS, answer, broken, copy, held, number, patches,
-                   present, read)
+from layout import (AREA_SECTORS, COPY, HEADER_SECTORS, LONG, OFFSETS, OTHER, RECORD, SECTOR, UNUSED, WAYS, Found, block, broken,
+                    copy, crc32, discover, held, in_sectors, line, packed, places, present, read, write)
 
 SMALL = {"size": 2097152, "metadata": 2040, "reserved": 0}
 EVEN = {"size": 2097154, "metadata": 2044, "reserved": 3}
@@ -30,7 +21,7 @@ LARGEST = {"size": 2 ** 64 - 1, "metadata": 2042, "reserved": 1}
 LENT = b"\xee"
 
 
-# The paper's rules.
+# The rules.
 
 def in_step(front, back):
     """Both blocks accepted, identity equal, in each copy the used entry with the later time whole, and both present
@@ -39,89 +30,64 @@ def in_step(front, back):
         return False
     seen = []
     for data in (front, back):
-        refused, fields = read(data[SECTOR:2 * SECTOR])
-        used = [(fields[name][:2], name) for name in "ab" if fields[name]]
-        if refused or not used:
+        refused, fields = read(data)
+        if refused or not fields.used():
             return False
         found = present(data, fields)
-        if found is None or found[:2] != max(used):
+        if found is None or found[:2] != fields.used()[0]:
             return False
-        seen.append((fields["identity"], found[0], found[2]))
+        seen.append((fields.identity, found.time, found.record))
     return seen[0] == seen[1]
 
 
-def sealed(identity, a=None, b=None):
-    """A signature block: S, L, R and the UUIDs, and two entries of seconds, nanoseconds, bytes and CRC."""
-    size, metadata, reserved, pool, uuid = identity
-    areas = [e and dict(zip(("seconds", "nanoseconds", "bytes", "crc"), e), stored=b"") for e in (a, b)]
-    return copy(a=areas[0], b=areas[1], size=size, metadata=metadata, reserved=reserved, pool=pool,
-                uuid=uuid)[SECTOR:2 * SECTOR]
-
-
-def places(identity):
-    """For each side the sectors of its header, block and areas."""
-    size, metadata = identity[:2]
-    return {"front": {"header": 0, "block": 1, "a": 8, "b": 8 + metadata // 2},
-            "back": {"header": size - 8, "block": size - 7, "a": size - 8 - metadata, "b": size - 8 - metadata // 2}}
-
-
 def mend(front, back):
-    """What mending answers; the kept side and its identity; the stores: group, sector, bytes."""
-    line = answer(front + back) if len(front) == len(back) == COPY else "refused 1"
-    if line.startswith("refused"):
-        return line, None, []
+    """What mending answers; the kept side and its device numbers; the stores: group, sector, bytes."""
+    found = discover(front, back)
+    if not isinstance(found, Found):
+        return line(found), None, []
     if in_step(front, back):
         return "in step", None, []
-    side, area = line.split()[1:3]
+    side, area = found.side, found.present.area
     other = {"front": "back", "back": "front"}[side]
-    kept = {"front": front, "back": back}[side]
-    _, fields = read(kept[SECTOR:2 * SECTOR])
-    identity = fields["identity"]
-    where = places(identity)
-    used = fields[area][2]
-    record = kept[OFFSETS[area]:OFFSETS[area] + used]
-    k = -(-used // SECTOR)
-    record += bytes(k * SECTOR - used)
+    fields = read({"front": front, "back": back}[side])[1]
+    device = fields.identity[0]
+    where = places(device)
     # Its signature block with both entries unused, then the record in area a, then its block with that entry.
-    stores = [(0, where[other]["block"], sealed(identity))]
-    stores += [(1, where[other]["a"] + i, record[i * SECTOR:(i + 1) * SECTOR]) for i in range(k)]
-    stores += [(2, where[other]["block"], sealed(identity, a=fields[area]))]
+    record = in_sectors(found.present.record)
+    stores = [(0, where[other]["block"], block(*fields.identity))]
+    stores += [(1, where[other]["a"] + i, data) for i, data in enumerate(record)]
+    stores += [(2, where[other]["block"], block(*fields.identity, a=fields.entries[area]))]
     # If the kept copy's later entry is not whole, one last store blanks that entry.
-    later = max((fields[name][:2], name) for name in "ab" if fields[name])[1]
+    later = fields.used()[0][1]
     if later != area:
-        left = {name: fields[name] for name in "ab"}
-        left[later] = None
-        stores += [(3, where[side]["block"], sealed(identity, **left))]
-    assert len(stores) == k + (2 if later == area else 3)
-    return f"stores {len(stores)}", (side, identity), stores
+        stores += [(3, where[side]["block"], block(*fields.identity, **{**fields.entries, later: UNUSED}))]
+    assert len(stores) == len(record) + (2 if later == area else 3)
+    return f"stores {len(stores)}", (side, device), stores
 
 
 def mended(front, back, kept, stores):
     """The copies after the stores, by way of a device of numbered sectors."""
     if not stores:
         return front, back
-    runs = [(side, at, sector, n) for side, lie in places(kept[1]).items()
-            for at, sector, n in ((0, lie["header"], 8), (8, lie["a"], 16), (24, lie["b"], 16))]
-    copies = {"front": front, "back": back}
+    parts = (("header", HEADER_SECTORS), ("a", AREA_SECTORS), ("b", AREA_SECTORS))
+    numbers = {side: [lie[part] + i for part, n in parts for i in range(n)] for side, lie in places(kept[1]).items()}
     device = {}
-    for side, at, sector, n in runs:
-        for i in range(n):
-            assert sector + i not in device
-            device[sector + i] = copies[side][(at + i) * SECTOR:(at + i + 1) * SECTOR]
+    for side, data in (("front", front), ("back", back)):
+        for i, sector in enumerate(numbers[side]):
+            assert sector not in device
+            device[sector] = data[i * SECTOR:(i + 1) * SECTOR]
     for _, sector, data in stores:
         assert sector in device and len(data) == SECTOR
         device[sector] = data
-    again = {side: b"".join(device[sector + i] for whose, _, sector, n in runs if whose == side for i in range(n))
-             for side in copies}
-    return again["front"], again["back"]
+    return tuple(b"".join(device[sector] for sector in numbers[side]) for side in ("front", "back"))
 
 
 def lines_of(m, stores):
     """What is printed of a mend: its answer, its stores, and what comes after the last: 23, or 1 for a copy of another size."""
     yield m
     for i, (group, sector, data) in enumerate(stores):
-        yield f"store {i} {group} {sector} {zlib.crc32(data):08x}"
-    yield f"store {len(stores)} 4 refused {1 if m == 'refused 1' else 23} {zlib.crc32(LENT * SECTOR):08x}"
+        yield f"store {i} {group} {sector} {crc32(data):08x}"
+    yield f"store {len(stores)} 4 refused {1 if m == 'refused 1' else 23} {crc32(LENT * SECTOR):08x}"
 
 
 # The samples: name, front, back, which copy is kept and what mending answers.
@@ -176,7 +142,7 @@ def other_refused():
             continue
         seen.add(n)
         bad = copy(**{"a": held(10, 5, OTHER), **odd})
-        assert read(bad[SECTOR:2 * SECTOR])[0] == n, name
+        assert read(bad)[0] == n, name
         yield from both_ways(f"block refused by {n}, {name}", good, bad, "stores 3")
     assert seen == set(range(2, 10))
     # Nothing of the refused block is taken over, and other sectors of its copy stay.
@@ -221,7 +187,7 @@ def later_torn():
     far = copy(a=broken(2 ** 64 - 1, 999999999), b=held(10, 6))
     yield from both_ways("later entry not whole, other copy earlier", far, good, "stores 4")
     # The area has the record's bytes and the entry another length: not whole either.
-    short = copy(a=held(10, 5), b=held(11, 0, OTHER, bytes=27))
+    short = copy(a=held(10, 5), b=held(11, 0, OTHER, used=27))
     yield from both_ways("later entry a byte short, other copy earlier", short, copy(a=held(9, 0)), "stores 4")
 
 
@@ -298,17 +264,16 @@ def made_up(area, front):
     bytes, has 4 sectors of them from `area` on, and blocks of which only the first can be written. The paper says no
     more of it than that no sector has a number over 2^64 - 1; the library's promise says that such a store is refused
     with 23, a block that the writer refuses with its number, and sectors past the record are zeros."""
-    _, fields = read(front[SECTOR:2 * SECTOR])
-    pool, uuid = fields["identity"][3:]
-    record = front[OFFSETS["b"]:OFFSETS["b"] + 700] + bytes(4 * SECTOR - 700)
-    block = sealed((2097152, 2040, 0, pool, uuid))
-    still = f"{zlib.crc32(LENT * SECTOR):08x}"
+    _, pool, uuid = read(front)[1].identity
+    record = in_sectors(front[OFFSETS["b"]:OFFSETS["b"] + 700]) + 2 * [bytes(SECTOR)]
+    empty = block((2097152, 2040, 0), pool, uuid)
+    still = f"{crc32(LENT * SECTOR):08x}"
     yield "stores 7"
-    yield f"store 0 0 {2 ** 64 - 1} nowhere {zlib.crc32(block):08x}"
-    for i in range(4):
+    yield f"store 0 0 {2 ** 64 - 1} nowhere {crc32(empty):08x}"
+    for i, data in enumerate(record):
         sector = area + i
         if sector < 2 ** 64:
-            yield f"store {i + 1} 1 {sector} nowhere {zlib.crc32(record[i * SECTOR:(i + 1) * SECTOR]):08x}"
+            yield f"store {i + 1} 1 {sector} nowhere {crc32(data):08x}"
         else:
             yield f"store {i + 1} 1 refused 23 {still}"
     # Two entries of one time; then S too small, with L and R not allowed either.
@@ -317,51 +282,35 @@ def made_up(area, front):
     yield f"store 7 4 refused 23 {still}"
 
 
-def packed(name, front, back):
-    pair = front.ljust(COPY, b"\0") + back
-    parts = patches(pair)
-    again = bytearray(len(pair))
-    for at, data in parts:
-        again[at:at + len(data)] = data
-    assert bytes(again) == pair and len(front) <= COPY, name
-    text = name.encode("ascii")
-    return (number(len(text), 2) + text + number(len(front), 2) + number(len(back), 2) + number(len(parts), 2)
-            + b"".join(number(at, 2) + number(len(data), 2) + data for at, data in parts))
-
-
 def main():
     stream, lines, names, said = b"", [], set(), set()
     for name, front, back, stated in samples():
-        assert name not in names, name
+        assert name not in names and len(front) <= COPY, name
         names.add(name)
-        stream += packed(name, front, back)
+        stream += packed(name, front.ljust(COPY, b"\0") + back, len(front), len(back))
         m, kept, stores = mend(front, back)
         assert stated == (f"keep {kept[0]}, {m}" if kept else m), (name, stated, m, kept)
         said.add(m)
         lines.append(name)
         lines += lines_of(m, stores)
         after = mended(front, back, kept, stores)
-        line = answer(after[0] + after[1]) if len(front) == len(back) == COPY else "refused 1"
         if not m.startswith("refused"):
-            # In step on the record that was found: its length and time, and both copies accepted.
-            assert in_step(*after) and line.split()[3:6] == answer(front + back).split()[3:6] and line.endswith(" both")
-            assert mend(*after)[0] == "in step"
-        lines.append(line)
-        lines.append(f"copies {'in step' if in_step(*after) else 'not in step'}"
-                     f" {zlib.crc32(after[0]):08x} {zlib.crc32(after[1]):08x}")
+            # In step on the record that was found, and both copies accepted.
+            was, now = discover(front, back), discover(*after)
+            assert in_step(*after) and now.other == 0 and mend(*after)[0] == "in step"
+            assert (now.present.time, now.present.record) == (was.present.time, was.present.record)
+        lines.append(line(discover(*after)))
+        lines.append(f"copies {'in step' if in_step(*after) else 'not in step'} {crc32(after[0]):08x} {crc32(after[1]):08x}")
         lines.append(mend(*after)[0])
     assert {"in step", "refused 1", "refused 10", "refused 11", "refused 12", "refused 13", "stores 3", "stores 4",
             "stores 5", "stores 18", "stores 19"} <= said
     # Stores 0, 1 and 99 of that pair's mend, and store 0 where there is none, with too few and too many bytes.
     for i in (0, 1, 99, 0, 0):
-        lines += [f"lent {n} for {i} refused 1 {zlib.crc32(LENT * n):08x}" for n in (1, 511, 513)]
+        lines += [f"lent {n} for {i} refused 1 {crc32(LENT * n):08x}" for n in (1, SECTOR - 1, SECTOR + 1)]
     for area in (2 ** 64 - 2, 2 ** 64 - 1, 100):
         lines += made_up(area, front)
-    assert len(stream) <= 65536, len(stream)
-    folder = Path(__file__).resolve().parent.parent / "crates" / "mend_samples"
-    (folder / "stdin").write_bytes(stream)
-    (folder / "stdout").write_text("".join(line + "\n" for line in lines))
-    print(f"{len(names)} samples, {len(stream)} bytes, {len(lines)} lines")
+    write("mend_samples", lines, stream)
+    print(f"mends: {len(names)} samples, {len(stream)} bytes, {len(lines)} lines")
 
 
 if __name__ == "__main__":

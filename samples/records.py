@@ -1,73 +1,29 @@
 #!/usr/bin/env python3
-"""Works out what record_samples must print.
+"""Works out what must be printed by the program record_samples.
 
-    python3 samples/records.py        run at the repository's root
+    python3 samples/records.py [FOLDER]
 
-Written from document 01 alone; nothing is taken from the library. It runs the
-same records and requests as crates/record_samples/src/main.rt, by its own
-reading of the rules, and writes crates/record_samples/stdout.
+It runs the same records and requests as crates/record_samples/src/main.rt, by its own reading of document 01's rules.
 """
 import struct
-from pathlib import Path
 
-DEVICE = (2097152, 2040, 0)
-KINDS = (1, 2, 3, 4)
+import layout
+from layout import KINDS, MOST_SEGMENTS, RECORD, RECORD_LIMIT, SMALL, data_range, device_refusal, item, parse, record, write
+
 MOST = 2 ** 64 - 1
 lines = []
-
-
-def data_range(device):
-    size, metadata, reserved = device
-    return 8 + metadata + reserved, size - 8 - metadata - reserved
-
-
-def device_number(device):
-    size, metadata, reserved = device
-    if size < 2097152:
-        return 4
-    if metadata % 2 or not 2040 <= metadata <= 16384:
-        return 7
-    return 8 if reserved > 65536 else 0
-
-
-def parse(data):
-    """The block size and the segments, or None for 17."""
-    if len(data) < 8:
-        return None
-    length, kind, size = struct.unpack_from("<HHI", data, 0)
-    if length != 8 or kind != 16 or size % 128 or not 128 <= size <= 2097152:
-        return None
-    segments = []
-    for at in range(8, len(data), 20):
-        if len(data) - at < 20:
-            return None
-        length, kind, start, sectors = struct.unpack_from("<HHQQ", data, at)
-        if length != 20 or kind not in KINDS:
-            return None
-        segments.append((kind, start, sectors))
-    return size, segments
 
 
 def segments_of(data):
     return parse(data)[1]
 
 
-def refusal(data, device=DEVICE):
+def refusal(data, device=SMALL):
     """The number of device numbers and a record; 0 for none."""
-    if device_number(device):
-        return device_number(device)
-    if not 1 <= len(data) <= 8192:
-        return 15
-    if parse(data) is None:
-        return 17
-    low, high = data_range(device)
-    if any(n == 0 or s < low or s + n > high for _, s, n in segments_of(data)):
-        return 18
-    taken = sorted((s, s + n) for _, s, n in segments_of(data))
-    return 19 if any(a[1] > b[0] for a, b in zip(taken, taken[1:])) else 0
+    return device_refusal(device) or layout.record_refusal(device, data)
 
 
-def runs(data, device=DEVICE):
+def runs(data, device=SMALL):
     """The free runs, ascending."""
     at, high = data_range(device)
     found = []
@@ -80,14 +36,6 @@ def runs(data, device=DEVICE):
 
 def first_run(data, sectors):
     return next((run for run in runs(data) if run[1] >= sectors), None)
-
-
-def item(kind, start, sectors):
-    return struct.pack("<HHQQ", 20, kind, start, sectors)
-
-
-def record(*segments):
-    return struct.pack("<HHI", 8, 16, 128) + b"".join(item(*segment) for segment in segments)
 
 
 def one(kind, start, sectors):
@@ -109,7 +57,7 @@ def answer(name, number, *values):
     say(name, *(("refused", number) if number else values))
 
 
-def check(name, data, device=DEVICE):
+def check(name, data, device=SMALL):
     say(name, refusal(data, device))
 
 
@@ -139,7 +87,7 @@ def run_at(data, k):
 def free(data):
     n = refusal(data)
     answer("free runs", n, *([] if n else [len(runs(data))]))
-    low, high = data_range(DEVICE)
+    low, high = data_range(SMALL)
     answer("free total", n, *([] if n else [high - low - sum(s for _, _, s in segments_of(data))]))
 
 
@@ -155,7 +103,7 @@ def allocate(data, kind, sectors, lent):
         n = 17
     if not n and sectors == 0:
         n = 18
-    if not n and len(segments_of(data)) >= 409:
+    if not n and len(segments_of(data)) >= MOST_SEGMENTS:
         n = 21
     if not n and first_run(data, sectors) is None:
         n = 20
@@ -179,7 +127,7 @@ def release(data, position, lent):
 
 def clash(data):
     """The first two segments that share a sector, of a record of any content."""
-    if not 1 <= len(data) <= 8192:
+    if not 1 <= len(data) <= RECORD_LIMIT:
         return say("clash", "refused", 15)
     held = segments_of(data)
     for i, (_, a, m) in enumerate(held):
@@ -210,7 +158,7 @@ def shown(data, first, second):
 
 
 def main():
-    printed = bytes.fromhex("08 00 10 00 80 00 00 00 14 00 02 00 00 08 00 00 00 00 00 00 64 00 00 00 00 00 00 00")
+    printed = RECORD
     check("printed record", printed)
     head(printed)
     count(printed)
@@ -285,7 +233,8 @@ def main():
     handed("segments from", two(2048, 100, 2147, 1), 0, 7)
     handed("no room from", example, 1, 2)
     handed("no room from", example, 2, 2)
-    Path("crates/record_samples/stdout").write_text("".join(line + "\n" for line in lines))
+    write("record_samples", lines)
+    print(f"records: {len(lines)} lines")
 
 
 if __name__ == "__main__":

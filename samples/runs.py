@@ -1,15 +1,12 @@
 #!/usr/bin/env python3
-"""Works out what run_table_samples must print.
+"""Works out what must be printed by the program run_table_samples.
 
-    python3 samples/runs.py        run at the repository's root
+    python3 samples/runs.py [FOLDER]
 
-Written from document 01 alone, with the reading of records of records.py;
-nothing is taken from the library. It runs the same records and devices as
-crates/run_table_samples/src/main.rt and writes crates/run_table_samples/stdout.
+It runs the same records and devices as crates/run_table_samples/src/main.rt, by the rules of records.py.
 """
-from pathlib import Path
-
-from records import DEVICE, MOST, record, refusal, runs
+from layout import SMALL, record, write
+from records import MOST, refusal, runs
 
 ENTRIES = 3
 lines = []
@@ -28,7 +25,7 @@ def on(name, device, data):
 
 
 def show(name, *segments):
-    on(name, DEVICE, record(*((2, start, sectors) for start, sectors in segments)))
+    on(name, SMALL, record(*((2, start, sectors) for start, sectors in segments)))
 
 
 def three(*starts):
@@ -55,7 +52,7 @@ def main():
     on("L 16386", (2097152, 16386, 0), data)
     on("R 65537, no bytes", (2097152, 2040, 65537), b"")
     for name, n in (("no bytes", 0), ("seven bytes", 7), ("a segment cut", 27)):
-        on(name, DEVICE, data[:n])
+        on(name, SMALL, data[:n])
     show("no sectors", (3000, 50), (4000, 0))
     show("below the data range", (2047, 100))
     show("past the data range", (2095103, 2))
@@ -66,12 +63,13 @@ def main():
     on("four runs, L 2041", (2097152, 2041, 0), data)
     on("four runs, R 65537", (2097152, 2040, 65537), data)
     cut = record(*((2, start, sectors) for start, sectors in three(3000, 4000, 5000)), (2, 5010, 1))
-    on("four runs, a segment cut", DEVICE, cut[:87])
+    on("four runs, a segment cut", SMALL, cut[:87])
     show("four runs, no sectors", *three(3000, 4000, 5000), (3500, 0))
     show("four runs, a sector in two segments", *three(3000, 4000, 5000), (5009, 1))
     show("four runs, side by side", *three(3000, 4000, 5000), (5010, 1))
     on("L 16384, R 65536", (2097152, 16384, 65536), record((2, 200000, 100)))
-    Path("crates/run_table_samples/stdout").write_text("".join(line + "\n" for line in lines))
+    write("run_table_samples", lines)
+    print(f"runs: {len(lines)} lines")
 
 
 if __name__ == "__main__":

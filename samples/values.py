@@ -1,0 +1,75 @@
+#!/usr/bin/env python3
+"""Works out what must be printed by the program check_values.
+
+    python3 samples/values.py [FOLDER]
+
+It takes the checksums and the numbers of the same bytes as crates/check_values/src/main.rt. The script stops where a checksum
+is not the one that is published for the polynomial.
+"""
+from layout import POLYNOMIAL, crc32, laid, number, write
+
+FOX = b"The quick brown fox jumps over the lazy dog"
+ASCENDING = bytes(range(32))
+# For each polynomial the check values that others have published.
+PUBLISHED = {
+    0xEDB88320: {
+        b"": 0x00000000,
+        b"a": 0xE8B7BE43,
+        b"abc": 0x352441C2,
+        b"123456789": 0xCBF43926,
+        b"message digest": 0x20159D7F,
+        FOX: 0x414FA339,
+        bytes(32): 0x190A55AD,
+        b"\xff" * 32: 0xFF6CAB0B,
+        ASCENDING: 0x91267E8A,
+        ASCENDING[::-1]: 0x9AB0EF72,
+    },
+}
+TEN = bytes(range(1, 11))
+FAR = 2 ** 64 - 1
+lines = []
+
+
+def say(value, name):
+    lines.append(f"{value:08x} {name}")
+
+
+def read(data, at, width):
+    """The number of that many bytes at an offset; bytes past the end count as zero."""
+    return int.from_bytes(data[at:at + width], "little")
+
+
+def checksums():
+    for data, name in ((b"", "the empty string"), (b"a", "a"), (b"abc", "abc"), (b"123456789", "123456789"),
+                       (b"message digest", "message digest"), (FOX, FOX.decode("ascii")), (bytes(32), "32 bytes of 0x00"),
+                       (b"\xff" * 32, "32 bytes of 0xff"), (ASCENDING, "32 bytes ascending from 0x00"),
+                       (ASCENDING[::-1], "32 bytes descending to 0x00")):
+        say(crc32(data), name)
+    for _ in range(len(b"123456789") + 1):
+        say(crc32(b"123456789"), "123456789 in two pieces")
+
+
+def numbers():
+    for at in (0, 2, 9, 10, FAR):
+        for width in (2, 4, 8):
+            say(read(TEN, at, width), f"{width} bytes read")
+    for at in (0, 6, 7, FAR):
+        fits = at + 4 <= 10
+        data = laid(bytes(10), [(at, number(0x04030201, 4))] if fits else [])
+        say(0 if fits else 1, "answered")
+        say(read(data, 0, 8), "first 8 of 10 bytes after a write of 4")
+        say(read(data, 2, 8), "last 8 of 10 bytes after a write of 4")
+
+
+def main():
+    assert POLYNOMIAL in PUBLISHED, f"no check values are here for the polynomial {POLYNOMIAL:#010x}"
+    for data, value in PUBLISHED[POLYNOMIAL].items():
+        assert crc32(data) == value, (data, f"{crc32(data):08x}", f"{value:08x}")
+    checksums()
+    numbers()
+    write("check_values", lines)
+    print(f"values: {len(lines)} lines")
+
+
+if __name__ == "__main__":
+    main()
