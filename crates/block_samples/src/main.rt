@@ -1,49 +1,38 @@
 // Runs sample signature blocks through the library, and prints what came of each, a line each; then the places of some
 // devices, and what each refusal number is about. The samples are the file stdin beside src/: for each a length of two
-// bytes, lowest first, then that many bytes. The length 65,535, or the end of the input, ends them; a sample that the
-// input cuts short is taken as far as it goes. What must be printed is the file stdout. Both are made by
+// bytes, lowest first, then that many bytes; a sample that the input cuts short is taken as far as it goes. The length
+// 65,535 is no sample, and ends them: it goes past the end of the input. What must be printed is the file stdout. Both are made by
 // samples/blocks.py, which shares nothing with the library. That the program is safe and ends is proved; that it prints
 // the right thing is tested. Assumes what `io` and `libc` do.
-ghost use Prim.Native.Nat.{_≤_};
+ghost use Prim.Native.Nat.{_≤_, _<_};
 ghost use lib.ListN.{length};
+ghost use Rattle.sampling.specs.Laying.{inputBytes};
 use block::BlockFields;
 use block::Entry;
 use block::Holding;
 use block::Verdict;
 use layout::Device;
-use layout::Located;
 use layout::DeviceMap;
+use layout::Located;
 use refusal::Subject;
+use sampling::decimal;
+use sampling::hex;
+use sampling::number;
+use sampling::refused;
+use sampling::say;
 
-const IN: i32 = 0;
-
-const OUT: i32 = 1;
-
-// The most bytes of a sample; any larger length ends the samples.
+// The most bytes of a sample.
 const SAMPLE_LIMIT: usize = 4096;
-
-// The most samples, so that the program ends on any input.
-const MOST_SAMPLES: usize = 100000;
-
-fn say(s: &[u8]) {
-    io::write_all(OUT, s);
-}
-
-// Prints a space and a number.
-fn number(n: u64) {
-    say(b" ");
-    io::print_decimal(OUT, n);
-}
 
 // Prints a used entry: seconds.nanoseconds:bytes:checksum.
 fn holding(h: Holding) {
     number(h.seconds);
     say(b".");
-    io::print_decimal(OUT, h.nanoseconds as u64);
+    decimal(h.nanoseconds as u64);
     say(b":");
-    io::print_decimal(OUT, h.bytes as u64);
+    decimal(h.bytes as u64);
     say(b":");
-    io::print_hex(OUT, h.checksum as u64, 8);
+    hex(h.checksum as u64, 8);
 }
 
 // Prints an area entry.
@@ -63,7 +52,7 @@ fn device(d: Device) {
 
 // Whether a block that is written from these fields, over bytes 0xEE, is s.
 fn same_again(s: &[u8], pool: &[u8], blockdev: &[u8], f: BlockFields) -> bool {
-    let mut out = [0xEEu8; 512];
+    let mut out = [0xEEu8; layout::SECTOR_BYTES];
     let n = block::write(&mut out, pool, blockdev, f);
     (n == 0) & endian::same(s, &out)
 }
@@ -88,13 +77,6 @@ fn accepted(s: &[u8], pool: &[u8], blockdev: &[u8], f: BlockFields) {
     }
 }
 
-// Prints the end of a line of what is refused.
-fn refused(n: u8) {
-    say(b"refused");
-    number(n as u64);
-    say(b"\n");
-}
-
 // Prints the line of a sample.
 fn judge(s: &[u8]) {
     let r = block::read(s);
@@ -107,41 +89,25 @@ fn judge(s: &[u8]) {
     }
 }
 
-// The length of the next sample, or 65,535 where the input ends.
-fn next_length() -> usize {
-    let mut b = [0u8; 2];
-    if io::read_full(IN, &mut b) != 2 {
-        return 65535;
+// Prints the line of the sample at `from` of s, and answers where the sample ends.
+fn sample(s: &[u8], from: usize) -> usize
+    requires { ⌜ from ≤ inputBytes ⌝ }
+    ensures { λ r. ⌜ from < r ⌝ }
+{
+    let n = endian::read_u16(s, from) as usize;
+    if n <= SAMPLE_LIMIT {
+        judge(endian::window(s, from + 2, n));
     }
-    endian::read_u16(&b, 0) as usize
+    from + 2 + n
 }
 
-// Reads a sample of n bytes into the start of s, and prints its line.
-fn fetch(s: &mut [u8], n: usize)
-    requires { ⌜ n ≤ length (now s) ⌝ }
+// Every sample of s.
+fn samples(s: &[u8])
+    requires { ⌜ length (now s) ≤ inputBytes ⌝ }
 {
-    let got = io::read_full(IN, &mut s[..n]);
-    judge(endian::window(s, 0, got));
-}
-
-// Reads a sample of n bytes and prints its line.
-fn sample(n: usize)
-    requires { ⌜ n ≤ 4096 ⌝ }
-{
-    let mut space = io::buffer();
-    fetch(&mut space, n);
-}
-
-// Reads the samples and prints their lines.
-fn samples() {
-    let mut left = MOST_SAMPLES;
-    while 0 < left {
-        let n = next_length();
-        if SAMPLE_LIMIT < n {
-            return;
-        }
-        sample(n);
-        left -= 1;
+    let mut at = 0;
+    while at < s.len() {
+        at = sample(s, at);
     }
 }
 
@@ -199,7 +165,7 @@ fn devices() {
 
 // Prints the line of a refusal number.
 fn subject(n: u8) {
-    io::print_decimal(OUT, n as u64);
+    decimal(n as u64);
     let s = refusal::about(n);
     match s {
         Subject::Nothing => say(b" nothing\n"),
@@ -223,7 +189,10 @@ fn subjects() {
 }
 
 fn main() {
-    samples();
+    let input = sampling::fetch();
+    let bytes = input.bytes;
+    let n = input.used;
+    samples(&bytes[..n]);
     devices();
     subjects();
 }

@@ -1,16 +1,17 @@
 // Runs the published check values of the checksum, and the little-endian calls at their edges, and prints what it found,
-// a line each. The file stdout beside src/ has what must be printed. Assumes what `io` and `libc` do.
+// a line each. The file stdout beside src/ has what must be printed; samples/values.py makes it and shares nothing with the
+// library. Assumes what `io` and `libc` do.
 ghost use mathlib.Core.Path.{_≡_};
 ghost use lib.ListN.{length};
-
-const OUT: i32 = 1;
+use sampling::hex;
+use sampling::say;
 
 // Prints a value in eight digits, then a name and the line's end.
 fn line(value: u64, name: &[u8]) {
-    io::print_hex(OUT, value, 8);
-    io::write_all(OUT, b" ");
-    io::write_all(OUT, name);
-    io::write_all(OUT, b"\n");
+    hex(value, 8);
+    say(b" ");
+    say(name);
+    say(b"\n");
 }
 
 // Prints the checksum of s.

@@ -3,28 +3,18 @@
 // Before each sample the copies hold bytes of the input. What must be printed is the file stdout; that script makes both
 // and shares nothing with the library. That the program is safe and ends is proved; that it prints the right thing is
 // tested. Assumes what `io` and `libc` do.
-ghost use Prim.Native.Nat.{_≤_, _<_};
+ghost use Prim.Native.Nat.{_+_, _≤_, _<_};
 ghost use lib.ListN.{length};
+ghost use Rattle.sampling.specs.Laying.{inputBytes};
 use block::Time;
 use layout::Device;
-
-const IN: i32 = 0;
-
-const OUT: i32 = 1;
-
-fn say(s: &[u8]) {
-    io::write_all(OUT, s);
-}
-
-// Prints a space and the checksum of s.
-fn sum(s: &[u8]) {
-    say(b" ");
-    io::print_hex(OUT, checksum::checksum(s) as u64, 8);
-}
+use sampling::decimal;
+use sampling::say;
+use sampling::sum;
 
 // Prints the number, the two checksums and the line.
 fn print(n: u8, f: &[u8], b: &[u8]) {
-    io::print_decimal(OUT, n as u64);
+    decimal(n as u64);
     sum(f);
     sum(b);
     say(b" ");
@@ -35,7 +25,7 @@ fn print(n: u8, f: &[u8], b: &[u8]) {
 
 // Formats two copies as the sample at `at` of s says.
 fn judge(f: &mut [u8], b: &mut [u8], s: &[u8], at: usize)
-    requires { ⌜ at ≤ 65540 ⌝ }
+    requires { ⌜ at ≤ inputBytes + 4 ⌝ }
 {
     let d = Device {
         sectors: endian::read_u64(s, at),
@@ -63,7 +53,7 @@ fn judge(f: &mut [u8], b: &mut [u8], s: &[u8], at: usize)
 
 // The same with copies of n and m bytes, lent from f and b.
 fn lend(f: &mut [u8], n: usize, b: &mut [u8], m: usize, s: &[u8], at: usize)
-    requires { ⌜ at ≤ 65540 ⌝ }
+    requires { ⌜ at ≤ inputBytes + 4 ⌝ }
 {
     if f.len() < n {
         return;
@@ -75,8 +65,8 @@ fn lend(f: &mut [u8], n: usize, b: &mut [u8], m: usize, s: &[u8], at: usize)
 }
 
 // Runs the sample at `from` of s, with copies that hold bytes of s before it, and answers where the sample ends.
-fn sample(s: &[u8], from: usize, f: &mut [u8], b: &mut [u8]) -> usize
-    requires { ⌜ from ≤ 65536 ⌝ }
+fn sample(s: &[u8], from: usize) -> usize
+    requires { ⌜ from ≤ inputBytes ⌝ }
     ensures { λ r. ⌜ from < r ⌝ }
 {
     let n = endian::read_u16(s, from) as usize;
@@ -84,26 +74,27 @@ fn sample(s: &[u8], from: usize, f: &mut [u8], b: &mut [u8]) -> usize
     let p = endian::read_u16(s, from + 32) as usize;
     let u = endian::read_u16(s, from + 34) as usize;
     let r = endian::read_u16(s, from + 36) as usize;
-    endian::put(f, 0, s);
-    endian::put(b, 0, endian::window(s, 7, s.len()));
-    lend(f, n, b, m, s, from + 4);
+    let mut front = io::large_buffer();
+    endian::put(&mut front, 0, s);
+    let mut back = io::large_buffer();
+    endian::put(&mut back, 0, endian::window(s, 7, s.len()));
+    lend(&mut front, n, &mut back, m, s, from + 4);
     from + 38 + p + u + r
 }
 
 // Every sample of s.
-fn samples(s: &[u8], f: &mut [u8], b: &mut [u8])
-    requires { ⌜ length (now s) ≤ 65536 ⌝ }
+fn samples(s: &[u8])
+    requires { ⌜ length (now s) ≤ inputBytes ⌝ }
 {
     let mut at = 0;
     while at < s.len() {
-        at = sample(s, at, f, b);
+        at = sample(s, at);
     }
 }
 
 fn main() {
-    let mut input = io::large_buffer();
-    let n = io::read_full(IN, &mut input);
-    let mut front = io::large_buffer();
-    let mut back = io::large_buffer();
-    samples(&input[..n], &mut front, &mut back);
+    let input = sampling::fetch();
+    let bytes = input.bytes;
+    let n = input.used;
+    samples(&bytes[..n]);
 }

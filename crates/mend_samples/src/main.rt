@@ -1,5 +1,5 @@
 // Mends pairs of copies and prints for each its name; what `mend::work_out` answers: a refusal, in step, or the number of
-// stores; each store: its number, its group, its sector and the checksum of its 512 bytes; and what the store after the last
+// stores; each store: its number, its group, its sector and the checksum of its bytes; and what the store after the last
 // is refused with. The stores are applied to the copies. Then it prints the dump program's line for the mended copies,
 // whether they are in step, the checksums of the front and the back, and what `mend::work_out` answers now. At the end
 // stores of the last pair are asked for with too few and too many bytes, and three plans that nobody worked out have their
@@ -8,6 +8,7 @@
 // right thing is tested. Assumes what `io` and `libc` do.
 ghost use Prim.Native.Nat.{_≤_, _<_};
 ghost use lib.ListN.{length};
+ghost use Rattle.sampling.specs.Laying.{inputBytes};
 use block::BlockFields;
 use block::Entry;
 use block::Holding;
@@ -17,34 +18,25 @@ use layout::Side;
 use mend::Last;
 use mend::Mending;
 use mend::Rewrite;
+use sampling::number;
+use sampling::say;
+use sampling::sum;
 use update::Given;
 use update::Part;
 
-const IN: i32 = 0;
-
-const OUT: i32 = 1;
-
 // The bytes of a copy: in a pair the front is from byte 0 on and the back from here on.
-const COPY: usize = 20480;
+const COPY: usize = layout::COPY_BYTES;
+
+// Where the areas begin in a copy.
+const A_OFFSET: usize = layout::HEADER_BYTES;
+
+const B_OFFSET: usize = A_OFFSET + layout::RECORD_LIMIT as usize;
+
+// The sectors of an area in a copy.
+const AREA_SECTORS: u64 = layout::RECORD_LIMIT / layout::SECTOR_BYTES as u64;
 
 // No place of a pair.
-const NOWHERE: usize = 65536;
-
-fn say(s: &[u8]) {
-    io::write_all(OUT, s);
-}
-
-// Prints a space and a number.
-fn number(n: u64) {
-    say(b" ");
-    io::print_decimal(OUT, n);
-}
-
-// Prints a space and the checksum of s.
-fn sum(s: &[u8]) {
-    say(b" ");
-    io::print_hex(OUT, checksum::checksum(s) as u64, 8);
-}
+const NOWHERE: usize = 0xFFFF_FFFF_FFFF_FFFF;
 
 // Prints what there is to do.
 fn print_answer(m: Mending) {
@@ -64,8 +56,8 @@ fn print_answer(m: Mending) {
 
 // Where a sector lies in a run of n sectors that begins with sector `first` and, in a pair, at byte `at`.
 fn place_in_run(sector: u64, first: u64, n: u64, at: usize) -> usize
-    requires { ⌜ n ≤ 16 ⌝ }
-    requires { ⌜ at ≤ 40960 ⌝ }
+    requires { ⌜ n ≤ 1000 ⌝ }
+    requires { ⌜ at ≤ 1000000 ⌝ }
 {
     if sector < first {
         return NOWHERE;
@@ -74,22 +66,37 @@ fn place_in_run(sector: u64, first: u64, n: u64, at: usize) -> usize
     if n <= i {
         return NOWHERE;
     }
-    at + 512 * (i as usize)
+    at + layout::SECTOR_BYTES * (i as usize)
 }
 
 // Where a sector of a device lies in one copy, which begins at byte `at` of a pair.
 fn place_in_copy(sector: u64, w: Side, d: Device, at: usize) -> usize
-    requires { ⌜ at ≤ 20480 ⌝ }
+    requires { ⌜ at ≤ 100000 ⌝ }
 {
-    let k = place_in_run(sector, layout::block_sector(w, d), 1, at + 512);
+    let k = place_in_run(
+        sector,
+        layout::block_sector(w, d),
+        1,
+        at + layout::BLOCK_OFFSET,
+    );
     if k < NOWHERE {
         return k;
     }
-    let a = place_in_run(sector, layout::area_sector(w, Area::A, d), 16, at + 4096);
+    let a = place_in_run(
+        sector,
+        layout::area_sector(w, Area::A, d),
+        AREA_SECTORS,
+        at + A_OFFSET,
+    );
     if a < NOWHERE {
         return a;
     }
-    place_in_run(sector, layout::area_sector(w, Area::B, d), 16, at + 12288)
+    place_in_run(
+        sector,
+        layout::area_sector(w, Area::B, d),
+        AREA_SECTORS,
+        at + B_OFFSET,
+    )
 }
 
 // Where a sector of a device lies in a pair.
@@ -146,7 +153,7 @@ fn run_store(m: Mending, f: &[u8], b: &[u8], i: u64, d: Device, e: &mut [u8]) {
     say(b"store");
     number(i);
     number(mend::group(m, i) as u64);
-    let mut out = [0xEEu8; 512];
+    let mut out = [0xEEu8; layout::SECTOR_BYTES];
     let at = print_given(mend::store(m, f, b, i, &mut out), d);
     endian::put(e, at, &out);
     sum(&out);
@@ -191,28 +198,9 @@ fn mend_pair(d: &[u8], n: usize, k: usize, e: &mut [u8]) {
     print_copies(endian::window(e, 0, n), endian::window(e, COPY, k));
 }
 
-// Lays `count` patches, the first at `from` of s, over d, and answers where they end. A patch is its offset in d, its
-// length and its bytes.
-fn lay(s: &[u8], from: usize, count: usize, d: &mut [u8]) -> usize
-    requires { ⌜ from ≤ 1000000 ⌝ }
-    requires { ⌜ count < 65536 ⌝ }
-    ensures { λ r. ⌜ from ≤ r ⌝ }
-{
-    let mut at = from;
-    let mut left = count;
-    while 0 < left {
-        let n = endian::read_u16(s, at + 2) as usize;
-        let offset = endian::read_u16(s, at) as usize;
-        endian::put(d, offset, endian::window(s, at + 4, n));
-        at = at + 4 + n;
-        left -= 1;
-    }
-    at
-}
-
-// Runs the sample at `from` of s and answers where the sample ends. The pair is made in d and mended in e.
-fn sample(s: &[u8], from: usize, d: &mut [u8], e: &mut [u8]) -> usize
-    requires { ⌜ from ≤ 65536 ⌝ }
+// Runs the sample at `from` of s and answers where the sample ends. The pair is made in d.
+fn sample(s: &[u8], from: usize, d: &mut [u8]) -> usize
+    requires { ⌜ from ≤ inputBytes ⌝ }
     ensures { λ r. ⌜ from < r ⌝ }
 {
     let name = endian::read_u16(s, from) as usize;
@@ -222,19 +210,20 @@ fn sample(s: &[u8], from: usize, d: &mut [u8], e: &mut [u8]) -> usize
     let n = endian::read_u16(s, at) as usize;
     let k = endian::read_u16(s, at + 2) as usize;
     endian::clear(d);
-    let end = lay(s, at + 6, endian::read_u16(s, at + 4) as usize, d);
-    endian::put(e, 0, d);
-    mend_pair(d, n, k, e);
+    let end = sampling::patch(s, at + 6, endian::read_u16(s, at + 4), d);
+    let mut e = io::large_buffer();
+    endian::put(&mut e, 0, d);
+    mend_pair(d, n, k, &mut e);
     end
 }
 
 // Every sample of s.
-fn samples(s: &[u8], d: &mut [u8], e: &mut [u8])
-    requires { ⌜ length (now s) ≤ 65536 ⌝ }
+fn samples(s: &[u8], d: &mut [u8])
+    requires { ⌜ length (now s) ≤ inputBytes ⌝ }
 {
     let mut at = 0;
     while at < s.len() {
-        at = sample(s, at, d, e);
+        at = sample(s, at, d);
     }
 }
 
@@ -249,13 +238,13 @@ fn lend(m: Mending, f: &[u8], b: &[u8], i: u64, out: &mut [u8]) {
     say(b"\n");
 }
 
-// The same with 1, 511 and 513 bytes.
+// The same with one byte, one too few and one too many.
 fn lend_odd(m: Mending, f: &[u8], b: &[u8], i: u64) {
     let mut one = [0xEEu8; 1];
     lend(m, f, b, i, &mut one);
-    let mut short = [0xEEu8; 511];
+    let mut short = [0xEEu8; layout::SECTOR_BYTES - 1];
     lend(m, f, b, i, &mut short);
-    let mut long = [0xEEu8; 513];
+    let mut long = [0xEEu8; layout::SECTOR_BYTES + 1];
     lend(m, f, b, i, &mut long);
 }
 
@@ -332,10 +321,11 @@ fn odd_calls(d: &[u8], e: &mut [u8]) {
 }
 
 fn main() {
-    let mut input = io::large_buffer();
-    let n = io::read_full(IN, &mut input);
+    let input = sampling::fetch();
+    let bytes = input.bytes;
+    let n = input.used;
     let mut before = io::large_buffer();
+    samples(&bytes[..n], &mut before);
     let mut after = io::large_buffer();
-    samples(&input[..n], &mut before, &mut after);
     odd_calls(&before, &mut after);
 }

@@ -1,5 +1,11 @@
 // Runs document 01's printed record, its examples 9 to 11, and records and requests that are refused, and prints a line
-// each. The file stdout beside src/ has what must be printed. Assumes what `io` and `libc` do.
+// each. The file stdout beside src/ has what must be printed; samples/records.py makes it and shares nothing with the library.
+// Assumes what `io` and `libc` do.
+use allocation::Allocation;
+use allocation::FreeTotal;
+use allocation::Released;
+use allocation::RunCount;
+use allocation::RunFound;
 use items::Head;
 use layout::Device;
 use order::Clash;
@@ -7,44 +13,37 @@ use record::Clashes;
 use record::Counted;
 use record::Found;
 use record::Heading;
-use allocation::Allocation;
-use allocation::FreeTotal;
-use allocation::Released;
-use allocation::RunCount;
-use allocation::RunFound;
-use segments::Segment;
+use sampling::number;
+use sampling::one;
+use sampling::put_segment;
+use sampling::say;
+use sampling::two;
 ghost use Prim.Native.Nat.{_≤_};
 
-const OUT: i32 = 1;
+// The bytes of a record with as many segments as it can have.
+const FULL: usize = items::HEAD_BYTES + items::ITEM_BYTES * items::MOST_SEGMENTS;
 
 // Prints a name.
 fn name(s: &[u8]) {
-    io::write_all(OUT, s);
-    io::write_all(OUT, b":");
-}
-
-// Prints a number after a blank.
-fn number(n: u64) {
-    io::write_all(OUT, b" ");
-    io::print_decimal(OUT, n);
+    say(s);
+    say(b":");
 }
 
 // Prints a number in 16 digits after a blank.
 fn hex(n: u64) {
-    io::write_all(OUT, b" ");
-    io::print_hex(OUT, n, 16);
+    say(b" ");
+    sampling::hex(n, 16);
 }
 
 // Ends a line.
 fn end() {
-    io::write_all(OUT, b"\n");
+    say(b"\n");
 }
 
 // Prints a refusal and ends the line.
 fn refused(n: u8) {
-    io::write_all(OUT, b" refused");
-    number(n as u64);
-    end();
+    say(b" ");
+    sampling::refused(n);
 }
 
 // The example device.
@@ -54,44 +53,6 @@ fn device() -> Device {
         metadata: 2040,
         reserved: 0,
     }
-}
-
-// Lays a segment into a record.
-fn lay(s: &mut [u8], position: usize, g: Segment) {
-    let at = items::place_in(s, position);
-    items::put_segment(s, at, g);
-}
-
-// A record with one segment.
-fn one(kind: u16, start: u64, sectors: u64) -> [u8; 28] {
-    let mut s = [0u8; 28];
-    items::begin(&mut s, Head::Plain(128));
-    let g = Segment {
-        kind,
-        start,
-        sectors,
-    };
-    lay(&mut s, 0, g);
-    s
-}
-
-// A record with two data segments.
-fn two(start: u64, sectors: u64, start2: u64, sectors2: u64) -> [u8; 48] {
-    let mut s = [0u8; 48];
-    items::begin(&mut s, Head::Plain(128));
-    let a = Segment {
-        kind: 2,
-        start,
-        sectors,
-    };
-    lay(&mut s, 0, a);
-    let b = Segment {
-        kind: 2,
-        start: start2,
-        sectors: sectors2,
-    };
-    lay(&mut s, 1, b);
-    s
 }
 
 // Prints the number that a record gives on a device.
@@ -346,12 +307,7 @@ fn fill(out: &mut [u8], n: usize)
     let mut i: usize = 0;
     let mut start: u64 = 2048;
     while i < n {
-        let g = Segment {
-            kind: 3,
-            start,
-            sectors: 1,
-        };
-        lay(out, i, g);
+        put_segment(out, i, 3, start, 1);
         start += 1;
         i += 1;
     }
@@ -361,27 +317,26 @@ fn fill(out: &mut [u8], n: usize)
 fn full() {
     let mut s = io::large_buffer();
     items::begin(&mut s, Head::Plain(128));
-    fill(&mut s, 410);
-    let most = endian::window(&s, 0, 8188);
+    fill(&mut s, items::MOST_SEGMENTS + 1);
+    let most = endian::window(&s, 0, FULL);
     check(b"409 segments", most);
     count(most);
     let mut out = [0u8; 70];
     allocated(allocation::allocate(device(), most, 1, 1, &mut out));
-    check(b"410 segments", endian::window(&s, 0, 8208));
+    check(
+        b"410 segments",
+        endian::window(&s, 0, FULL + items::ITEM_BYTES),
+    );
 }
 
 // 409 segments that fill the data range to its last sector: no free room, and no place for one more.
 fn filled() {
     let mut s = io::large_buffer();
     items::begin(&mut s, Head::Plain(128));
-    fill(&mut s, 408);
-    let last = Segment {
-        kind: 3,
-        start: 2456,
-        sectors: 2092648,
-    };
-    lay(&mut s, 408, last);
-    let r = endian::window(&s, 0, 8188);
+    let last = items::MOST_SEGMENTS - 1;
+    fill(&mut s, last);
+    put_segment(&mut s, last, 3, 2456, 2092648);
+    let r = endian::window(&s, 0, FULL);
     check(b"409 segments to the last sector", r);
     free(r);
     fit(r, 1);

@@ -1,15 +1,17 @@
 // Fills tables of three entries with the free runs of records, and prints for each what was answered and the three entries
 // afterwards. Entry k of a table starts as (7, k). The file stdout beside src/ has what must be printed;
 // samples/runs.py makes it and shares nothing with the library. Assumes what `io` and `libc` do.
-use items::Head;
 use allocation::RunCount;
+use items::Head;
 use runs::Run;
-use segments::Segment;
+use sampling::number;
+use sampling::one;
+use sampling::put_segment;
+use sampling::say;
+use sampling::two;
 ghost use mathlib.Core.Path.{_≡_};
 ghost use lib.ListN.{length};
 ghost use Rattle.allocation.specs.Answers.{tableAnswer, tableLeft};
-
-const OUT: i32 = 1;
 
 // What was answered, and the table afterwards.
 struct Filled {
@@ -29,12 +31,6 @@ fn fill(sectors: u64, metadata: u32, reserved: u32, s: &[u8], table: [Run; 3]) -
     }
 }
 
-// Prints a number after a blank.
-fn number(n: u64) {
-    io::write_all(OUT, b" ");
-    io::print_decimal(OUT, n);
-}
-
 // Prints a run's start and sectors.
 fn run(r: Run) {
     number(r.start);
@@ -46,7 +42,7 @@ fn answer(a: RunCount) {
     match a {
         RunCount::Runs(n) => number(n),
         RunCount::Refused(n) => {
-            io::write_all(OUT, b" refused");
+            say(b" refused");
             number(n as u64);
         }
     }
@@ -64,16 +60,16 @@ fn entry(k: u64) -> Run {
 fn on(what: &[u8], sectors: u64, metadata: u32, reserved: u32, s: &[u8]) {
     let before = [entry(0), entry(1), entry(2)];
     let f = fill(sectors, metadata, reserved, s, before);
-    io::write_all(OUT, what);
-    io::write_all(OUT, b":");
+    say(what);
+    say(b":");
     let a = f.answer;
     answer(a);
-    io::write_all(OUT, b";");
+    say(b";");
     let t = f.table;
     run(t[0]);
     run(t[1]);
     run(t[2]);
-    io::write_all(OUT, b"\n");
+    say(b"\n");
 }
 
 // The same on the example device.
@@ -86,41 +82,13 @@ fn cut(what: &[u8], s: &[u8], n: usize) {
     show(what, endian::window(s, 0, n));
 }
 
-// Lays a data segment into a record.
-fn lay(s: &mut [u8], position: usize, start: u64, sectors: u64) {
-    let g = Segment {
-        kind: 2,
-        start,
-        sectors,
-    };
-    let at = items::place_in(s, position);
-    items::put_segment(s, at, g);
-}
-
-// A record with one segment.
-fn one(start: u64, sectors: u64) -> [u8; 28] {
-    let mut s = [0u8; 28];
-    items::begin(&mut s, Head::Plain(128));
-    lay(&mut s, 0, start, sectors);
-    s
-}
-
-// A record with two segments.
-fn two(start: u64, sectors: u64, start2: u64, sectors2: u64) -> [u8; 48] {
-    let mut s = [0u8; 48];
-    items::begin(&mut s, Head::Plain(128));
-    lay(&mut s, 0, start, sectors);
-    lay(&mut s, 1, start2, sectors2);
-    s
-}
-
 // A record with three segments of ten sectors.
 fn three(start: u64, start2: u64, start3: u64) -> [u8; 68] {
     let mut s = [0u8; 68];
     items::begin(&mut s, Head::Plain(128));
-    lay(&mut s, 0, start, 10);
-    lay(&mut s, 1, start2, 10);
-    lay(&mut s, 2, start3, 10);
+    put_segment(&mut s, 0, 2, start, 10);
+    put_segment(&mut s, 1, 2, start2, 10);
+    put_segment(&mut s, 2, 2, start3, 10);
     s
 }
 
@@ -128,10 +96,10 @@ fn three(start: u64, start2: u64, start3: u64) -> [u8; 68] {
 fn four(start: u64, sectors: u64) -> [u8; 88] {
     let mut s = [0u8; 88];
     items::begin(&mut s, Head::Plain(128));
-    lay(&mut s, 0, 3000, 10);
-    lay(&mut s, 1, 4000, 10);
-    lay(&mut s, 2, 5000, 10);
-    lay(&mut s, 3, start, sectors);
+    put_segment(&mut s, 0, 2, 3000, 10);
+    put_segment(&mut s, 1, 2, 4000, 10);
+    put_segment(&mut s, 2, 2, 5000, 10);
+    put_segment(&mut s, 3, 2, start, sectors);
     s
 }
 
@@ -140,9 +108,9 @@ fn enough() {
     let mut head = [0u8; 8];
     items::begin(&mut head, Head::Plain(128));
     show(b"no segments", &head);
-    show(b"no free sector", &one(2048, 2093056));
-    show(b"the first sector free", &one(2049, 2093055));
-    show(b"the last sector free", &one(2048, 2093055));
+    show(b"no free sector", &one(2, 2048, 2093056));
+    show(b"the first sector free", &one(2, 2049, 2093055));
+    show(b"the last sector free", &one(2, 2048, 2093055));
     show(b"example 9", &two(2048, 100, 3000, 50));
     show(b"the later one first", &two(3000, 50, 2048, 100));
     show(b"side by side", &two(2048, 100, 2148, 1));
@@ -176,9 +144,9 @@ fn records() {
     cut(b"seven bytes", &two(3000, 50, 4000, 10), 7);
     cut(b"a segment cut", &two(3000, 50, 4000, 10), 27);
     show(b"no sectors", &two(3000, 50, 4000, 0));
-    show(b"below the data range", &one(2047, 100));
-    show(b"past the data range", &one(2095103, 2));
-    show(b"a sum that wraps", &one(18446744073709551615, 2));
+    show(b"below the data range", &one(2, 2047, 100));
+    show(b"past the data range", &one(2, 2095103, 2));
+    show(b"a sum that wraps", &one(2, 18446744073709551615, 2));
     show(b"example 11", &two(2048, 100, 2147, 1));
 }
 
@@ -200,6 +168,6 @@ fn main() {
     devices();
     records();
     refused_first();
-    let far = one(200000, 100);
+    let far = one(2, 200000, 100);
     on(b"L 16384, R 65536", 2097152, 16384, 65536, &far);
 }

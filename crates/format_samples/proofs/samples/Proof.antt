@@ -1,16 +1,15 @@
--- `format_samples::samples` meets its contract: each sample ends after it begins.
-use Prim.Native.Nat.{_-_}
-use mathlib.Core.Path.{_≡_}
+-- `format_samples::samples` is safe and ends: each sample ends after it begins.
+use Prim.Native.Nat.{_-_, _≤_}
 use lib.ListN.{length}
 use borrow.Author.Needs.{needs}
 use Rattle.format_samples.proofs.samples.Statement.{statement}
 use Rattle.format_samples.proofs.samples.Tie as tie
 
 abbrev Inv-loop : tie.InvT-loop
-Inv-loop s f₀ b₀ at₀ f b at = (length f ≡ length f₀) × (length b ≡ length b₀)
+Inv-loop s at₀ at = Unit
 
 abbrev μ-loop : tie.MeasureT-loop
-μ-loop s f₀ b₀ at₀ f b at = length s - at
+μ-loop s at₀ at = length s - at
 
 loop-holds : tie.Need-loop-holds Inv-loop μ-loop
 loop-holds c = search needs
@@ -24,25 +23,9 @@ loop-less c = search needs
 loop-again : tie.Need-loop-again Inv-loop μ-loop
 loop-again c = search needs
 
-same-length : tie.Need-same-length Inv-loop μ-loop
-same-length c = search needs
-
-same-length-2 : tie.Need-same-length-2 Inv-loop μ-loop
-same-length-2 c = search needs
-
 returns : tie.Need-returns Inv-loop μ-loop
 returns c = search needs
 
 pub samples-spec : {M : Type 1} → statement M
 samples-spec =
-    tie.close
-    (tie.spec
-    Inv-loop
-    μ-loop
-    loop-holds
-    sample-requires
-    loop-less
-    loop-again
-    same-length
-    same-length-2
-    returns)
+    tie.close (tie.spec Inv-loop μ-loop loop-holds sample-requires loop-less loop-again returns)

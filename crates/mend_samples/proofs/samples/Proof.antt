@@ -7,10 +7,10 @@ use Rattle.mend_samples.proofs.samples.Statement.{statement}
 use Rattle.mend_samples.proofs.samples.Tie as tie
 
 abbrev Inv-loop : tie.InvT-loop
-Inv-loop s d₀ e₀ at₀ d e at = (length d ≡ length d₀) × (length e ≡ length e₀)
+Inv-loop s d₀ at₀ d at = length d ≡ length d₀
 
 abbrev μ-loop : tie.MeasureT-loop
-μ-loop s d₀ e₀ at₀ d e at = length s - at
+μ-loop s d₀ at₀ d at = length s - at
 
 loop-holds : tie.Need-loop-holds Inv-loop μ-loop
 loop-holds c = search needs
@@ -27,22 +27,10 @@ loop-again c = search needs
 same-length : tie.Need-same-length Inv-loop μ-loop
 same-length c = search needs
 
-same-length-2 : tie.Need-same-length-2 Inv-loop μ-loop
-same-length-2 c = search needs
-
 returns : tie.Need-returns Inv-loop μ-loop
 returns c = search needs
 
 pub samples-spec : {M : Type 1} → statement M
 samples-spec =
     tie.close
-    (tie.spec
-    Inv-loop
-    μ-loop
-    loop-holds
-    sample-requires
-    loop-less
-    loop-again
-    same-length
-    same-length-2
-    returns)
+    (tie.spec Inv-loop μ-loop loop-holds sample-requires loop-less loop-again same-length returns)

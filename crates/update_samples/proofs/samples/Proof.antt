@@ -1,12 +1,13 @@
 -- `update_samples::samples` meets its contract: each update ends after it begins.
 use Prim.Native.Nat.{_-_, _≤_}
 use lib.ListN.{length}
+use Rattle.sampling.specs.Laying.{inputBytes}
 use borrow.Author.Needs.{needs}
 use Rattle.update_samples.proofs.samples.Statement.{statement}
 use Rattle.update_samples.proofs.samples.Tie as tie
 
 abbrev Inv-loop : tie.InvT-loop
-Inv-loop s last₀ at₀ last at = last ≤ 65536
+Inv-loop s last₀ at₀ last at = last ≤ inputBytes
 
 abbrev μ-loop : tie.MeasureT-loop
 μ-loop s last₀ at₀ last at = length s - at

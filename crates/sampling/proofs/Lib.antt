@@ -1,0 +1,3 @@
+-- Laws that the proofs of `sampling` share.
+pub mod Patches
+pub mod Records
