@@ -244,20 +244,38 @@ def examples():
     assert "refused" not in places_text(2097152, 16384, 65536)
 
 
-# What each refusal is about: the words of document 01's table, sorted
+# What each refusal number says: document 01's table, without the values of the limits
 
-SUBJECTS = {
-    "nothing": [0],
-    "slice": [1],
-    "block": [2, 3, 4, 5, 6, 7, 8, 9],
-    "copies": [10, 11, 12, 13, 16],
-    "record": [15, 17, 18, 19, 21],
-    "request": [14, 20, 22, 23],
+WORDS = {
+    0: "nothing is refused",
+    1: "a lent slice has the wrong size, or is too small for the answer",
+    2: "the 16 signature bytes differ",
+    3: "the block's CRC differs",
+    4: "S too small",
+    5: "flags or a zero field not zero",
+    6: "a UUID byte not allowed",
+    7: "L not allowed",
+    8: "R not allowed",
+    9: "an area entry breaks a limit, or both used entries have one time",
+    10: "neither copy's block is accepted",
+    11: "both accepted; S, L, R or a UUID differ",
+    12: "no whole record in any accepted copy",
+    13: "the newest whole records of the two copies have one time and different bytes",
+    14: "update time not later than the present record's",
+    15: "record length 0 or over the limit",
+    16: "update asked while the copies are not in step",
+    17: "record malformed, or a kind not known",
+    18: "a segment empty or not wholly in the data range; or 0 sectors asked for",
+    19: "two segments share a sector",
+    20: "no free run is long enough",
+    21: "the record already holds the most segments",
+    22: "no segment has that position",
+    23: "no store has that number",
 }
 
 
-def subject_text(n):
-    return "%d %s" % (n, next((name for name, numbers in SUBJECTS.items() if n in numbers), "unknown"))
+def words_text(n):
+    return "%d %s" % (n, WORDS.get(n, "a number that is not known"))
 
 
 def main():
@@ -270,7 +288,7 @@ def main():
     given += number(65535, 2)
     count = len(wanted)
     wanted += [places_text(*d) for d in DEVICES]
-    wanted += [subject_text(n) for n in [*range(31), 255]]
+    wanted += [words_text(n) for n in [*range(31), 255]]
     write("block_samples", wanted, given)
     print("blocks: %d samples, %d bytes; %d lines" % (count, len(given), len(wanted)))
 

@@ -1,5 +1,5 @@
 // Runs sample signature blocks through the library, and prints what came of each, a line each; then the places of some
-// devices, and what each refusal number is about. The samples are the file stdin beside src/: for each a length of two
+// devices, and what each refusal number says. The samples are the file stdin beside src/: for each a length of two
 // bytes, lowest first, then that many bytes; a sample that the input cuts short is taken as far as it goes. The length
 // 65,535 is no sample, and ends them: it goes past the end of the input. What must be printed is the file stdout. Both are made by
 // samples/blocks.py, which shares nothing with the library. That the program is safe and ends is proved; that it prints
@@ -14,7 +14,6 @@ use block::Verdict;
 use layout::Device;
 use layout::DeviceMap;
 use layout::Located;
-use refusal::Subject;
 use sampling::decimal;
 use sampling::hex;
 use sampling::number;
@@ -163,29 +162,24 @@ fn devices() {
     places(0xFFFF_FFFF_FFFF_FFFF, 16384, 65536);
 }
 
-// Prints the line of a refusal number.
-fn subject(n: u8) {
+// Prints the line of a refusal number: the number and its words.
+fn words(n: u8) {
     decimal(n as u64);
-    let s = refusal::about(n);
-    match s {
-        Subject::Nothing => say(b" nothing\n"),
-        Subject::Slice => say(b" slice\n"),
-        Subject::Block => say(b" block\n"),
-        Subject::Copies => say(b" copies\n"),
-        Subject::Record => say(b" record\n"),
-        Subject::Request => say(b" request\n"),
-        Subject::Unknown => say(b" unknown\n"),
-    }
+    say(b" ");
+    let w = refusal::words_of(n);
+    let bytes = w.bytes;
+    say(endian::window(&bytes, 0, w.used));
+    say(b"\n");
 }
 
 // Prints the lines of the refusal numbers, and of some that the table does not have.
-fn subjects() {
+fn all_words() {
     let mut n: u8 = 0;
     while n <= 30 {
-        subject(n);
+        words(n);
         n += 1;
     }
-    subject(255);
+    words(255);
 }
 
 fn main() {
@@ -194,5 +188,5 @@ fn main() {
     let n = input.used;
     samples(&bytes[..n]);
     devices();
-    subjects();
+    all_words();
 }

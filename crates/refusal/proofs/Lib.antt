@@ -1,3 +1,4 @@
--- The laws that callers cite.
+-- The laws that callers cite, and what holds of the words.
 pub mod Arms
 pub mod Order
+pub mod Demand

@@ -1,4 +1,5 @@
--- What the contracts of `refusal` cite, and what all refusing calls cite.
+-- What the contracts of `refusal` cite, what all refusing calls cite, and what holds of the words.
 pub mod Numbers
-pub mod Subjects
+pub mod Words
 pub mod Tests
+pub mod Demand

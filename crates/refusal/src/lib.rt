@@ -1,7 +1,7 @@
-// The refusal numbers of document 01, in one place, and what each is about. A number that a later paper adds gets its
-// constant, its name in specs/Numbers.antt, its place in `subjects` and its arm below.
+// The refusal numbers of document 01, in one place, and the words of each. A number that a later paper adds gets its
+// constant, its name in specs/Numbers.antt, its line in specs/Words.antt and its arm below.
 ghost use mathlib.Core.Path.{_≡_};
-ghost use Rattle.refusal.specs.Subjects.{subjectOf};
+ghost use Rattle.refusal.specs.Words.{laid, wordsOf};
 
 pub const NONE: u8 = 0;
 
@@ -51,53 +51,56 @@ pub const NO_SEGMENT: u8 = 22;
 
 pub const NO_STORE: u8 = 23;
 
-// What a refusal is about.
-pub enum Subject {
-    // No refusal.
-    Nothing,
-    // A lent slice.
-    Slice,
-    // A signature block, or the device numbers and names that it holds.
-    Block,
-    // The two copies together.
-    Copies,
-    // A segment record.
-    Record,
-    // What was asked of a record or of the copies.
-    Request,
-    // No number of the table.
-    Unknown,
+// The most bytes that the words of a number have.
+pub const WORDS_BYTES: usize = 80;
+
+// Words in ASCII: the first `used` of the bytes; the rest are zero.
+pub struct Words {
+    pub bytes: [u8; WORDS_BYTES],
+    pub used: usize,
 }
 
-// What the refusal with number n is about.
-pub fn about(n: u8) -> Subject
-    ensures { λ r. ⌜ r ≡ subjectOf n ⌝ }
+// Words with the bytes of w, of which there are no more than fit.
+fn lay(w: &[u8]) -> Words
+    ensures { λ r. ⌜ r ≡ laid (now (w .entry)) ⌝ }
+{
+    let mut bytes = [0u8; WORDS_BYTES];
+    endian::put(&mut bytes, 0, w);
+    Words {
+        bytes,
+        used: w.len(),
+    }
+}
+
+// What a refusal number says: its line of document 01's table.
+pub fn words_of(n: u8) -> Words
+    ensures { λ r. ⌜ r ≡ wordsOf n ⌝ }
 {
     match n {
-        0 => Subject::Nothing,
-        1 => Subject::Slice,
-        2 => Subject::Block,
-        3 => Subject::Block,
-        4 => Subject::Block,
-        5 => Subject::Block,
-        6 => Subject::Block,
-        7 => Subject::Block,
-        8 => Subject::Block,
-        9 => Subject::Block,
-        10 => Subject::Copies,
-        11 => Subject::Copies,
-        12 => Subject::Copies,
-        13 => Subject::Copies,
-        14 => Subject::Request,
-        15 => Subject::Record,
-        16 => Subject::Copies,
-        17 => Subject::Record,
-        18 => Subject::Record,
-        19 => Subject::Record,
-        20 => Subject::Request,
-        21 => Subject::Record,
-        22 => Subject::Request,
-        23 => Subject::Request,
-        24..=255 => Subject::Unknown,
+        0 => lay(b"nothing is refused"),
+        1 => lay(b"a lent slice has the wrong size, or is too small for the answer"),
+        2 => lay(b"the 16 signature bytes differ"),
+        3 => lay(b"the block's CRC differs"),
+        4 => lay(b"S too small"),
+        5 => lay(b"flags or a zero field not zero"),
+        6 => lay(b"a UUID byte not allowed"),
+        7 => lay(b"L not allowed"),
+        8 => lay(b"R not allowed"),
+        9 => lay(b"an area entry breaks a limit, or both used entries have one time"),
+        10 => lay(b"neither copy's block is accepted"),
+        11 => lay(b"both accepted; S, L, R or a UUID differ"),
+        12 => lay(b"no whole record in any accepted copy"),
+        13 => lay(b"the newest whole records of the two copies have one time and different bytes"),
+        14 => lay(b"update time not later than the present record's"),
+        15 => lay(b"record length 0 or over the limit"),
+        16 => lay(b"update asked while the copies are not in step"),
+        17 => lay(b"record malformed, or a kind not known"),
+        18 => lay(b"a segment empty or not wholly in the data range; or 0 sectors asked for"),
+        19 => lay(b"two segments share a sector"),
+        20 => lay(b"no free run is long enough"),
+        21 => lay(b"the record already holds the most segments"),
+        22 => lay(b"no segment has that position"),
+        23 => lay(b"no store has that number"),
+        24..=255 => lay(b"a number that is not known"),
     }
 }
