@@ -12,8 +12,9 @@ use block::Time;
 use block::Verdict;
 use calendar::Dated;
 use discovery::Answer;
-use discovery::Other;
 use discovery::Finding;
+use discovery::Other;
+use dump_line::Written;
 use layout::Area;
 use layout::Side;
 use record::Counted;
@@ -278,8 +279,11 @@ fn perhaps(r: Finding, o: Other, unread: bool) -> Text {
 // Prints the line for what discovery answers: the dump's, where all that matters was read.
 pub(crate) fn print_answer(ok: bool, look: Look, unread: bool, front: &[u8], back: &[u8]) -> bool {
     if look.sure {
-        let mut line = [0u8; 128];
-        let k = dump_line::line(front, back, &mut line);
+        let mut line = [0u8; dump_line::LINE_BYTES];
+        let w = dump_line::line(front, back, &mut line);
+        let Written::Length(k) = w else {
+            return false;
+        };
         return crate::say::put(ok, endian::window(&line, 0, k));
     }
     let a = discovery::discover(front, back);

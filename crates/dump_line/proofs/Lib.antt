@@ -1,3 +1,4 @@
--- The laws that callers cite.
+-- The laws that callers cite, and what holds of the line.
 pub mod Lengths
 pub mod Lines
+pub mod Demand

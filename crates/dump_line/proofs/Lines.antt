@@ -1,12 +1,11 @@
 -- What is printed for a dump of another size than two copies, and document 01's example.
-use Prim.Native.Nat.{ℕ}
+use Prim.Native.Nat.{ℕ, _+_}
 use mathlib.Core.Path.{_≡_, refl}
 use mathlib.Core.Bool.{Bool, true, false, _&&_}
 use mathlib.Core.List.{List, [], _∷_, flatten}
 use native.Mathlib.Omega.{arith}
 use borrow.Author.Tests.{eqb-true}
 use lib.ListN.{length, take, drop, length-take, length-drop}
-use Rattle.layout.specs.Limits.{recordLimit}
 use Rattle.layout.specs.Places.{copyBytes}
 use Rattle.layout.specs.declared.Side.the-variants.{Front}
 use Rattle.layout.specs.declared.Area.the-variants.{A}
@@ -21,8 +20,7 @@ both-false true true h = absurd (h refl refl)
 both-false true false h = refl
 both-false false y h = refl
 
-not-copies : (d : List ℕ) → (length d ≡ 40960 → ⊥) → sized (take copyBytes d) (drop copyBytes d) ≡ false
-unfolding copyBytes recordLimit
+not-copies : (d : List ℕ) → (length d ≡ copyBytes + copyBytes → ⊥) → sized (take copyBytes d) (drop copyBytes d) ≡ false
 not-copies d h =
     both-false _ _
     (λ f b. h
@@ -31,7 +29,7 @@ not-copies d h =
     omega (arith, length-take copyBytes d, length-drop copyBytes d)))
 
 -- fewer or more bytes than two copies have: `refused 1`
-pub other-size : (d : List ℕ) → (length d ≡ 40960 → ⊥) → dumpLine d ≡ lineOf (Refused 1)
+pub other-size : (d : List ℕ) → (length d ≡ copyBytes + copyBytes → ⊥) → dumpLine d ≡ lineOf (Refused 1)
 unfolding discovery
 other-size d h = rw (not-copies d h)
 

@@ -4,6 +4,7 @@ use mathlib.Core.Bool.{cond}
 use mathlib.Core.List.{List, [], _∷_, flatten}
 use lib.ListN.{length, take, drop}
 use Rattle.endian.specs.Bytes.{fits}
+use Rattle.refusal.specs.Numbers.{sliceSize}
 use Rattle.layout.specs.Places.{copyBytes}
 use Rattle.layout.specs.declared.Side.{Side}
 use Rattle.layout.specs.declared.Side.the-variants.{Front, Back}
@@ -15,6 +16,8 @@ use Rattle.discovery.specs.declared.Answer.{Answer}
 use Rattle.discovery.specs.declared.Answer.the-variants.{Found, Refused}
 use Rattle.discovery.specs.Discovery.{discovery}
 use Rattle.text.specs.Decimal.{decimal}
+use Rattle.dump_line.specs.declared.Written.{Written}
+use Rattle.dump_line.specs.declared.Written.the-variants as Written
 
 -- "front " or "back "
 abbrev pub sideWord : Side → List ℕ
@@ -59,6 +62,10 @@ lineOf a = flatten (pieces a)
 abbrev pub dumpLine : List ℕ → List ℕ
 dumpLine d = lineOf (discovery (take copyBytes d) (drop copyBytes d))
 
--- what a call that puts v at the start of out answers: its length, or 0 where it does not fit
-unfoldable pub lengthPut : List ℕ → List ℕ → ℕ
-lengthPut out v = cond (fits out 0 (length v)) (length v) 0
+-- room for every line
+abbrev pub lineBytes : ℕ
+lineBytes = 128
+
+-- what a call that writes the line v to the start of out answers: its length, or 1 where it does not fit
+unfoldable pub writtenOf : List ℕ → List ℕ → Written
+writtenOf out v = cond (fits out 0 (length v)) (Written.Length (length v)) (Written.Refused sliceSize)

@@ -5,13 +5,22 @@ ghost use Rattle.endian.specs.Bytes.{splice};
 ghost use Rattle.discovery.specs.declared.Answer.the-variants as Answer;
 ghost use Rattle.discovery.specs.Discovery.{discovery};
 ghost use Rattle.text.specs.Text.{text, added};
-ghost use Rattle.dump_line.specs.Line.{sideWord, areaWord, otherWord, lineOf, dumpLine, lengthPut};
+ghost use Rattle.dump_line.specs.Line.{sideWord, areaWord, otherWord, lineOf, dumpLine, writtenOf};
 use discovery::Answer;
-use discovery::Other;
 use discovery::Finding;
+use discovery::Other;
 use layout::Area;
 use layout::Side;
 use text::Text;
+
+// Room for every line, with its end.
+pub const LINE_BYTES: usize = 128;
+
+// What the calls that write a line answer: its length, with its end, or the refusal number.
+pub enum Written {
+    Length(usize),
+    Refused(u8),
+}
 
 // The text with the copy's name and a space.
 fn add_side(t: Text, s: Side) -> Text
@@ -74,23 +83,23 @@ fn line_of(a: Answer) -> Text
 }
 
 // Writes the line for a front and a back copy, with its end, to the start of out, and answers its length. Bytes past it
-// stay. Where it has no room, nothing is written and the answer is 0; 128 bytes are room for every line.
-pub fn line(front: &[u8], back: &[u8], out: &mut [u8]) -> usize
-    ensures { λ r. ⌜ r ≡ lengthPut (now (out .entry)) (lineOf (discovery (now (front .entry)) (now (back .entry)))) ⌝ }
+// stay. Where it has no room the answer is 1 and nothing is written; LINE_BYTES are room for every line.
+pub fn line(front: &[u8], back: &[u8], out: &mut [u8]) -> Written
+    ensures { λ r. ⌜ r ≡ writtenOf (now (out .entry)) (lineOf (discovery (now (front .entry)) (now (back .entry)))) ⌝ }
     ensures { λ _. ⌜ now (out .exit) ≡ splice (now (out .entry)) 0 (lineOf (discovery (now (front .entry)) (now (back .entry)))) ⌝ }
 {
     let t = line_of(discovery::discover(front, back));
     let bytes = t.bytes;
     let v = endian::window(&bytes, 0, t.used);
     if endian::put(out, 0, v) != 0 {
-        return 0;
+        return Written::Refused(refusal::SLICE_SIZE);
     }
-    v.len()
+    Written::Length(v.len())
 }
 
-// The same for a dump: the front copy, then the back. One that is not as long as two copies is refused with number 1.
-pub fn dump_line(d: &[u8], out: &mut [u8]) -> usize
-    ensures { λ r. ⌜ r ≡ lengthPut (now (out .entry)) (dumpLine (now (d .entry))) ⌝ }
+// The same for a dump: the front copy, then the back. For one that is not as long as two copies it is the line of number 1.
+pub fn dump_line(d: &[u8], out: &mut [u8]) -> Written
+    ensures { λ r. ⌜ r ≡ writtenOf (now (out .entry)) (dumpLine (now (d .entry))) ⌝ }
     ensures { λ _. ⌜ now (out .exit) ≡ splice (now (out .entry)) 0 (dumpLine (now (d .entry))) ⌝ }
 {
     let n = layout::copy_bytes();

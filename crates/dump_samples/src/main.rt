@@ -4,7 +4,18 @@
 ghost use Prim.Native.Nat.{_≤_, _<_};
 ghost use lib.ListN.{length};
 ghost use Rattle.sampling.specs.Laying.{inputBytes};
+use dump_line::Written;
 use sampling::say;
+
+// Prints the line of the dump d.
+fn print(d: &[u8]) {
+    let mut line = [0u8; dump_line::LINE_BYTES];
+    let w = dump_line::dump_line(d, &mut line);
+    let Written::Length(k) = w else {
+        return;
+    };
+    say(endian::window(&line, 0, k));
+}
 
 // Prints the name and the line of the sample at `from` of s, and answers where the sample ends.
 fn sample(s: &[u8], from: usize) -> usize
@@ -18,9 +29,7 @@ fn sample(s: &[u8], from: usize) -> usize
     let size = endian::read_u16(s, at) as usize;
     let mut dump = io::large_buffer();
     let end = sampling::patch(s, at + 4, endian::read_u16(s, at + 2), &mut dump);
-    let mut line = [0u8; 128];
-    let k = dump_line::dump_line(endian::window(&dump, 0, size), &mut line);
-    say(endian::window(&line, 0, k));
+    print(endian::window(&dump, 0, size));
     end
 }
 

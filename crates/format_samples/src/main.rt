@@ -7,6 +7,7 @@ ghost use Prim.Native.Nat.{_+_, _≤_, _<_};
 ghost use lib.ListN.{length};
 ghost use Rattle.sampling.specs.Laying.{inputBytes};
 use block::Time;
+use dump_line::Written;
 use layout::Device;
 use sampling::decimal;
 use sampling::say;
@@ -18,8 +19,11 @@ fn print(n: u8, f: &[u8], b: &[u8]) {
     sum(f);
     sum(b);
     say(b" ");
-    let mut line = [0u8; 128];
-    let k = dump_line::line(f, b, &mut line);
+    let mut line = [0u8; dump_line::LINE_BYTES];
+    let w = dump_line::line(f, b, &mut line);
+    let Written::Length(k) = w else {
+        return;
+    };
     say(endian::window(&line, 0, k));
 }
 

@@ -12,6 +12,7 @@ ghost use Rattle.sampling.specs.Laying.{inputBytes};
 use block::BlockFields;
 use block::Entry;
 use block::Holding;
+use dump_line::Written;
 use layout::Area;
 use layout::Device;
 use layout::Side;
@@ -172,11 +173,19 @@ fn run_stores(m: Mending, f: &[u8], b: &[u8], e: &mut [u8]) {
     run_store(m, f, b, n, d, e);
 }
 
+// Prints the dump's line for two copies.
+fn print_line(f: &[u8], b: &[u8]) {
+    let mut line = [0u8; dump_line::LINE_BYTES];
+    let w = dump_line::line(f, b, &mut line);
+    let Written::Length(k) = w else {
+        return;
+    };
+    say(endian::window(&line, 0, k));
+}
+
 // Prints what a mend has left.
 fn print_copies(f: &[u8], b: &[u8]) {
-    let mut line = [0u8; 128];
-    let k = dump_line::line(f, b, &mut line);
-    say(endian::window(&line, 0, k));
+    print_line(f, b);
     if discovery::in_step(f, b) {
         say(b"copies in step");
     } else {

@@ -8,7 +8,7 @@ use Rattle.endian.specs.Bytes.{window, splice}
 use Rattle.endian.proofs.Parts.{window-rest}
 use Rattle.layout.specs.Places.{copyBytes}
 use Rattle.discovery.specs.Discovery.{discovery}
-use Rattle.dump_line.specs.Line.{lineOf, dumpLine, lengthPut}
+use Rattle.dump_line.specs.Line.{lineOf, dumpLine, writtenOf}
 use borrow.Author.Needs.{needs}
 use Rattle.dump_line.proofs.dump_line.Statement.{statement}
 use Rattle.dump_line.proofs.dump_line.Tie as tie
@@ -37,7 +37,7 @@ returns c =
     let b : c .before .before .before .before .window2 .result .now ≡ drop copyBytes d =
     c .before .before .before .before .window2 .ensures ∙ (window-rest d (c .before .before .before .before .before .before .copy-bytes .result) (length d) (omega arith) ∙ ap (λ (n : ℕ). drop n d) (c .before .before .before .before .before .before .copy-bytes .ensures)) in
     let e : lineOf (discovery (c .before .before .before .before .before .window .result .now) (c .before .before .before .before .window2 .result .now)) ≡ dumpLine d = ap₂ (λ (x y : List ℕ). lineOf (discovery x y)) f b in
-    (c .before .before .line .ensures .0 ∙ ap (lengthPut out) e, c .before .before .line .ensures .1 ∙ ap (splice out 0) e)
+    (c .before .before .line .ensures .0 ∙ ap (writtenOf out) e, c .before .before .line .ensures .1 ∙ ap (splice out 0) e)
 
 pub dump-line-spec : {M : Type 1} → statement M
 dump-line-spec =
