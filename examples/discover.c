@@ -5,7 +5,7 @@
  *     ./discover DUMP
  *
  * Prints one line: `found`, copy, area, length, seconds, nanoseconds, and `both` or the other copy's refusal number; or
- * `refused` and the number. Exit status: 0 found, 1 refused, 2 the dump could not be read.
+ * `refused`, the number and its words. Exit status: 0 found, 1 refused, 2 the dump could not be read.
  */
 #include <inttypes.h>
 #include <stdio.h>
@@ -50,6 +50,14 @@ static void print_found(const uint64_t *found)
         printf("%" PRIu64 "\n", found[AMSEOKBIN_F_OTHER]);
 }
 
+static void print_refusal(uint8_t number)
+{
+    uint8_t words[AMSEOKBIN_WORDS];
+    uint64_t used[1] = {0};
+    amseokbin_refusal_words(number, words, sizeof words, used, 1);
+    printf("refused %d: %.*s\n", number, (int)used[0], (const char *)words);
+}
+
 int main(int argc, char **argv)
 {
     if (argc != 2) {
@@ -62,7 +70,7 @@ int main(int argc, char **argv)
     uint8_t refusal = amseokbin_discover(dump, AMSEOKBIN_COPY, dump + AMSEOKBIN_COPY, AMSEOKBIN_COPY,
                                          found, AMSEOKBIN_FOUND);
     if (refusal != AMSEOKBIN_OK) {
-        printf("refused %d\n", refusal);
+        print_refusal(refusal);
         return 1;
     }
     print_found(found);

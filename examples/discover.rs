@@ -4,7 +4,7 @@
 //!     ./discover DUMP
 //!
 //! Prints one line: `found`, copy, area, length, seconds, nanoseconds, and `both` or the other copy's refusal number; or
-//! `refused` and the number. Exit status: 0 found, 1 refused, 2 the dump could not be read.
+//! `refused`, the number and its words. Exit status: 0 found, 1 refused, 2 the dump could not be read.
 
 use std::env;
 use std::fs;
@@ -13,6 +13,8 @@ use std::process::ExitCode;
 const COPY: usize = 20_480;
 /// Copy, area, length, seconds, nanoseconds, and the other copy's refusal number or 0.
 const FOUND: usize = 6;
+/// Room for the words of every refusal number.
+const WORDS: usize = 80;
 
 extern "C" {
     fn amseokbin_discover(
@@ -22,6 +24,13 @@ extern "C" {
         back_length: usize,
         found: *mut u64,
         found_length: usize,
+    ) -> u8;
+    fn amseokbin_refusal_words(
+        number: u8,
+        words: *mut u8,
+        words_length: usize,
+        used: *mut u64,
+        used_length: usize,
     ) -> u8;
 }
 
@@ -36,6 +45,15 @@ fn discover(front: &[u8], back: &[u8]) -> Result<[u64; FOUND], u8> {
     } else {
         Err(refusal)
     }
+}
+
+/// What a refusal number says.
+fn refusal_words(number: u8) -> String {
+    let (mut words, mut used) = ([0; WORDS], [0]);
+    let refusal =
+        unsafe { amseokbin_refusal_words(number, words.as_mut_ptr(), words.len(), used.as_mut_ptr(), used.len()) };
+    let length = if refusal == 0 { used[0] as usize } else { 0 };
+    String::from_utf8_lossy(&words[..length]).into_owned()
 }
 
 fn main() -> ExitCode {
@@ -65,7 +83,7 @@ fn main() -> ExitCode {
             ExitCode::SUCCESS
         }
         Err(refusal) => {
-            println!("refused {refusal}");
+            println!("refused {refusal}: {}", refusal_words(refusal));
             ExitCode::from(1)
         }
     }

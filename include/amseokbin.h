@@ -32,6 +32,7 @@ extern "C" {
 #define AMSEOKBIN_SECTOR 512u
 #define AMSEOKBIN_RECORD 8192u
 #define AMSEOKBIN_UUID 32u
+#define AMSEOKBIN_WORDS 80u
 
 /* Refusal numbers. */
 enum amseokbin_refusal {
@@ -50,19 +51,26 @@ enum amseokbin_refusal {
     AMSEOKBIN_NO_RECORD = 12,     /* no whole record in any accepted copy */
     AMSEOKBIN_TWO_RECORDS = 13,   /* the newest whole records of the two copies have one time and different bytes */
     AMSEOKBIN_NOT_LATER = 14,     /* update time not later than the present record's */
-    AMSEOKBIN_RECORD_LENGTH = 15, /* record length 0 or over 8,192 */
+    AMSEOKBIN_RECORD_LENGTH = 15, /* record length 0 or over the limit, AMSEOKBIN_RECORD */
     AMSEOKBIN_NOT_IN_STEP = 16,   /* update asked while the copies are not in step */
     AMSEOKBIN_RECORD_FORM = 17,   /* record malformed, or a kind not known */
     AMSEOKBIN_SEGMENT_PLACE = 18, /* a segment empty or not wholly in the data range; or 0 sectors asked for */
     AMSEOKBIN_SEGMENT_CLASH = 19, /* two segments share a sector */
     AMSEOKBIN_NO_ROOM = 20,       /* no free run is long enough */
-    AMSEOKBIN_RECORD_FULL = 21,   /* the record already holds 409 segments */
+    AMSEOKBIN_RECORD_FULL = 21,   /* the record already holds the most segments, 409 */
     AMSEOKBIN_NO_SEGMENT = 22,    /* no segment has that position */
     AMSEOKBIN_NO_STORE = 23       /* no store has that number */
 };
 
 enum amseokbin_side { AMSEOKBIN_FRONT = 0, AMSEOKBIN_BACK = 1 };
 enum amseokbin_area { AMSEOKBIN_AREA_A = 0, AMSEOKBIN_AREA_B = 1 };
+
+/* ---- Refusals ---------------------------------------------------------------------------------------------------------- */
+
+/* What a refusal number says, in ASCII: the words beside it above, without a limit's value; 0 and numbers that are not known have
+ * words too. They go to the start of a buffer, with no zero behind them; bytes past them stay, and AMSEOKBIN_WORDS bytes are room for
+ * all. How many they are, to an array of one. 1 for another array first; 1 for too little room, last. */
+uint8_t amseokbin_refusal_words(uint8_t number, uint8_t *words, size_t words_length, uint64_t *used, size_t used_length);
 
 /* ---- Checksum ---------------------------------------------------------------------------------------------------------- */
 

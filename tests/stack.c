@@ -30,6 +30,7 @@ static const size_t length = 8 + 20 * SEGMENTS;
 #define DEVICE S, L, R
 
 static int nothing(void) { return 0; }
+static int saying(void) { return amseokbin_refusal_words(13, changed, AMSEOKBIN_WORDS, one, 1); }
 static int summing(void) { return amseokbin_checksum(record, length) == 0; }
 static int summing_on(void) { return amseokbin_checksum_continued(1, record, length) == 0; }
 static int checking(void) { return amseokbin_record_check(DEVICE, record, length); }
@@ -104,6 +105,7 @@ int main(int words, char **word) {
         int (*call)(void);
         int expected;
     } calls[] = {
+        {"refusal_words", saying, 0},
         {"checksum", summing, 0},
         {"checksum_continued", summing_on, 0},
         {"record_check", checking, 0},

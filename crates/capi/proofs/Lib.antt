@@ -1,6 +1,7 @@
 -- The laws that the proofs cite, and what the calls on plans give.
 mod Told
 mod Answered
+mod Saying
 mod Fields
 mod Codec
 mod Coding

@@ -6,6 +6,7 @@ mod lent;
 mod mends;
 mod plan;
 mod records;
+mod refusals;
 mod updates;
 
 ghost use mathlib.Core.Path.{_≡_};

@@ -5,6 +5,13 @@ use std::ptr::{null, null_mut};
 use crate::interface::{BlockNumbers, Device, FreeRun, Interface};
 
 extern "C" {
+    fn amseokbin_refusal_words(
+        number: u8,
+        words: *mut u8,
+        words_length: usize,
+        used: *mut u64,
+        used_length: usize,
+    ) -> u8;
     fn amseokbin_checksum(bytes: *const u8, length: usize) -> u32;
     fn amseokbin_checksum_continued(before: u32, bytes: *const u8, length: usize) -> u32;
     fn amseokbin_block_read(
@@ -258,6 +265,10 @@ pub struct Library;
 impl Interface for Library {
     fn name(&self) -> &'static str {
         "library"
+    }
+
+    fn refusal_words(&self, number: u8, words: &mut [u8], used: &mut [u64]) -> u8 {
+        unsafe { amseokbin_refusal_words(number, start_mut(words), words.len(), start_mut(used), used.len()) }
     }
 
     fn checksum(&self, bytes: &[u8]) -> u32 {

@@ -7,6 +7,8 @@ pub const PLACES: usize = 12;
 pub const FOUND: usize = 6;
 pub const UPDATE_PLAN: usize = 148;
 pub const MEND_PLAN: usize = 204;
+/// Room for the words of every refusal number.
+pub const WORDS: usize = 80;
 
 /// The numbers of a block in the order of the interface: S, L, R, then each entry's four.
 #[derive(Clone, Copy, Debug, PartialEq, Eq)]
@@ -45,6 +47,8 @@ pub use crate::model::layout::Device;
 #[allow(clippy::too_many_arguments)]
 pub trait Interface {
     fn name(&self) -> &'static str;
+
+    fn refusal_words(&self, number: u8, words: &mut [u8], used: &mut [u64]) -> u8;
 
     fn checksum(&self, bytes: &[u8]) -> u32;
     fn checksum_continued(&self, before: u32, bytes: &[u8]) -> u32;

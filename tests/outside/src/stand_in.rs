@@ -22,6 +22,17 @@ unsafe fn unique<'a, T>(items: *mut T, length: usize) -> &'a mut [T] {
 }
 
 #[no_mangle]
+unsafe extern "C" fn amseokbin_refusal_words(
+    number: u8,
+    words: *mut u8,
+    words_length: usize,
+    used: *mut u64,
+    used_length: usize,
+) -> u8 {
+    Model.refusal_words(number, unique(words, words_length), unique(used, used_length))
+}
+
+#[no_mangle]
 unsafe extern "C" fn amseokbin_checksum(bytes: *const u8, length: usize) -> u32 {
     Model.checksum(shared(bytes, length))
 }

@@ -6,7 +6,7 @@ use super::format;
 use super::layout::{BACK, FRONT, SECTOR};
 use super::plan_bytes::{decode_mend, decode_update, encode_mend, encode_update, MEND_PLAN, UPDATE_PLAN};
 use super::record::{self, check, check_length, HEAD_BYTES, SEGMENT_BYTES};
-use super::refusal::{require, Refusal};
+use super::refusal::{self, require, Refusal};
 use super::{crc, mend, room, update};
 use crate::interface::{BlockNumbers, Device, FreeRun, Interface, BLOCK_NUMBERS, FOUND, PLACES};
 
@@ -49,6 +49,15 @@ fn block_numbers(block: &Block) -> [u64; BLOCK_NUMBERS] {
     });
     let (metadata, reserved) = (u64::from(metadata), u64::from(reserved));
     [sectors, metadata, reserved, a[0], a[1], a[2], a[3], b[0], b[1], b[2], b[3]]
+}
+
+fn refusal_words(number: u8, words: &mut [u8], used: &mut [u64]) -> Done {
+    has_size(used, 1)?;
+    let line = refusal::words(number).as_bytes();
+    has_room(words, line.len())?;
+    words[..line.len()].copy_from_slice(line);
+    used[0] = line.len() as u64;
+    Ok(())
 }
 
 fn block_read(block: &[u8], numbers: &mut [u64], pool: &mut [u8], device: &mut [u8]) -> Done {
@@ -246,6 +255,10 @@ fn release(device: &Device, record: &[u8], position: u64, changed: &mut [u8], an
 impl Interface for Model {
     fn name(&self) -> &'static str {
         "model"
+    }
+
+    fn refusal_words(&self, number: u8, words: &mut [u8], used: &mut [u64]) -> u8 {
+        self::number(refusal_words(number, words, used))
     }
 
     fn checksum(&self, bytes: &[u8]) -> u32 {

@@ -6,6 +6,7 @@ use outside::ffi::Library;
 use outside::guard::Guarded;
 use outside::interface::{as_runs, Interface, BLOCK_NUMBERS, FOUND, MEND_PLAN, PLACES, UPDATE_PLAN};
 use outside::model::layout::{COPY, RECORD_LIMIT, SECTOR};
+use outside::model::refusal;
 use outside::model::Model;
 use outside::rng::Rng;
 use outside::sample::blocks::block;
@@ -99,6 +100,11 @@ fn blocks(run: &mut Run, rng: &mut Rng, room: &mut Room) {
     same(run, "format", library, u8::from(!right));
     let library = Library.lay(out_a.hold(&front, end), rng.coin(), in_c.hold(&record, end));
     same(run, "lay", library, u8::from(front.len() != COPY));
+
+    let number = rng.next() as u8;
+    let mut words: Vec<u8> = zeros(rng, refusal::words(number).len());
+    let library = Library.refusal_words(number, out_a.hold(&words, end), room.numbers[0].hold(&[0], end));
+    same(run, "refusal_words", library, Model.refusal_words(number, &mut words, &mut [0]));
 }
 
 fn copies(run: &mut Run, rng: &mut Rng, room: &mut Room) {

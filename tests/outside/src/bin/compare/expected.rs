@@ -2,6 +2,7 @@
 
 /// Calls with a list that is empty answer numbers that are not refusals.
 pub const CALLS: &[(&str, &[u64])] = &[
+    ("refusal_words", &[0, 1]),
     ("checksum", &[]),
     ("checksum_continued", &[]),
     ("block_read", &[0, 1, 2, 3, 4, 5, 6, 7, 8, 9]),
@@ -35,6 +36,7 @@ pub const CALLS: &[(&str, &[u64])] = &[
 
 /// Cases beside the answers.
 pub const LAST: &[&str] = &[
+    "refusal_words, too little room",
     "record_begin, 1 and 17 both apply",
     "record_segments, all that are left",
     "record_segments, fewer than are left",

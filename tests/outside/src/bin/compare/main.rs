@@ -18,6 +18,7 @@ mod segments;
 mod sweeps;
 mod updates;
 mod walks;
+mod words;
 
 use std::env;
 use std::process::exit;
@@ -42,6 +43,7 @@ const FAMILIES: &[Family] = &[
     ("segments", 2_000, segments::case),
     ("walks", 1_000, walks::case),
     ("edges", 12_000, edges::case),
+    ("words", words::CASES, words::case),
 ];
 
 fn main() {
