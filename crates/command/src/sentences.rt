@@ -1,50 +1,46 @@
-// What each refusal number means, and what to do then: one table, for every word.
+// What is said of a refusal: its number, its words, and what to do then.
 use text::Text;
 
-// A text with the number of a refusal and its sentence.
+// A text with the number of a refusal, its words and its advice.
 pub(crate) fn refused(t: Text, n: u8) -> Text {
-    sentence(t.add(b"refused ").decimal(n as u64).add(b": "), n)
+    let w = refusal::words_of(n);
+    let bytes = w.bytes;
+    let said = t.add(b"refused ")
+        .decimal(n as u64)
+        .add(b": ")
+        .add(endian::window(&bytes, 0, w.used));
+    advice(said, n)
 }
 
-// A text with the sentence of a refusal.
-pub(crate) fn sentence(t: Text, n: u8) -> Text {
+// A text with what a refusal comes from, or what to do then, where its words do not say it.
+fn advice(t: Text, n: u8) -> Text {
     match n {
-        1 => t.add(b"the bytes given have the wrong size"),
-        2 => t.add(b"the signature bytes differ: no pool is there, or its block was written over"),
-        3 => t.add(b"the block's checksum differs: it is torn or damaged"),
-        4 => t.add(b"the device is too small: a pool takes 2097152 sectors (1 GiB) at least"),
-        5 => t.add(b"flags or a field that has to be zero is not zero"),
-        6 => t.add(b"a UUID has a byte that is no digit 0-9 or a-f"),
-        7 => t.add(b"the metadata size is not allowed: an even number of sectors, 2040 to 16384"),
-        8 => t.add(b"the reserved size is not allowed: 65536 sectors at the most"),
-        9 => t.add(b"an area entry breaks a limit, or both have one time"),
-        10 => t.add(
-            b"neither copy's block is accepted; check says why, restore puts a backup back, format makes a new pool",
-        ),
-        11 => t.add(b"both blocks are accepted, but are of different pools or devices"),
-        12 => t.add(b"no area holds a whole record; a backup can be restored"),
-        13 => t.add(
-            b"the two copies have different records of one time; neither can be told to be newer",
-        ),
-        _ => later_sentence(t, n),
+        2 => t.add(b": no pool is there, or its block was written over"),
+        3 => t.add(b": it is torn or damaged"),
+        4 => t.add(b": a pool takes a device of 2097152 sectors (1 GiB) at least"),
+        6 => t.add(b": only 0-9 and a-f are"),
+        7 => t.add(b": the metadata size is an even number of sectors, 2040 to 16384"),
+        8 => t.add(b": the reserved size is 65536 sectors at the most"),
+        10 => t.add(b"; check says why, restore puts a backup back, format makes a new pool"),
+        11 => t.add(b": the copies are of different pools or devices"),
+        12 => t.add(b"; a backup can be restored"),
+        13 => t.add(b"; neither can be told to be newer"),
+        _ => later_advice(t, n),
     }
 }
 
 // The same for the numbers from 14 on.
-fn later_sentence(t: Text, n: u8) -> Text {
+fn later_advice(t: Text, n: u8) -> Text {
     match n {
-        14 => t.add(b"the time is not later than the present record's"),
-        15 => t.add(b"the record has no byte, or more than 8192"),
-        16 => t.add(b"the copies are not in step; mend first"),
-        17 => t.add(b"it is no segment record, or has a kind that is not known"),
-        18 => t.add(
-            b"a segment is empty or not wholly in the data range, or 0 sectors are asked for",
-        ),
-        19 => t.add(b"two segments share a sector"),
-        20 => t.add(b"no free run is long enough; show lists the free room"),
-        21 => t.add(b"the record already holds 409 segments; release one first"),
-        22 => t.add(b"no segment has that position; show lists them, counted from 0"),
-        23 => t.add(b"no store has that number"),
-        _ => t.add(b"a number that this command does not know"),
+        15 => t.add(b": a record has 1 to ")
+            .decimal(layout::RECORD_LIMIT)
+            .add(b" bytes"),
+        16 => t.add(b"; mend first"),
+        20 => t.add(b"; show lists the free room"),
+        21 => t.add(b", ")
+            .decimal(items::MOST_SEGMENTS as u64)
+            .add(b"; release one first"),
+        22 => t.add(b"; show lists them, counted from 0"),
+        _ => t,
     }
 }
