@@ -30,7 +30,7 @@ area-length A = lit≤ tt
 area-length B = lit≤ tt
 
 other-length : (o : Other) → length (otherWord o) ≤ 20
-other-length Both = lit≤ tt
+other-length (Both g) = lit≤ tt
 other-length (One n) = length-digits 20 n
 
 -- every line has room

@@ -9,6 +9,7 @@ use lib.ListN.{length, take, drop, length-take, length-drop}
 use Rattle.layout.specs.Places.{copyBytes}
 use Rattle.layout.specs.declared.Side.the-variants.{Front}
 use Rattle.layout.specs.declared.Area.the-variants.{A}
+use Rattle.block.specs.declared.BlockFields.{BlockFields}
 use Rattle.discovery.specs.declared.Other.the-variants.{Both}
 use Rattle.discovery.specs.declared.Answer.the-variants.{Found, Refused}
 use Rattle.discovery.specs.Discovery.{sized, discovery}
@@ -34,10 +35,10 @@ unfolding discovery
 other-size d h = rw (not-copies d h)
 
 -- `found front a 28 10 5 both`
-pub example : lineOf (Found (record { side = Front; area = A; bytes = 28; seconds = 10; nanoseconds = 5 }) Both)
+pub example : (x y : BlockFields) → lineOf (Found (record { side = Front; area = A; bytes = 28; seconds = 10; nanoseconds = 5; fields = x }) (Both y))
     ≡ 102 ∷ 111 ∷ 117 ∷ 110 ∷ 100 ∷ 32 ∷ 102 ∷ 114 ∷ 111 ∷ 110 ∷ 116 ∷ 32 ∷ 97 ∷ 32 ∷ 50 ∷ 56 ∷ 32 ∷ 49 ∷ 48 ∷ 32 ∷ 53 ∷ 32 ∷ 98 ∷ 111 ∷ 116 ∷ 104 ∷ 10 ∷ []
 unfolding lineOf flatten digits
-example = refl
+example x y = refl
 
 -- `refused 10`
 pub example-refused : lineOf (Refused 10) ≡ 114 ∷ 101 ∷ 102 ∷ 117 ∷ 115 ∷ 101 ∷ 100 ∷ 32 ∷ 49 ∷ 48 ∷ 10 ∷ []

@@ -31,7 +31,7 @@ areaWord B = 98 ∷ 32 ∷ []
 
 -- "both", or the other copy's refusal number
 abbrev pub otherWord : Other → List ℕ
-otherWord Both = 98 ∷ 111 ∷ 116 ∷ 104 ∷ []
+otherWord (Both g) = 98 ∷ 111 ∷ 116 ∷ 104 ∷ []
 otherWord (One n) = decimal n
 
 -- "found ", "refused ", a space, and the line's end

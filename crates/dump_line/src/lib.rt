@@ -47,7 +47,7 @@ fn add_other(t: Text, o: Other) -> Text
     ensures { λ r. ⌜ text r ≡ added (text t) (otherWord o) ⌝ }
 {
     match o {
-        Other::Both => t.add(b"both"),
+        Other::Both(_) => t.add(b"both"),
         Other::One(n) => t.decimal(n as u64),
     }
 }
