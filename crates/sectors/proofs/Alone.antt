@@ -26,8 +26,9 @@ use Rattle.block.proofs.Demand.{exactly}
 use Rattle.search.specs.Search.{every}
 use Rattle.search.proofs.Search.{every-at, every-all, every-false}
 use Rattle.copy.specs.declared.Present.the-variants.{Nothing, At}
-use Rattle.copy.specs.Copy.{blockIn, areaBytes, entryIn, otherArea, wholeEntry, whole, newest, presentFrom, present, readingIn}
+use Rattle.copy.specs.Copy.{blockIn, areaBytes, entryIn, otherArea, wholeEntry, whole, newest, presentFrom, present, readingIn, sizedReading}
 use Rattle.copy.proofs.Latest.{present-latest}
+use Rattle.copy.proofs.Readings.{sized-reading}
 use Rattle.crash.specs.Crash.{areaSectors}
 use Rattle.crash.proofs.Copies.{limit-sectors}
 use Rattle.sectors.specs.Sectors.{copySectors, areaStart, named, namedIn, mattersFor, newestWhole, matters, isRead, passes, known}
@@ -66,7 +67,7 @@ block-counts (Verdict.Refused n) w = refl
 
 block-matters : (c : List ℕ) → matters c 1 ≡ true
 unfolding matters
-block-matters c = block-counts (readingIn c .verdict) (newestWhole c (readingIn c .verdict))
+block-matters c = block-counts (sizedReading c .verdict) (newestWhole c (sizedReading c .verdict))
 
 named-used : (e : Entry) (j : ℕ) → 512 * j < holdingOf e .bytes → named e j ≡ true
 named-used Unused j l = absurd (omega arith)
@@ -86,7 +87,7 @@ other-counts f i h =
     ap (λ (t : Bool). eqb i 1 || (namedIn f (newest f) i || t)) h
     ∙ (ap (λ (t : Bool). eqb i 1 || t) (or-true (namedIn f (newest f) i)) ∙ or-true (eqb i 1))
 
-module _ (c : List ℕ) (f : BlockFields) (a : readingIn c .verdict ≡ Verdict.Accepted f) (i : ℕ) where
+module _ (c : List ℕ) (f : BlockFields) (a : sizedReading c .verdict ≡ Verdict.Accepted f) (i : ℕ) where
   -- of a copy whose block is accepted
   pub matters-is : matters c i ≡ mattersFor (Verdict.Accepted f) (whole c f (newest f)) i
   unfolding matters
@@ -106,14 +107,14 @@ passed v w m i p h = sym (ap (λ (t : Bool). not t || isRead m i) h) ∙ p
 known-read : (c m : List ℕ) → known c m ≡ true → (i : ℕ) → i < copySectors → matters c i ≡ true → isRead m i ≡ true
 unfolding known matters
 known-read c m k i l =
-    passed (readingIn c .verdict) (newestWhole c (readingIn c .verdict)) m i
-    (every-at (passes (readingIn c .verdict) (newestWhole c (readingIn c .verdict)) m) copySectors k i l)
+    passed (sizedReading c .verdict) (newestWhole c (sizedReading c .verdict)) m i
+    (every-at (passes (sizedReading c .verdict) (newestWhole c (sizedReading c .verdict)) m) copySectors k i l)
 
 read-known : (c m : List ℕ) → ((i : ℕ) → i < copySectors → matters c i ≡ true → isRead m i ≡ true) → known c m ≡ true
 unfolding known matters
 read-known c m h =
-    every-all (passes (readingIn c .verdict) (newestWhole c (readingIn c .verdict)) m) copySectors
-    (λ i l. go (mattersFor (readingIn c .verdict) (newestWhole c (readingIn c .verdict)) i) (isRead m i) (h i l))
+    every-all (passes (sizedReading c .verdict) (newestWhole c (sizedReading c .verdict)) m) copySectors
+    (λ i l. go (mattersFor (sizedReading c .verdict) (newestWhole c (sizedReading c .verdict)) i) (isRead m i) (h i l))
   where
     go : (t r : Bool) → (t ≡ true → r ≡ true) → not t || r ≡ true
     go true r q = q refl
@@ -126,8 +127,8 @@ meaning c m = record { known-read = known-read c m; read-known = read-known c m 
 pub no-block : (c m : List ℕ) → isRead m 1 ≡ false → known c m ≡ false
 unfolding known
 no-block c m h =
-    every-false (passes (readingIn c .verdict) (newestWhole c (readingIn c .verdict)) m) copySectors 1 block-there
-    (ap₂ (λ (t r : Bool). not t || r) (block-counts (readingIn c .verdict) (newestWhole c (readingIn c .verdict))) h)
+    every-false (passes (sizedReading c .verdict) (newestWhole c (sizedReading c .verdict)) m) copySectors 1 block-there
+    (ap₂ (λ (t r : Bool). not t || r) (block-counts (sizedReading c .verdict) (newestWhole c (sizedReading c .verdict))) h)
 
 pub none-marked : (c m : List ℕ) → NoneMarked m → known c m ≡ true
 none-marked c m h = read-known c m (λ i l w. h i l)
@@ -153,7 +154,16 @@ module _ (m c e : List ℕ) (g : Agree m c e) (k : known c m ≡ true) where
   block-same : readingIn e ≡ readingIn c
   block-same = ap reading block-bytes
 
+  sized-here : sizedReading c ≡ readingIn c
+  sized-here = sized-reading c (g .size)
+
+  sized-same : sizedReading e ≡ sizedReading c
+  sized-same = sized-reading e (g .size-too) ∙ (block-same ∙ sym sized-here)
+
   module _ (f : BlockFields) (a : readingIn c .verdict ≡ Verdict.Accepted f) where
+    sized-accepted : sizedReading c .verdict ≡ Verdict.Accepted f
+    sized-accepted = ap (λ (r : Reading). r .verdict) sized-here ∙ a
+
     -- an area whose named sectors matter
     area-same : (x : Area) → ((i : ℕ) → namedIn f x i ≡ true → matters c i ≡ true) → SameArea c e f x
     area-same x h = part-same c e (areaOffset x) (holdingOf (entryIn f x) .bytes) sector
@@ -171,10 +181,10 @@ module _ (m c e : List ℕ) (g : Agree m c e) (k : known c m ≡ true) where
             ∙ ap (λ (n : ℕ). window c n 512) (sym z))
 
     newest-same : SameArea c e f (newest f)
-    newest-same = area-same (newest f) (newest-matters c f a)
+    newest-same = area-same (newest f) (newest-matters c f sized-accepted)
 
     other-same : whole c f (newest f) ≡ false → SameArea c e f (otherArea (newest f))
-    other-same w = area-same (otherArea (newest f)) (λ i. other-matters c f a i w)
+    other-same w = area-same (otherArea (newest f)) (λ i. other-matters c f sized-accepted i w)
 
     newest-whole-same : whole e f (newest f) ≡ whole c f (newest f)
     newest-whole-same = whole-same c e (newest f) (entryIn f (newest f)) newest-same
@@ -224,8 +234,9 @@ module _ (m c e : List ℕ) (g : Agree m c e) (k : known c m ≡ true) where
   known-too : known e m ≡ true
   unfolding known
   known-too =
-      ap (λ (r : Reading). every (passes (r .verdict) (newestWhole e (r .verdict)) m) copySectors) block-same
-      ∙ (ap (λ (w : Bool). every (passes (readingIn c .verdict) w m) copySectors) (go (readingIn c .verdict) refl) ∙ k)
+      ap (λ (r : Reading). every (passes (r .verdict) (newestWhole e (r .verdict)) m) copySectors) sized-same
+      ∙ (ap (λ (w : Bool). every (passes (sizedReading c .verdict) w m) copySectors)
+      (go (sizedReading c .verdict) (sym (ap (λ (r : Reading). r .verdict) sized-here))) ∙ k)
     where
       go : (v : Verdict) → readingIn c .verdict ≡ v → newestWhole e v ≡ newestWhole c v
       go (Verdict.Accepted f) a = newest-whole-same f a

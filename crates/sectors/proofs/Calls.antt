@@ -16,11 +16,14 @@ use Rattle.layout.specs.declared.Area.the-variants.{A, B}
 use Rattle.layout.specs.Places.{headerSector, areaSector}
 use Rattle.block.specs.declared.Entry.{Entry}
 use Rattle.block.specs.declared.BlockFields.{BlockFields}
-use Rattle.block.specs.declared.Reading.{Reading}
+use Rattle.block.specs.declared.Verdict.{Verdict}
+use Rattle.block.specs.declared.Verdict.the-variants as Verdict
 use Rattle.search.specs.Search.{every}
-use Rattle.copy.specs.Copy.{entryIn, readingIn}
+use Rattle.copy.specs.declared.PresentReading.{PresentReading}
+use Rattle.copy.specs.Copy.{entryIn, sizedReading, presentFor, copyReading, presentReadingOf}
+use Rattle.copy.proofs.Newness.{current-whole}
 use Rattle.crash.specs.Crash.{areaSectors}
-use Rattle.sectors.specs.Sectors.{copySectors, areaStart, byPart, below, placeOf, sectorAt, named, namedIn, mattersFor, newestWhole, matters, isRead, passes, known}
+use Rattle.sectors.specs.Sectors.{copySectors, areaStart, byPart, below, placeOf, sectorAt, named, namedIn, mattersFor, currentFor, newestWhole, matters, isRead, passes, known}
 
 pub below-past : (s n : ℕ) → s ≤ n → s ≡ below s n
 unfolding below
@@ -142,17 +145,24 @@ unfolding isRead
 mark-missing m i l = sym (ap (λ (b : ℕ). eqb b 0) (lib.ListN.List·getD-eq-default m 1 l))
 
 -- a copy by what reading its block answered, and whether its newest area is whole
-module _ (c : List ℕ) (r : Reading) (w a : Bool) (ew : w ≡ newestWhole c (r .verdict)) (er : r ≡ readingIn c) where
-  pub matters-by : (i : ℕ) → a ≡ mattersFor (r .verdict) w i → a ≡ matters c i
-  unfolding matters
-  matters-by i h =
-      h
-      ∙ (ap (λ (t : Bool). mattersFor (r .verdict) t i) ew
-      ∙ ap (λ (q : Reading). mattersFor (q .verdict) (newestWhole c (q .verdict)) i) er)
+-- whether the newest area is whole, by the present record
+current-for : (c : List ℕ) (v : Verdict) → currentFor v (presentFor c v) ≡ newestWhole c v
+current-for c (Verdict.Accepted f) = current-whole c f
+current-for c (Verdict.Refused n) = refl
 
-  pub known-by : (m : List ℕ) → a ≡ every (passes (r .verdict) w m) copySectors → a ≡ known c m
+module _ (c : List ℕ) (q : PresentReading) (w a : Bool) (ew : w ≡ currentFor (q .block .verdict) (q .present)) (eq : q ≡ presentReadingOf (copyReading c)) where
+  whole-by : w ≡ newestWhole c (sizedReading c .verdict)
+  unfolding copyReading
+  whole-by = ew ∙ (ap (λ (z : PresentReading). currentFor (z .block .verdict) (z .present)) eq ∙ current-for c (sizedReading c .verdict))
+
+  read-by : q .block .verdict ≡ sizedReading c .verdict
+  unfolding copyReading
+  read-by = ap (λ (z : PresentReading). z .block .verdict) eq
+
+  pub matters-by : (i : ℕ) → a ≡ mattersFor (q .block .verdict) w i → a ≡ matters c i
+  unfolding matters
+  matters-by i h = h ∙ ap₂ (λ (v : Verdict) (t : Bool). mattersFor v t i) read-by whole-by
+
+  pub known-by : (m : List ℕ) → a ≡ every (passes (q .block .verdict) w m) copySectors → a ≡ known c m
   unfolding known
-  known-by m h =
-      h
-      ∙ (ap (λ (t : Bool). every (passes (r .verdict) t m) copySectors) ew
-      ∙ ap (λ (q : Reading). every (passes (q .verdict) (newestWhole c (q .verdict)) m) copySectors) er)
+  known-by m h = h ∙ ap₂ (λ (v : Verdict) (t : Bool). every (passes v t m) copySectors) read-by whole-by

@@ -25,10 +25,10 @@ use Rattle.discovery.specs.declared.Other.{Other}
 use Rattle.discovery.specs.declared.Other.the-variants.{Both}
 use Rattle.discovery.specs.declared.Answer.{Answer}
 use Rattle.discovery.specs.declared.Answer.the-variants.{Found, Refused}
-use Rattle.copy.specs.Copy.{areaBytes, entryIn, newest, present, readingIn}
-use Rattle.discovery.specs.Discovery.{recordAt, aloneOf, togetherOf, sameDevice, sameUuids, decide, sized, discovery, stepped, inStepOf, inStep, copyOn, recordBytes}
+use Rattle.copy.specs.Copy.{isCopy, areaBytes, entryIn, newest, present, readingIn}
+use Rattle.discovery.specs.Discovery.{findingOf, aloneOf, togetherOf, sameDevice, sameUuids, sized, discovery, stepped, inStepOf, inStep, copyOn, recordBytes}
 use Rattle.discovery.specs.Newest.{Newest}
-use Rattle.discovery.proofs.Deciding.{discovery-sized}
+use Rattle.discovery.proofs.Deciding.{decideAt, discovery-sized}
 use Rattle.discovery.proofs.Latest.{newest-found}
 use Rattle.crash.specs.Crash.{copyFrom}
 use Rattle.sectors.specs.Sectors.{copySectors, isRead, known, settled}
@@ -43,19 +43,19 @@ module _ {f b g k : List ℕ} (sf : SameCopy f g) (sb : SameCopy b k) where
 
   -- both blocks accepted, with fields x and y
   module _ (x y : BlockFields) (ax : readingIn f .verdict ≡ Verdict.Accepted x) (ay : readingIn b .verdict ≡ Verdict.Accepted y) where
-    together : (p q : Present) → present f x ≡ p → present b y ≡ q → togetherOf g k p q ≡ togetherOf f b p q
+    together : (p q : Present) → present f x ≡ p → present b y ≡ q → togetherOf g k x y p q ≡ togetherOf f b x y p q
     together Nothing Nothing p q = refl
     together Nothing (At v l) p q = refl
     together (At u h) Nothing p q = refl
     together (At u h) (At v l) p q =
         ap₂
         (λ (s t : List ℕ). cond (sameTime (timeOf h) (timeOf l))
-        (cond (same s t) (Found (recordAt Front u h) Both) (Refused twoRecords))
-        (cond (laterThan (timeOf l) (timeOf h)) (Found (recordAt Back v l) Both) (Found (recordAt Front u h) Both)))
+        (cond (same s t) (Found (findingOf Front x u h) (Both y)) (Refused twoRecords))
+        (cond (laterThan (timeOf l) (timeOf h)) (Found (findingOf Back y v l) (Both x)) (Found (findingOf Front x u h) (Both y))))
         (sf .bytes x u h ax p) (sb .bytes y v l ay q)
 
-    together-same : togetherOf g k (present g x) (present k y) ≡ togetherOf f b (present f x) (present b y)
-    together-same = ap₂ (togetherOf g k) (sf .its-present x ax) (sb .its-present y ay) ∙ together (present f x) (present b y) refl refl
+    together-same : togetherOf g k x y (present g x) (present k y) ≡ togetherOf f b x y (present f x) (present b y)
+    together-same = ap₂ (togetherOf g k x y) (sf .its-present x ax) (sb .its-present y ay) ∙ together (present f x) (present b y) refl refl
 
     stepped-same : stepped g x k y ≡ stepped f x b y
     stepped-same =
@@ -64,10 +64,10 @@ module _ {f b g k : List ℕ} (sf : SameCopy f g) (sb : SameCopy b k) where
         (ap₂ (λ (s t : List ℕ). sameTime (timeOf (holdingOf (entryIn x (newest x)))) (timeOf (holdingOf (entryIn y (newest y)))) && same s t)
         (sf .newest-area x ax) (sb .newest-area y ay)))
 
-  decided : (v w : Verdict) → readingIn f .verdict ≡ v → readingIn b .verdict ≡ w → (u : Bool) → decide v w u g k ≡ decide v w u f b
+  decided : (v w : Verdict) → readingIn f .verdict ≡ v → readingIn b .verdict ≡ w → (u : Bool) → decideAt v w u g k ≡ decideAt v w u f b
   decided (Verdict.Refused m) (Verdict.Refused n) p q u = refl
-  decided (Verdict.Refused m) (Verdict.Accepted y) p q u = ap (λ (z : Present). aloneOf Back z m) (sb .its-present y q)
-  decided (Verdict.Accepted x) (Verdict.Refused n) p q u = ap (λ (z : Present). aloneOf Front z n) (sf .its-present x p)
+  decided (Verdict.Refused m) (Verdict.Accepted y) p q u = ap (λ (z : Present). aloneOf Back y z m) (sb .its-present y q)
+  decided (Verdict.Accepted x) (Verdict.Refused n) p q u = ap (λ (z : Present). aloneOf Front x z n) (sf .its-present x p)
   decided (Verdict.Accepted x) (Verdict.Accepted y) p q u = ap (λ (z : Answer). cond (sameDevice x y && u) z (Refused identity)) (together-same x y p q)
 
   in-step : (v w : Verdict) → readingIn f .verdict ≡ v → readingIn b .verdict ≡ w → (u : Bool) → inStepOf v w u g k ≡ inStepOf v w u f b
@@ -79,7 +79,7 @@ module _ {f b g k : List ℕ} (sf : SameCopy f g) (sb : SameCopy b k) where
     answers-same : discovery g k ≡ discovery f b
     answers-same =
         sym (discovery-sized g k zg)
-        ∙ (ap₂ (λ (r q : Reading). decide (r .verdict) (q .verdict) (sameUuids r q) g k) (sf .reads) (sb .reads)
+        ∙ (ap₂ (λ (r q : Reading). decideAt (r .verdict) (q .verdict) (sameUuids r q) g k) (sf .reads) (sb .reads)
         ∙ (decided (readingIn f .verdict) (readingIn b .verdict) refl refl (sameUuids (readingIn f) (readingIn b)) ∙ discovery-sized f b zf))
 
     step-same : inStep g k ≡ inStep f b
@@ -92,16 +92,16 @@ module _ {f b g k : List ℕ} (sf : SameCopy f g) (sb : SameCopy b k) where
     found-same : (r : Finding) (o : Other) → discovery f b ≡ Found r o → recordBytes r g k ≡ recordBytes r f b
     found-same r o e =
         let n : Newest f b r = newest-found f b r o e in
-        let l : r .bytes ≡ holdingOf (entryIn (n .fields) (r .area)) .bytes = ap (λ (q : Finding). q .bytes) (n .is) in
+        let l : r .bytes ≡ holdingOf (entryIn (r .fields) (r .area)) .bytes = ap (λ (q : Finding). q .bytes) (n .is) in
         ap (areaBytes (copyOn (r .side) g k) (r .area)) l
-        ∙ (on (r .side) .bytes (n .fields) (r .area) (holdingOf (entryIn (n .fields) (r .area))) (n .accepted) (n .its-present) ∙ ap (areaBytes (copyOn (r .side) f b) (r .area)) (sym l))
+        ∙ (on (r .side) .bytes (r .fields) (r .area) (holdingOf (entryIn (r .fields) (r .area))) (n .accepted) (n .its-present) ∙ ap (areaBytes (copyOn (r .side) f b) (r .area)) (sym l))
 
     both-same : SameBoth f b g k
     both-same = record { answers = answers-same; step = step-same; bytes = found-same }
 
 pub sizes : (f b : List ℕ) → length f ≡ copyBytes → length b ≡ copyBytes → sized f b ≡ true
 sizes f b p q =
-    and-both (eqb (length f) copyBytes) (eqb (length b) copyBytes) (eq-eqb (length f) copyBytes p) (eq-eqb (length b) copyBytes q)
+    and-both (isCopy f) (isCopy b) (eq-eqb (length f) copyBytes p) (eq-eqb (length b) copyBytes q)
 
 pub settled-same : Settled
 unfolding settled

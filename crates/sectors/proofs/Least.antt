@@ -14,7 +14,7 @@ use Rattle.block.specs.declared.Verdict.{Verdict}
 use Rattle.block.specs.declared.Verdict.the-variants as Verdict
 use Rattle.block.specs.Writing.{holdingOf}
 use Rattle.search.proofs.Search.{and-false-right}
-use Rattle.copy.specs.Copy.{entryIn, otherArea, whole, newest, readingIn}
+use Rattle.copy.specs.Copy.{entryIn, otherArea, whole, newest, sizedReading}
 use Rattle.crash.specs.Crash.{areaSectors}
 use Rattle.sectors.specs.Sectors.{copySectors, areaStart, named, namedIn, mattersFor, newestWhole, matters}
 use Rattle.sectors.specs.Demand.{Bounded}
@@ -29,7 +29,7 @@ none-for (Verdict.Refused k) w i n h = ne-eqb i 1 n
 
 none-named : (c : List ℕ) (i : ℕ) → (i ≡ 1 → ⊥) → ((f : BlockFields) (x : Area) → namedIn f x i ≡ false) → matters c i ≡ false
 unfolding matters
-none-named c i = none-for (readingIn c .verdict) (newestWhole c (readingIn c .verdict)) i
+none-named c i = none-for (sizedReading c .verdict) (newestWhole c (sizedReading c .verdict)) i
 
 header : (c : List ℕ) (i : ℕ) → i < areaStart A → (i ≡ 1 → ⊥) → matters c i ≡ false
 header c i l n = none-named c i n none
@@ -48,7 +48,7 @@ past c i l = none-named c i (λ e. let t : 1 < copySectors = block-there in omeg
         sym (named-past f A i (omega arith) (omega arith))
     none f B = let b : copySectors ≡ areaStart B + areaSectors = b-last in sym (named-past f B i (omega arith) (omega arith))
 
-refused : (c : List ℕ) (n : ℕ) → readingIn c .verdict ≡ Verdict.Refused n → (i : ℕ) → (i ≡ 1 → ⊥) → matters c i ≡ false
+refused : (c : List ℕ) (n : ℕ) → sizedReading c .verdict ≡ Verdict.Refused n → (i : ℕ) → (i ≡ 1 → ⊥) → matters c i ≡ false
 unfolding matters
 refused c n e i h = ap (λ (v : Verdict). mattersFor v (newestWhole c v) i) e ∙ ne-eqb i 1 h
 
@@ -69,7 +69,7 @@ named-not : (e : Entry) (j : ℕ) → holdingOf e .bytes ≤ 512 * j → named e
 named-not Unused j l = refl
 named-not (Used h) j l = le-ltb (512 * j) (h .bytes) l
 
-module _ (c : List ℕ) (f : BlockFields) (a : readingIn c .verdict ≡ Verdict.Accepted f) where
+module _ (c : List ℕ) (f : BlockFields) (a : sizedReading c .verdict ≡ Verdict.Accepted f) where
   unnamed : (y : Area) (j : ℕ) → j < areaSectors → holdingOf (entryIn f y) .bytes ≤ 512 * j → matters c (areaStart y + j) ≡ false
   unnamed y j l h =
       matters-is c f a (areaStart y + j)

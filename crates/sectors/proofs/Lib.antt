@@ -5,4 +5,3 @@ pub mod Alone
 pub mod Least
 pub mod Placed
 pub mod Demand
-pub mod Stored

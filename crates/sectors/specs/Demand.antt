@@ -1,5 +1,5 @@
 -- What sectors that could not be read can change. `proofs/Alone.antt` proves `Alone`, `Steady` and `Meaning`, `proofs/Least.antt`
--- `Bounded`, `proofs/Placed.antt` `Placed`, `proofs/Stored.antt` `Stored` and `SureStored`, `proofs/Demand.antt` the rest.
+-- `Bounded`, `proofs/Placed.antt` `Placed`, `proofs/Demand.antt` the rest. That what is stored is the same too is `claims`' `Stored`.
 use Prim.Native.Nat.{ℕ, _+_, _*_, _≤_, _<_}
 use mathlib.Core.Path.{_≡_}
 use mathlib.Core.Bool.{true, false}
@@ -14,7 +14,6 @@ use Rattle.layout.specs.declared.Area.{Area}
 use Rattle.layout.specs.declared.Area.the-variants.{A}
 use Rattle.layout.specs.Limits.{deviceTests, sectorBytes}
 use Rattle.layout.specs.Places.{copyBytes}
-use Rattle.block.specs.declared.Time.{Time}
 use Rattle.block.specs.declared.Holding.{Holding}
 use Rattle.block.specs.declared.BlockFields.{BlockFields}
 use Rattle.block.specs.declared.Verdict.the-variants as Verdict
@@ -23,16 +22,9 @@ use Rattle.copy.specs.declared.Present.the-variants.{At}
 use Rattle.discovery.specs.declared.Finding.{Finding}
 use Rattle.discovery.specs.declared.Other.{Other}
 use Rattle.discovery.specs.declared.Answer.the-variants.{Found}
-use Rattle.copy.specs.Copy.{areaBytes, entryIn, otherArea, whole, newest, present, readingIn}
+use Rattle.copy.specs.Copy.{areaBytes, entryIn, otherArea, whole, newest, present, readingIn, sizedReading}
 use Rattle.discovery.specs.Discovery.{discovery, inStep, recordBytes}
 use Rattle.crash.specs.Crash.{Sectors, Sound, areaSectors, copyFrom}
-use Rattle.update.specs.declared.Plan.{Plan}
-use Rattle.update.specs.Update.{updateGroups}
-use Rattle.update.specs.Plan.{planned}
-use Rattle.update.specs.Plan as Update
-use Rattle.mend.specs.Mend.{mendGroups}
-use Rattle.mend.specs.Plan.{mending}
-use Rattle.mend.specs.Plan as Mend
 use Rattle.sectors.specs.Sectors.{copySectors, areaStart, sectorAt, matters, isRead, known, settled}
 
 -- sector i of a copy
@@ -77,24 +69,6 @@ Settled =
     (f b g k fm bm : List ℕ) → Agree fm f g → Agree bm b k → settled f b fm bm ≡ true
     → SameBoth f b g k
 
--- what a mend and an update store: both are worked out the same, and each store by its number is to the same sector, with the same
--- bytes; and so are the groups of stores that a cut speaks of
-pub record SameStores (f b g k : List ℕ) : Type 0 where
-  pub mends : mending g k ≡ mending f b
-  pub mend-place : (i : ℕ) (out : List ℕ) → Mend.storeAnswer (mending g k) g k i out ≡ Mend.storeAnswer (mending f b) f b i out
-  pub mend-bytes : (i : ℕ) (out : List ℕ) → Mend.storeBytes (mending g k) g k i out ≡ Mend.storeBytes (mending f b) f b i out
-  pub mend-groups : mendGroups g k ≡ mendGroups f b
-  pub plans : (t : Time) (r : List ℕ) → planned g k t r ≡ planned f b t r
-  pub update-place : (p : Plan) (r : List ℕ) (i : ℕ) (out : List ℕ) → Update.storeAnswer p g k r i out ≡ Update.storeAnswer p f b r i out
-  pub update-bytes : (p : Plan) (r : List ℕ) (i : ℕ) (out : List ℕ) → Update.storeBytes p g k r i out ≡ Update.storeBytes p f b r i out
-  pub update-groups : (t : Time) (r : List ℕ) → updateGroups g k t r ≡ updateGroups f b t r
-
--- Whatever the marked sectors of two copies hold, what is stored is the same.
-abbrev pub Stored : Type 0
-Stored =
-    (f b g k fm bm : List ℕ) → Agree fm f g → Agree bm b k → settled f b fm bm ≡ true
-    → SameStores f b g k
-
 -- Nor does the test itself depend on what the marked sectors hold.
 abbrev pub Steady : Type 0
 Steady = (m c e : List ℕ) → Agree m c e → known e m ≡ known c m
@@ -114,10 +88,10 @@ Meaning = (c m : List ℕ) → Known c m
 pub record Least (c : List ℕ) : Type 0 where
   pub header : (i : ℕ) → i < areaStart A → (i ≡ 1 → ⊥) → matters c i ≡ false
   pub past : (i : ℕ) → copySectors ≤ i → matters c i ≡ false
-  pub refused : (n : ℕ) → readingIn c .verdict ≡ Verdict.Refused n → (i : ℕ) → (i ≡ 1 → ⊥) → matters c i ≡ false
-  pub unnamed : (x : BlockFields) → readingIn c .verdict ≡ Verdict.Accepted x → (y : Area) (j : ℕ) → j < areaSectors
+  pub refused : (n : ℕ) → sizedReading c .verdict ≡ Verdict.Refused n → (i : ℕ) → (i ≡ 1 → ⊥) → matters c i ≡ false
+  pub unnamed : (x : BlockFields) → sizedReading c .verdict ≡ Verdict.Accepted x → (y : Area) (j : ℕ) → j < areaSectors
       → holdingOf (entryIn x y) .bytes ≤ sectorBytes * j → matters c (areaStart y + j) ≡ false
-  pub older : (x : BlockFields) → readingIn c .verdict ≡ Verdict.Accepted x → whole c x (newest x) ≡ true → (j : ℕ) → j < areaSectors
+  pub older : (x : BlockFields) → sizedReading c .verdict ≡ Verdict.Accepted x → whole c x (newest x) ≡ true → (j : ℕ) → j < areaSectors
       → matters c (areaStart (otherArea (newest x)) + j) ≡ false
 
 -- Of every copy that holds.
@@ -158,10 +132,3 @@ Sure =
     (v : Device) (d : Sectors) (f b fm bm : List ℕ) → first (deviceTests v) ≡ 0 → Sound d
     → ReadFrom Front v d fm f → ReadFrom Back v d bm b → settled f b fm bm ≡ true
     → SameBoth f b (copyFrom Front v d) (copyFrom Back v d)
-
--- And what is stored is what the device's own copies would have stored.
-abbrev pub SureStored : Type 0
-SureStored =
-    (v : Device) (d : Sectors) (f b fm bm : List ℕ) → first (deviceTests v) ≡ 0 → Sound d
-    → ReadFrom Front v d fm f → ReadFrom Back v d bm b → settled f b fm bm ≡ true
-    → SameStores f b (copyFrom Front v d) (copyFrom Back v d)

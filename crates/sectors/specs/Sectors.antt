@@ -16,7 +16,8 @@ use Rattle.block.specs.declared.BlockFields.{BlockFields}
 use Rattle.block.specs.declared.Verdict.{Verdict}
 use Rattle.block.specs.declared.Verdict.the-variants as Verdict
 use Rattle.search.specs.Search.{every}
-use Rattle.copy.specs.Copy.{entryIn, otherArea, whole, newest, readingIn}
+use Rattle.copy.specs.declared.Present.{Present}
+use Rattle.copy.specs.Copy.{entryIn, otherArea, whole, newest, sizedReading, current}
 use Rattle.crash.specs.Crash.{areaSectors}
 
 -- sectors of a copy as it is lent
@@ -67,9 +68,14 @@ abbrev pub newestWhole : List ℕ → Verdict → Bool
 newestWhole c (Verdict.Accepted f) = whole c f (newest f)
 newestWhole c (Verdict.Refused n) = false
 
+-- the same by its present record: it is that of the entry with the later time
+abbrev pub currentFor : Verdict → Present → Bool
+currentFor (Verdict.Accepted f) p = current f p
+currentFor (Verdict.Refused n) p = false
+
 -- sector i of a copy matters to discovery
 unfoldable pub matters : List ℕ → ℕ → Bool
-matters c i = mattersFor (readingIn c .verdict) (newestWhole c (readingIn c .verdict)) i
+matters c i = mattersFor (sizedReading c .verdict) (newestWhole c (sizedReading c .verdict)) i
 
 -- sector i was read: it has a mark, and the mark is 0
 unfoldable pub isRead : List ℕ → ℕ → Bool
@@ -81,7 +87,7 @@ passes v w m i = not (mattersFor v w i) || isRead m i
 
 -- no sector of a copy that matters is marked
 unfoldable pub known : List ℕ → List ℕ → Bool
-known c m = every (passes (readingIn c .verdict) (newestWhole c (readingIn c .verdict)) m) copySectors
+known c m = every (passes (sizedReading c .verdict) (newestWhole c (sizedReading c .verdict)) m) copySectors
 
 -- what discovery answers for two copies is sure
 unfoldable pub settled : List ℕ → List ℕ → List ℕ → List ℕ → Bool

@@ -6,10 +6,11 @@ ghost use Prim.Native.Nat.{_+_, _*_, _≤_, _<_};
 ghost use Rattle.crash.specs.Crash.{areaSectors};
 ghost use Rattle.layout.specs.Places.{headerSector};
 ghost use Rattle.search.specs.Search.{every};
-ghost use Rattle.sectors.specs.Sectors.{copySectors, areaStart, below, sectorAt, named, namedIn, mattersFor, newestWhole, matters, isRead, passes, known, settled};
+ghost use Rattle.sectors.specs.Sectors.{copySectors, areaStart, below, sectorAt, named, namedIn, mattersFor, currentFor, matters, isRead, passes, known, settled};
 use block::BlockFields;
 use block::Entry;
 use block::Verdict;
+use copy::Present;
 use layout::Area;
 use layout::Device;
 use layout::Side;
@@ -41,7 +42,7 @@ fn header_sector(side: Side, d: Device) -> u64
 {
     match side {
         Side::Front => 0,
-        Side::Back => if d.sectors < 8 { 0 } else { d.sectors - 8 },
+        Side::Back => if d.sectors < layout::HEADER_SECTORS { 0 } else { d.sectors - layout::HEADER_SECTORS },
     }
 }
 
@@ -108,7 +109,7 @@ fn named_in(f: BlockFields, x: Area, i: usize) -> bool
     if area_sectors() <= j {
         return false;
     }
-    named(discovery::entry_in(f, x), j)
+    named(copy::entry_in(f, x), j)
 }
 
 // Whether sector i of a copy matters, by what reading its block answered and whether the newest area is whole (w).
@@ -118,19 +119,19 @@ fn matters_for(v: Verdict, w: bool, i: usize) -> bool
     let Verdict::Accepted(f) = v else {
         return i == 1;
     };
-    let x = discovery::newest(f);
-    let y = discovery::other_area(x);
+    let x = copy::newest(f);
+    let y = copy::other_area(x);
     (i == 1) | (named_in(f, x, i) | (!w & named_in(f, y, i)))
 }
 
-// Whether a copy's block is accepted and the area of the entry with the later time is whole.
-fn newest_whole(c: &[u8], v: Verdict) -> bool
-    ensures { λ r. ⌜ r ≡ newestWhole (now (c .entry)) v ⌝ }
+// Whether a copy's block is accepted and its present record is that of the entry with the later time, which is then whole.
+fn newest_whole(v: Verdict, p: Present) -> bool
+    ensures { λ r. ⌜ r ≡ currentFor v p ⌝ }
 {
     let Verdict::Accepted(f) = v else {
         return false;
     };
-    discovery::whole(c, f, discovery::newest(f))
+    copy::current(f, p)
 }
 
 // Whether sector i of a copy matters to discovery: the signature block's; where the block is accepted those that the entry with
@@ -139,9 +140,11 @@ fn newest_whole(c: &[u8], v: Verdict) -> bool
 pub fn matters(c: &[u8], i: usize) -> bool
     ensures { λ r. ⌜ r ≡ matters (now (c .entry)) i ⌝ }
 {
-    let r = block::read(endian::window(c, 512, 512));
+    let q = copy::read_present(c);
+    let r = q.block;
     let v = r.verdict;
-    matters_for(v, newest_whole(c, v), i)
+    let p = q.present;
+    matters_for(v, newest_whole(v, p), i)
 }
 
 // Whether sector i was read. One without a mark was not.
@@ -175,9 +178,11 @@ fn all_pass(v: Verdict, w: bool, marks: &[u8]) -> bool
 pub fn known(c: &[u8], marks: &[u8]) -> bool
     ensures { λ r. ⌜ r ≡ known (now (c .entry)) (now (marks .entry)) ⌝ }
 {
-    let r = block::read(endian::window(c, 512, 512));
+    let q = copy::read_present(c);
+    let r = q.block;
     let v = r.verdict;
-    all_pass(v, newest_whole(c, v), marks)
+    let p = q.present;
+    all_pass(v, newest_whole(v, p), marks)
 }
 
 // Whether what discovery answers for two copies is sure: no sector that matters in either is marked.

@@ -12,14 +12,11 @@ enum-told c = search needs
 returns : tie.Need-returns
 returns c = search needs
 
-newest-requires : tie.Need-newest-requires
-newest-requires c κs = search needs
-
-whole-requires : tie.Need-whole-requires
-whole-requires c κs = search needs
+current-requires : tie.Need-current-requires
+current-requires c κs = search needs
 
 returns-2 : tie.Need-returns-2
-returns-2 c = rw (c .before .before .before .v .given .1, c .whole .ensures, c .before .newest .ensures)
+returns-2 c = rw (c .before .before .v .given .1) (c .current .ensures)
 
 pub newest-whole-spec : {M : Type 1} → statement M
-newest-whole-spec = tie.close (tie.spec enum-known-v enum-told returns newest-requires whole-requires returns-2)
+newest-whole-spec = tie.close (tie.spec enum-known-v enum-told returns current-requires returns-2)

@@ -6,28 +6,26 @@ use mathlib.Core.List.{List, [], _∷_, _++_}
 use lib.Dec.{leb, ltb, eqb}
 use lib.ListN.{length}
 use Rattle.endian.proofs.Tests.{and-left, and-right}
-use Rattle.refusal.specs.Numbers.{sliceSize, recordLength, notInStep, areaEntry, notLater, noStore}
+use Rattle.refusal.specs.Numbers.{sliceSize, recordLength, noStore}
 use Rattle.refusal.specs.Tests.{Test, _elseRefuse_, first}
 use Rattle.layout.specs.declared.Side.{Side}
 use Rattle.layout.specs.declared.Side.the-variants.{Front, Back}
 use Rattle.layout.specs.declared.Area.{Area}
 use Rattle.layout.specs.declared.Area.the-variants.{A}
-use Rattle.layout.specs.Limits.{lengthAllowed, nanosecondsAllowed}
-use Rattle.layout.specs.Places.{blockSector, areaSector}
+use Rattle.layout.specs.Limits.{lengthAllowed}
+use Rattle.layout.specs.Places.{areaSector, copyBytes}
 use Rattle.block.specs.declared.Time.{Time}
 use Rattle.block.specs.declared.Entry.the-variants.{Used}
 use Rattle.block.specs.declared.BlockFields.{BlockFields}
 use Rattle.block.specs.declared.Verdict.the-variants as Verdict
-use Rattle.block.specs.Entry.{laterThan}
 use Rattle.block.specs.Block.{deviceOf, poolOf, blockdevOf, fieldsOf}
 use Rattle.block.specs.Writing.{blockOf, writeTests, written}
-use Rattle.record.specs.Accept.{contentTests}
 use Rattle.discovery.specs.declared.Finding.{Finding}
 use Rattle.discovery.specs.declared.Other.{Other}
 use Rattle.discovery.specs.declared.Answer.{Answer}
 use Rattle.discovery.specs.declared.Answer.the-variants as Answer
-use Rattle.copy.specs.Copy.{blockIn, areaBytes, entryIn, otherArea, otherSide, whole, newest, readingIn}
-use Rattle.discovery.specs.Discovery.{sized, discovery, inStep, copyOn, recordBytes}
+use Rattle.copy.specs.Copy.{isCopy, blockIn, areaBytes, entryIn, otherArea, otherSide, whole, newest, readingIn}
+use Rattle.discovery.specs.Discovery.{discovery, inStep, copyOn, recordBytes}
 use Rattle.discovery.specs.Newest.{timeAt}
 use Rattle.discovery.proofs.Latest.{newest-found}
 use Rattle.crash.specs.Crash.{Groups, copyFrom}
@@ -37,10 +35,10 @@ use Rattle.update.specs.declared.Planned.{Planned}
 use Rattle.update.specs.declared.Planned.the-variants as Planned
 use Rattle.stores.specs.declared.Given.{Given}
 use Rattle.stores.specs.declared.Given.the-variants as Given
-use Rattle.update.specs.Update.{numberAfter, updateNumber, newBlock, updateGroups}
-use Rattle.stores.specs.Stores.{sectorsOf, holdingFor, withEntry, recordStores, blockStore}
-use Rattle.update.specs.Plan.{planOf, planned, storesIn, sidesAnswer, sidesBytes}
-use Rattle.stores.specs.Given.{sectorIn, within, unlessRefused, blockAnswer, blockBytes, partAnswer, partBytes, lentRight}
+use Rattle.update.specs.Update.{testsAfter, numberAfter, updateNumber, newBlock, updateGroups}
+use Rattle.stores.specs.Stores.{holdingFor, withEntry, recordStores, blockStore}
+use Rattle.update.specs.Plan.{planFor, planOf, planned, storesIn, sidesAnswer, sidesBytes}
+use Rattle.stores.specs.Given.{sectorIn, within, unlessRefused, blockAnswer, blockBytes, blockGiven, blockLeft, partAnswer, partBytes, partTests, partGiven, partLeft, lentRight}
 use Rattle.update.specs.Plan as Update
 use Rattle.mend.specs.declared.Last.{Last}
 use Rattle.mend.specs.declared.Last.the-variants as Last
@@ -50,73 +48,73 @@ use Rattle.mend.specs.declared.Mending.the-variants as Mending
 use Rattle.mend.specs.Mend.{blockLike, emptied, refilled, blanked, laterWhole, lastGroup, rewriting, groupsAfter, mendGroups}
 use Rattle.mend.specs.Plan.{rewriteOf, mendingAfter, mending, lastAnswer, lastBytes, rewriteAnswer, rewriteBytes, mendAnswer, mendBytes}
 use Rattle.mend.specs.Plan as Mend
 use Rattle.sectors.specs.Sectors.{known, settled}
-use Rattle.sectors.specs.Demand.{SameCopy, SameBoth, SameStores, Stored, SureStored}
+use Rattle.sectors.specs.Demand.{SameCopy, SameBoth}
+use Rattle.claims.specs.Unread.{SameStores, Stored, SureStored}
 use Rattle.sectors.proofs.Alone.{fields-of, whole-same, block-bytes, alone}
 use Rattle.sectors.proofs.Placed.{placed}
-use Rattle.sectors.proofs.Demand.{sizes, settled-same}
+use Rattle.sectors.proofs.Demand.{settled-same}
 
 -- three tests in a row, with answers that are the same
 three : {T : Type 0} (p q r : Bool) {x y z u v w : T} (n : T) → x ≡ u → y ≡ v → z ≡ w → cond p x (cond q y (cond r z n)) ≡ cond p u (cond q v (cond r w n))
 three {T} p q r n d e f =
     ap₂ (λ (s t : T). cond p s t) d (ap₂ (λ (s t : T). cond q s t) e (ap (λ (s : T). cond r s n) f))
 
--- one copy, whose block has the same bytes
-module _ (c e : List ℕ) (h : blockIn e ≡ blockIn c) where
+-- one copy, whose block has the same bytes, and which has the size of a copy or not as the other
+module _ (c e : List ℕ) (h : blockIn e ≡ blockIn c) (z : isCopy e ≡ isCopy c) where
   block-answer : (s : ℕ) (g : BlockFields) (out : List ℕ) → blockAnswer s g e out ≡ blockAnswer s g c out
   block-answer s g out = ap (λ (b : List ℕ). unlessRefused (first (writeTests out (poolOf b) (blockdevOf b) g)) s) h
 
   block-stored : (g : BlockFields) (out : List ℕ) → blockBytes g e out ≡ blockBytes g c out
   block-stored g out = ap (λ (b : List ℕ). written out (poolOf b) (blockdevOf b) g) h
 
-  part-answer : (p : Part) (k j : ℕ) (out : List ℕ) → partAnswer p k e j out ≡ partAnswer p k c j out
-  part-answer p k j out =
-      ap (λ (a : Given). cond (ltb j k) (cond (within (p .area) j) (Given.At (p .area + j)) (Given.Refused noStore)) a) (block-answer (p .block) (p .fields) out)
+  block-given : (s : ℕ) (g : BlockFields) (out : List ℕ) → blockGiven s g e out ≡ blockGiven s g c out
+  block-given s g out = ap₂ (λ (t : Bool) (a : Given). cond t a (Given.Refused sliceSize)) z (block-answer s g out)
 
-  part-bytes : (p : Part) (k : ℕ) (r q : List ℕ) (j : ℕ) (out : List ℕ) → r ≡ q → partBytes p k e r j out ≡ partBytes p k c q j out
-  part-bytes p k r q j out d =
-      ap₂ (λ (s a : List ℕ). cond (ltb j k) (cond (within (p .area) j) (sectorIn s j out) out) a) d (block-stored (p .fields) out)
+  block-left : (g : BlockFields) (out : List ℕ) → blockLeft g e out ≡ blockLeft g c out
+  block-left g out = ap₂ (λ (t : Bool) (a : List ℕ). cond t a out) z (block-stored g out)
+
+  module _ (p : Part) (k : ℕ) (r q : List ℕ) (j : ℕ) (out : List ℕ) (d : r ≡ q) where
+    part-answer : partAnswer p k e j out ≡ partAnswer p k c j out
+    part-answer =
+        ap (λ (a : Given). cond (ltb j k) (cond (within (p .area) j) (Given.At (p .area + j)) (Given.Refused noStore)) a) (block-answer (p .block) (p .fields) out)
+
+    part-bytes : partBytes p k e r j out ≡ partBytes p k c q j out
+    part-bytes = ap₂ (λ (s a : List ℕ). cond (ltb j k) (cond (within (p .area) j) (sectorIn s j out) out) a) d (block-stored (p .fields) out)
+
+    part-number : first (partTests k e r j out) ≡ first (partTests k c q j out)
+    part-number =
+        ap₂
+        (λ (t : Bool) (s : List ℕ). first ((t && eqb (length out) 512 elseRefuse sliceSize) ∷ (lengthAllowed (length s) elseRefuse recordLength) ∷ (leb j k elseRefuse noStore) ∷ []))
+        z d
+
+    part-given : partGiven p k e r j out ≡ partGiven p k c q j out
+    part-given = ap₂ (λ (n : ℕ) (a : Given). cond (eqb n 0) a (Given.Refused n)) part-number part-answer
+
+    part-left : partLeft p k e r j out ≡ partLeft p k c q j out
+    part-left = ap₂ (λ (n : ℕ) (a : List ℕ). cond (eqb n 0) a out) part-number part-bytes
 
   last-answer : (l : Last) (out : List ℕ) → lastAnswer l e out ≡ lastAnswer l c out
   last-answer Last.Absent out = refl
-  last-answer (Last.Blank s g) out = block-answer s g out
+  last-answer (Last.Blank s g) out = block-given s g out
 
   last-bytes : (l : Last) (out : List ℕ) → lastBytes l e out ≡ lastBytes l c out
   last-bytes Last.Absent out = refl
-  last-bytes (Last.Blank s g) out = block-stored g out
+  last-bytes (Last.Blank s g) out = block-left g out
 
-  rewrite-answer : (p : Rewrite) (i : ℕ) (out : List ℕ) → rewriteAnswer p e i out ≡ rewriteAnswer p c i out
-  rewrite-answer p i out =
-      three (eqb i 0) (leb i (p .sectors + 1)) (leb i (p .sectors + 2)) (Given.Refused noStore) (block-answer (p .part .block) (p .empty) out)
-      (part-answer (p .part) (p .sectors) (i - 1) out) (last-answer (p .last) out)
+  module _ (p : Rewrite) (i : ℕ) (out : List ℕ) (d : areaBytes e (p .area) (p .bytes) ≡ areaBytes c (p .area) (p .bytes)) where
+    rewrite-answer : rewriteAnswer p e i out ≡ rewriteAnswer p c i out
+    rewrite-answer =
+        three (eqb i 0) (leb i (p .sectors + 1)) (leb i (p .sectors + 2)) (Given.Refused noStore) (block-given (p .part .block) (p .empty) out)
+        (part-given (p .part) (p .sectors) (areaBytes e (p .area) (p .bytes)) (areaBytes c (p .area) (p .bytes)) (i - 1) out d) (last-answer (p .last) out)
 
-  rewrite-bytes : (p : Rewrite) (i : ℕ) (out : List ℕ) → areaBytes e (p .area) (p .bytes) ≡ areaBytes c (p .area) (p .bytes)
-      → rewriteBytes p e i out ≡ rewriteBytes p c i out
-  rewrite-bytes p i out d =
-      three (eqb i 0) (leb i (p .sectors + 1)) (leb i (p .sectors + 2)) out (block-stored (p .empty) out)
-      (part-bytes (p .part) (p .sectors) (areaBytes e (p .area) (p .bytes)) (areaBytes c (p .area) (p .bytes)) (i - 1) out d) (last-bytes (p .last) out)
+    rewrite-bytes : rewriteBytes p e i out ≡ rewriteBytes p c i out
+    rewrite-bytes =
+        three (eqb i 0) (leb i (p .sectors + 1)) (leb i (p .sectors + 2)) out (block-left (p .empty) out)
+        (part-left (p .part) (p .sectors) (areaBytes e (p .area) (p .bytes)) (areaBytes c (p .area) (p .bytes)) (i - 1) out d) (last-bytes (p .last) out)
 
   -- and whose newest area is whole or not the same
   module _ (l : laterWhole e ≡ laterWhole c) where
-    rewrite-same : (q : Finding) → rewriteOf e q ≡ rewriteOf c q
-    rewrite-same q =
-        ap₂
-        (λ (b : List ℕ) (w : Bool). record {
-          kept = q .side;
-          area = q .area;
-          bytes = q .bytes;
-          sectors = sectorsOf (q .bytes);
-          empty = emptied (deviceOf b);
-          part =
-              record {
-                area = areaSector (otherSide (q .side)) A (deviceOf b);
-                block = blockSector (otherSide (q .side)) (deviceOf b);
-                fields = refilled (deviceOf b) (entryIn (fieldsOf b) (q .area));
-              };
-          last = cond w Last.Absent (Last.Blank (blockSector (q .side) (deviceOf b)) (blanked (fieldsOf b)));
-        })
-        h l
-
     rewriting-same : (w : Side) (x : Area) (r q : List ℕ) → r ≡ q → rewriting w e x r ≡ rewriting w c x q
     unfolding rewriting lastGroup blockLike
     rewriting-same w x r q d =
@@ -136,7 +134,7 @@ later-same c e s h x a =
     (s .newest-area (fieldsOf (blockIn c)) (a ∙ ap Verdict.Accepted (sym (fields-of (blockIn c) x a))))
 
 module _ {f b g k : List ℕ} (sf : SameCopy f g) (sb : SameCopy b k) (hf : blockIn g ≡ blockIn f) (hb : blockIn k ≡ blockIn b)
-    (z : sized g k ≡ sized f b) (same : SameBoth f b g k) where
+    (zf : isCopy g ≡ isCopy f) (zb : isCopy k ≡ isCopy b) (same : SameBoth f b g k) where
   copy-on : (s : Side) → SameCopy (copyOn s f b) (copyOn s g k)
   copy-on Front = sf
   copy-on Back = sb
@@ -146,13 +144,17 @@ module _ {f b g k : List ℕ} (sf : SameCopy f g) (sb : SameCopy b k) (hf : bloc
   block-on Back = hb
 
   lent-same : (out : List ℕ) → lentRight g k out ≡ lentRight f b out
-  lent-same out = ap (λ (t : Bool). t && eqb (length out) 512) z
+  lent-same out = ap₂ (λ (s t : Bool). (s && t) && eqb (length out) 512) zf zb
+
+  copy-at : (s : Side) → isCopy (copyOn s g k) ≡ isCopy (copyOn s f b)
+  copy-at Front = zf
+  copy-at Back = zb
 
   -- the copy with the found record
   later-on : (q : Finding) (o : Other) → discovery f b ≡ Answer.Found q o → laterWhole (copyOn (q .side) g k) ≡ laterWhole (copyOn (q .side) f b)
   later-on q o e =
       later-same (copyOn (q .side) f b) (copyOn (q .side) g k) (copy-on (q .side)) (block-on (q .side))
-      (newest-found f b q o e .fields) (newest-found f b q o e .accepted)
+      (q .fields) (newest-found f b q o e .accepted)
 
   mends : mending g k ≡ mending f b
   unfolding mending
@@ -161,40 +163,36 @@ module _ {f b g k : List ℕ} (sf : SameCopy f g) (sb : SameCopy b k) (hf : bloc
       go : (a : Answer) → discovery f b ≡ a → mendingAfter a g k ≡ mendingAfter a f b
       go (Answer.Refused n) e = refl
       go (Answer.Found q o) e =
-          ap₂ (λ (s : Bool) (p : Rewrite). cond s Mending.InStep (Mending.Needed p)) (same .step)
-          (rewrite-same (copyOn (q .side) f b) (copyOn (q .side) g k) (block-on (q .side)) (later-on q o e) q)
+          ap (λ (s : Bool). cond s Mending.InStep (Mending.Needed (rewriteOf q))) (same .step)
 
-  mend-answer : (i : ℕ) (out : List ℕ) → mendAnswer (mending f b) g k i out ≡ mendAnswer (mending f b) f b i out
-  mend-answer i out = go (mending f b)
-    where
-      go : (m : Mending) → mendAnswer m g k i out ≡ mendAnswer m f b i out
-      go Mending.InStep = refl
-      go (Mending.Needed p) = rewrite-answer (copyOn (p .kept) f b) (copyOn (p .kept) g k) (block-on (p .kept)) p i out
-      go (Mending.Refused n) = refl
-
-  mend-stored : (i : ℕ) (out : List ℕ) → mendBytes (mending f b) g k i out ≡ mendBytes (mending f b) f b i out
-  unfolding mending
-  mend-stored i out = go (discovery f b) refl
-    where
-      go : (a : Answer) → discovery f b ≡ a → mendBytes (mendingAfter a f b) g k i out ≡ mendBytes (mendingAfter a f b) f b i out
-      go (Answer.Refused n) e = refl
-      go (Answer.Found q o) e = each (inStep f b)
-        where
-          each : (s : Bool) → mendBytes (cond s Mending.InStep (Mending.Needed (rewriteOf (copyOn (q .side) f b) q))) g k i out
-              ≡ mendBytes (cond s Mending.InStep (Mending.Needed (rewriteOf (copyOn (q .side) f b) q))) f b i out
-          each true = refl
-          each false =
-              rewrite-bytes (copyOn (q .side) f b) (copyOn (q .side) g k) (block-on (q .side)) (rewriteOf (copyOn (q .side) f b) q) i out (same .bytes q o e)
+  module _ (i : ℕ) (out : List ℕ) where
+    mend-given : (mendAnswer (mending f b) g k i out ≡ mendAnswer (mending f b) f b i out) × (mendBytes (mending f b) g k i out ≡ mendBytes (mending f b) f b i out)
+    unfolding mending
+    mend-given = go (discovery f b) refl
+      where
+        go : (a : Answer) → discovery f b ≡ a
+            → (mendAnswer (mendingAfter a f b) g k i out ≡ mendAnswer (mendingAfter a f b) f b i out) × (mendBytes (mendingAfter a f b) g k i out ≡ mendBytes (mendingAfter a f b) f b i out)
+        go (Answer.Refused n) e = (refl, refl)
+        go (Answer.Found q o) e = each (inStep f b)
+          where
+            each : (s : Bool)
+                → (mendAnswer (cond s Mending.InStep (Mending.Needed (rewriteOf q))) g k i out ≡ mendAnswer (cond s Mending.InStep (Mending.Needed (rewriteOf q))) f b i out)
+                × (mendBytes (cond s Mending.InStep (Mending.Needed (rewriteOf q))) g k i out ≡ mendBytes (cond s Mending.InStep (Mending.Needed (rewriteOf q))) f b i out)
+            each true = (refl, refl)
+            each false = (
+              rewrite-answer (copyOn (q .side) f b) (copyOn (q .side) g k) (block-on (q .side)) (copy-at (q .side)) (rewriteOf q) i out (same .bytes q o e),
+              rewrite-bytes (copyOn (q .side) f b) (copyOn (q .side) g k) (block-on (q .side)) (copy-at (q .side)) (rewriteOf q) i out (same .bytes q o e),
+            )
 
   mend-place : (i : ℕ) (out : List ℕ) → Mend.storeAnswer (mending g k) g k i out ≡ Mend.storeAnswer (mending f b) f b i out
   mend-place i out =
       ap₂ (λ (t : Bool) (a : Given). cond t a (Given.Refused sliceSize)) (lent-same out)
-      (ap (λ (m : Mending). mendAnswer m g k i out) mends ∙ mend-answer i out)
+      (ap (λ (m : Mending). mendAnswer m g k i out) mends ∙ mend-given i out .0)
 
   mend-bytes : (i : ℕ) (out : List ℕ) → Mend.storeBytes (mending g k) g k i out ≡ Mend.storeBytes (mending f b) f b i out
   mend-bytes i out =
       ap₂ (λ (t : Bool) (a : List ℕ). cond t a out) (lent-same out)
-      (ap (λ (m : Mending). mendBytes m g k i out) mends ∙ mend-stored i out)
+      (ap (λ (m : Mending). mendBytes m g k i out) mends ∙ mend-given i out .1)
 
   mend-groups : mendGroups g k ≡ mendGroups f b
   unfolding mendGroups
@@ -204,7 +202,7 @@ module _ {f b g k : List ℕ} (sf : SameCopy f g) (sb : SameCopy b k) (hf : bloc
       go (Answer.Refused n) e = refl
       go (Answer.Found q o) e =
           ap₂ (λ (s : Bool) (p : Groups). cond s [] p) (same .step)
-          (rewriting-same (copyOn (q .side) f b) (copyOn (q .side) g k) (block-on (q .side)) (later-on q o e) (q .side) (q .area)
+          (rewriting-same (copyOn (q .side) f b) (copyOn (q .side) g k) (block-on (q .side)) (copy-at (q .side)) (later-on q o e) (q .side) (q .area)
           (recordBytes q g k) (recordBytes q f b) (same .bytes q o e))
 
   number-same : (t : Time) (r : List ℕ) → updateNumber g k t r ≡ updateNumber f b t r
@@ -213,44 +211,24 @@ module _ {f b g k : List ℕ} (sf : SameCopy f g) (sb : SameCopy b k) (hf : bloc
     where
       go : (a : Answer) → numberAfter a g k t r ≡ numberAfter a f b t r
       go (Answer.Refused n) = refl
-      go (Answer.Found q o) =
-          ap₂
-          (λ (s : Bool) (c : List ℕ). first ((s elseRefuse notInStep) ∷ (nanosecondsAllowed (t .nanoseconds) elseRefuse areaEntry) ∷ (laterThan t (timeAt q) elseRefuse notLater) ∷ contentTests (deviceOf c) r))
-          (same .step) hf
+      go (Answer.Found q o) = ap (λ (s : Bool). first (testsAfter s (q .fields .device) (timeAt q) t r)) (same .step)
 
   plan-same : (t : Time) (r : List ℕ) → planOf g k t r ≡ planOf f b t r
-  plan-same t r =
-      ap₂
-      (λ (c e : List ℕ). record {
-        sectors = sectorsOf (length r);
-        front =
-            record {
-              area = areaSector Front (otherArea (newest (fieldsOf c))) (deviceOf c);
-              block = blockSector Front (deviceOf c);
-              fields = withEntry (fieldsOf c) (otherArea (newest (fieldsOf c))) (Used (holdingFor t r));
-            };
-        back =
-            record {
-              area = areaSector Back (otherArea (newest (fieldsOf e))) (deviceOf c);
-              block = blockSector Back (deviceOf c);
-              fields = withEntry (fieldsOf e) (otherArea (newest (fieldsOf e))) (Used (holdingFor t r));
-            };
-      })
-      hf hb
+  plan-same t r = ap₂ (λ (c e : List ℕ). planFor (fieldsOf c) (fieldsOf e) t r) hf hb
 
   plans : (t : Time) (r : List ℕ) → planned g k t r ≡ planned f b t r
   plans t r = ap₂ (λ (n : ℕ) (p : Plan). cond (eqb n 0) (Planned.Ready p) (Planned.Refused n)) (number-same t r) (plan-same t r)
 
   module _ (p : Plan) (r : List ℕ) (i : ℕ) (out : List ℕ) where
-    sides-answer : sidesAnswer p g k i out ≡ sidesAnswer p f b i out
+    sides-answer : sidesAnswer p g k r i out ≡ sidesAnswer p f b r i out
     sides-answer =
-        ap₂ (λ (x y : Given). cond (leb i (p .sectors)) x y) (part-answer f g hf (p .front) (p .sectors) i out)
-        (part-answer b k hb (p .back) (p .sectors) (i - (p .sectors + 1)) out)
+        ap₂ (λ (x y : Given). cond (leb i (p .sectors)) x y) (part-given f g hf zf (p .front) (p .sectors) r r i out refl)
+        (part-given b k hb zb (p .back) (p .sectors) r r (i - (p .sectors + 1)) out refl)
 
     sides-bytes : sidesBytes p g k r i out ≡ sidesBytes p f b r i out
     sides-bytes =
-        ap₂ (λ (x y : List ℕ). cond (leb i (p .sectors)) x y) (part-bytes f g hf (p .front) (p .sectors) r r i out refl)
-        (part-bytes b k hb (p .back) (p .sectors) r r (i - (p .sectors + 1)) out refl)
+        ap₂ (λ (x y : List ℕ). cond (leb i (p .sectors)) x y) (part-left f g hf zf (p .front) (p .sectors) r r i out refl)
+        (part-left b k hb zb (p .back) (p .sectors) r r (i - (p .sectors + 1)) out refl)
 
     abbrev tests-of : Bool → List Test
     tests-of t = (t elseRefuse sliceSize) ∷ (lengthAllowed (length r) elseRefuse recordLength) ∷ (ltb i (storesIn p) elseRefuse noStore) ∷ []
@@ -294,7 +272,7 @@ unfolding settled
 stored f b g k fm bm af ab s =
     all-same (alone fm f g af (and-left (known f fm) (known b bm) s)) (alone bm b k ab (and-right (known f fm) (known b bm) s))
     (block-bytes fm f g af (and-left (known f fm) (known b bm) s)) (block-bytes bm b k ab (and-right (known f fm) (known b bm) s))
-    (sizes g k (af .size-too) (ab .size-too) ∙ sym (sizes f b (af .size) (ab .size))) (settled-same f b g k fm bm af ab s)
+    (ap (λ (n : ℕ). eqb n copyBytes) (af .size-too ∙ sym (af .size))) (ap (λ (n : ℕ). eqb n copyBytes) (ab .size-too ∙ sym (ab .size))) (settled-same f b g k fm bm af ab s)
 
 pub sure-stored : SureStored
 sure-stored v d f b fm bm ok h rf rb =

@@ -1,0 +1,2 @@
+-- What holds of the crates together.
+pub mod Unread

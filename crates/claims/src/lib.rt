@@ -1,0 +1,1 @@
+// What holds of the crates together: definitions and theorems, no code.
