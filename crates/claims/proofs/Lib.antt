@@ -1,2 +1,3 @@
 -- The claims, proved.
+pub mod Chain
 pub mod Unread

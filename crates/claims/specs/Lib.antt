@@ -1,2 +1,3 @@
 -- What holds of the crates together.
+pub mod Chain
 pub mod Unread

@@ -5,8 +5,8 @@ use crate::facts;
 use crate::image;
 use crate::say::note;
 use crate::say::print;
-use crate::stores;
-use crate::stores::Work;
+use crate::storing;
+use crate::storing::Work;
 use block::Time;
 use discovery::Answer;
 use text::Text;
@@ -46,7 +46,7 @@ fn read_back(path: &[u8], fd: i32, identity: bool, step: bool, e: Expected) -> u
     let mut bm = [0u8; copies::SECTORS];
     let look = copies::read(fd, &mut front, &mut back, &mut fm, &mut bm);
     copies::note_unread(path, look, &fm, &bm);
-    let v = discovery::survey(&front, &back);
+    let v = discovery::examine(&front, &back);
     let a = v.answer;
     let ok = print_state(
         path,
@@ -130,14 +130,14 @@ pub(crate) fn carried_out(
     first: &[u8],
     e: Expected,
 ) -> u8 {
-    if !stores::write_all(fd, path, w, list) {
+    if !storing::write_all(fd, path, w, list) {
         return report_failed(path, fd);
     }
     let ok = said(
         path,
         Text::new()
             .add(first)
-            .decimal(stores::count(w))
+            .decimal(storing::count(w))
             .add(b" stores\n"),
     );
     facts::worse(facts::unless(ok, facts::FAILED), report(path, fd, false, e))

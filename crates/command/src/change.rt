@@ -9,8 +9,8 @@ use crate::say;
 use crate::say::Got;
 use crate::say::note;
 use crate::say::print;
-use crate::stores;
-use crate::stores::Work;
+use crate::storing;
+use crate::storing::Work;
 use block::Time;
 use discovery::Answer;
 use allocation::Allocation;
@@ -72,12 +72,12 @@ fn apply(
         return refused(path, look, planned);
     };
     let w = Work::Change(p);
-    let mut list = [0u8; stores::LIST];
-    let all = stores::work_out(w, front, back, r, &mut list);
-    let ok = print(true, before.decimal(stores::count(w)).add(b" stores\n"));
+    let mut list = [0u8; storing::LIST];
+    let all = storing::work_out(w, front, back, r, &mut list);
+    let ok = print(true, before.decimal(storing::count(w)).add(b" stores\n"));
     if dry {
         return facts::unless(
-            stores::print_all(ok, w, r.len() as u64, &list) & all,
+            storing::print_all(ok, w, r.len() as u64, &list) & all,
             facts::FAILED,
         );
     }

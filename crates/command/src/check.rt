@@ -40,24 +40,23 @@ fn when_found(a: Answer) -> When {
 }
 
 // The state of an area that its entry uses: whole, torn, or not read.
-fn add_state(t: Text, c: &[u8], marks: &[u8], f: BlockFields, x: Area, bytes: u32) -> Text {
+fn add_state(t: Text, marks: &[u8], whole: bool, x: Area, bytes: u32) -> Text {
     if !copies::area_read(marks, x, bytes) {
         return t.add(b"unread ");
     }
-    if discovery::whole(c, f, x) {
+    if whole {
         return t.add(b"whole ");
     }
     t.add(b"torn ")
 }
 
 // The line of an area of a copy whose block is accepted.
-fn area_line(t: Text, c: &[u8], marks: &[u8], f: BlockFields, x: Area, p: When) -> Text {
-    let e = discovery::entry_in(f, x);
+fn area_line(t: Text, marks: &[u8], f: BlockFields, x: Area, whole: bool, p: When) -> Text {
+    let e = copy::entry_in(f, x);
     let Entry::Used(h) = e else {
         return t.add(b"unused\n");
     };
-    let u = facts::add_holding(add_state(t, c, marks, f, x, h.bytes), h);
-    let whole = discovery::whole(c, f, x);
+    let u = facts::add_holding(add_state(t, marks, whole, x, h.bytes), h);
     let later = p.found & block::later(facts::time_of(h), p.time);
     if later & !whole {
         return u.add(b", later than what is found\n");
@@ -73,7 +72,8 @@ fn area_of(side: Side, x: Area) -> Text {
 // Prints a copy whose block was read: the block, and both areas.
 fn print_copy(ok: bool, side: Side, c: &[u8], marks: &[u8], p: When) -> bool {
     let first = facts::add_side(Text::new(), side).add(b" block ");
-    let r = facts::reading(c);
+    let q = copy::read(c);
+    let r = q.block;
     let v = r.verdict;
     match v {
         Verdict::Refused(n) => {
@@ -84,11 +84,11 @@ fn print_copy(ok: bool, side: Side, c: &[u8], marks: &[u8], p: When) -> bool {
             let a = print(ok, first.add(b"accepted\n"));
             let b = print(
                 a,
-                area_line(area_of(side, Area::A), c, marks, f, Area::A, p),
+                area_line(area_of(side, Area::A), marks, f, Area::A, q.a, p),
             );
             print(
                 b,
-                area_line(area_of(side, Area::B), c, marks, f, Area::B, p),
+                area_line(area_of(side, Area::B), marks, f, Area::B, q.b, p),
             )
         }
     }
@@ -193,7 +193,7 @@ pub(crate) fn run(
 ) -> u8 {
     let sure = facts::unless(look.sure, facts::FAILED);
     let unread = facts::block_unread(front_marks, back_marks);
-    let v = discovery::survey(front, back);
+    let v = discovery::examine(front, back);
     let a = v.answer;
     let p = when_found(a);
     let f = print_side(true, Side::Front, front, front_marks, p);

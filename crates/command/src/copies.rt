@@ -11,13 +11,13 @@ use layout::Side;
 use text::Text;
 
 // The sectors of a header, the most bytes of a record, and the bytes and the sectors of a copy as it is lent.
-pub(crate) const HEADER: usize = 8;
+pub(crate) const HEADER: usize = layout::HEADER_SECTORS as usize;
 
 pub(crate) const RECORD: usize = layout::RECORD_LIMIT as usize;
 
-pub(crate) const BYTES: usize = HEADER * 512 + 2 * RECORD;
+pub(crate) const BYTES: usize = layout::COPY_BYTES;
 
-pub(crate) const SECTORS: usize = BYTES / 512;
+pub(crate) const SECTORS: usize = BYTES / layout::SECTOR_BYTES;
 
 // The smallest device, in sectors.
 pub(crate) const SMALLEST: u64 = 2097152;
@@ -39,7 +39,7 @@ struct Run {
 }
 
 // The device numbers that a copy's block says; 0 in each where it was not read or is refused.
-fn numbers_in(copy: &[u8], marks: &[u8]) -> Device {
+fn numbers_in(c: &[u8], marks: &[u8]) -> Device {
     let none = Device {
         sectors: 0,
         metadata: 0,
@@ -48,7 +48,7 @@ fn numbers_in(copy: &[u8], marks: &[u8]) -> Device {
     if !block_read(marks) {
         return none;
     }
-    let r = block::read(endian::window(copy, 512, 512));
+    let r = block::read(copy::block_in(c));
     let v = r.verdict;
     match v {
         Verdict::Refused(_) => none,
@@ -304,7 +304,7 @@ fn area_first(x: Area) -> usize
 // Whether the sectors that a record of so many bytes fills in an area were read.
 pub(crate) fn area_read(marks: &[u8], x: Area, bytes: u32) -> bool {
     let first = area_first(x);
-    let k = update::sectors(bytes) as usize;
+    let k = stores::sectors(bytes) as usize;
     let mut all = true;
     let mut j = 0;
     while j < k {

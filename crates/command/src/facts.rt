@@ -106,22 +106,24 @@ pub(crate) fn add_holding(t: Text, h: Holding) -> Text {
 
 // The reading of a copy's block.
 pub(crate) fn reading(c: &[u8]) -> Reading {
-    block::read(endian::window(c, 512, 512))
+    block::read(copy::block_in(c))
 }
 
 // A copy's later entry, where its area is not whole and it is later than t.
 pub(crate) fn later_torn(c: &[u8], t: Time) -> Torn {
-    let r = reading(c);
+    let q = copy::read_present(c);
+    let r = q.block;
+    let p = q.present;
     let v = r.verdict;
     let Verdict::Accepted(x) = v else {
         return Torn::Nothing;
     };
-    let y = discovery::newest(x);
-    let e = discovery::entry_in(x, y);
+    let y = copy::newest(x);
+    let e = copy::entry_in(x, y);
     let Entry::Used(h) = e else {
         return Torn::Nothing;
     };
-    if discovery::whole(c, x, y) {
+    if copy::current(x, p) {
         return Torn::Nothing;
     }
     if block::later(time_of(h), t) {
@@ -252,7 +254,7 @@ pub(crate) fn add_other(t: Text, o: Other, unread: bool) -> Text {
         return t.add(b"unread");
     }
     match o {
-        Other::Both => t.add(b"both"),
+        Other::Both(_) => t.add(b"both"),
         Other::One(n) => t.decimal(n as u64),
     }
 }

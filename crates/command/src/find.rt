@@ -14,7 +14,7 @@ pub(crate) fn run(
 ) -> u8 {
     let unread = facts::block_unread(front_marks, back_marks);
     let sure = facts::unless(look.sure, facts::FAILED);
-    let v = discovery::survey(front, back);
+    let v = discovery::examine(front, back);
     let a = v.answer;
     match a {
         Answer::Refused(n) => facts::worse(sure, facts::refuse_found(path, look, n)),

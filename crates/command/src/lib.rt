@@ -20,7 +20,7 @@ mod say;
 mod sentences;
 mod sets;
 mod show;
-mod stores;
+mod storing;
 
 ghost use Prim.Native.Nat.{_≤_};
 use arguments::Request;

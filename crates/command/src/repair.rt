@@ -6,8 +6,8 @@ use crate::facts;
 use crate::say::note;
 use crate::say::print;
 use crate::sentences;
-use crate::stores;
-use crate::stores::Work;
+use crate::storing;
+use crate::storing::Work;
 use layout::Side;
 use mend::Mending;
 use mend::Rewrite;
@@ -21,7 +21,7 @@ pub(crate) fn summary(t: Text, m: Mending) -> Text {
         Mending::Needed(p) => {
             let side = p.kept;
             let u = facts::add_side(t.add(b"keeps "), side).add(b", rewrites ");
-            facts::add_side(u, discovery::other_side(side))
+            facts::add_side(u, copy::other_side(side))
                 .add(b", ")
                 .decimal(mend::count(m))
                 .add(b" stores")
@@ -90,12 +90,12 @@ fn store(
     back: &[u8],
 ) -> u8 {
     let w = Work::Repair(m);
-    let mut list = [0u8; stores::LIST];
-    let all = stores::work_out(w, front, back, &[0u8; 0], &mut list);
+    let mut list = [0u8; storing::LIST];
+    let all = storing::work_out(w, front, back, &[0u8; 0], &mut list);
     let ok = print(true, summary(Text::new(), m).add(b"\n"));
     if dry {
         return facts::unless(
-            stores::print_all(ok, w, p.bytes as u64, &list) & all,
+            storing::print_all(ok, w, p.bytes as u64, &list) & all,
             facts::FAILED,
         );
     }

@@ -3,7 +3,7 @@
 ghost use Prim.Native.Nat.{_≤_, _<_, _^_};
 use crate::copies;
 use crate::say::print;
-use crate::stores;
+use crate::storing;
 use layout::Device;
 use layout::Side;
 use text::Text;
@@ -148,11 +148,11 @@ fn flush_due(step: usize) -> bool {
 fn write_step(fd: i32, path: &[u8], set: &[u8], step: usize) -> bool {
     let k = entry_of(step);
     if was_read(set, k) {
-        if !stores::write(fd, path, sector_of(set, k), bytes_at(set, k)) {
+        if !storing::write(fd, path, sector_of(set, k), bytes_at(set, k)) {
             return false;
         }
     }
-    stores::flush(fd, path, flush_due(step))
+    storing::flush(fd, path, flush_due(step))
 }
 
 // Writes a set to the drive, up to the first write or flush that fails; whether all went well.

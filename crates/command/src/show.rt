@@ -358,6 +358,7 @@ pub(crate) fn run(
 ) -> u8 {
     let sure = facts::unless(look.sure, facts::FAILED);
     let mut bytes = [0u8; copies::RECORD];
+    let v = discovery::examine(front, back);
     let a = discovery::read_found(front, back, &mut bytes);
     match a {
         Answer::Refused(n) => facts::worse(sure, facts::refuse_found(path, look, n)),
@@ -366,7 +367,7 @@ pub(crate) fn run(
             let s = Shown {
                 found: f,
                 other: o,
-                step: discovery::in_step(front, back),
+                step: v.step,
                 unread: facts::block_unread(front_marks, back_marks),
                 number: record::check(look.device, r),
                 columns: columns,

@@ -51,3 +51,12 @@ unfolding groupStart flatten
 starts gs zero = refl
 starts [] (suc g) = refl
 starts (s ∷ gs) (suc g) = length-append s (stores (take g gs)) ∙ ap (λ (n : ℕ). length s + n) (starts gs g)
+
+-- after the last group all stores have landed
+pub whole-start : (gs : Groups) → groupStart gs (length gs) ≡ length (stores gs)
+unfolding groupStart
+whole-start gs = ap (λ (z : Groups). length (stores z)) (take-length gs)
+  where
+    take-length : (xs : Groups) → take (length xs) xs ≡ xs
+    take-length [] = refl
+    take-length (x ∷ xs) = ap (λ (z : Groups). x ∷ z) (take-length xs)

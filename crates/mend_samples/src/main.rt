@@ -22,8 +22,8 @@ use mend::Rewrite;
 use sampling::number;
 use sampling::say;
 use sampling::sum;
-use update::Given;
-use update::Part;
+use stores::Given;
+use stores::Part;
 
 // The bytes of a copy: in a pair the front is from byte 0 on and the back from here on.
 const COPY: usize = layout::COPY_BYTES;
@@ -109,24 +109,20 @@ fn place(sector: u64, d: Device) -> usize {
     place_in_copy(sector, Side::Back, d, COPY)
 }
 
-// The device numbers in a copy's block.
-fn device_in(c: &[u8]) -> Device {
-    let x = block::fields(endian::window(c, 512, 512));
-    x.device
-}
-
-// The device numbers of the kept copy; those of the front where none is kept.
-fn kept_device(m: Mending, f: &[u8], b: &[u8]) -> Device {
+// The device numbers that a mend stores with; zeros where it stores nothing.
+fn kept_device(m: Mending) -> Device {
+    let none = Device {
+        sectors: 0,
+        metadata: 0,
+        reserved: 0,
+    };
     match m {
-        Mending::InStep => device_in(f),
+        Mending::InStep => none,
         Mending::Needed(p) => {
-            let side = p.kept;
-            match side {
-                Side::Front => device_in(f),
-                Side::Back => device_in(b),
-            }
+            let x = p.empty;
+            x.device
         }
-        Mending::Refused(_) => device_in(f),
+        Mending::Refused(_) => none,
     }
 }
 
@@ -163,7 +159,7 @@ fn run_store(m: Mending, f: &[u8], b: &[u8], i: u64, d: Device, e: &mut [u8]) {
 
 // Prints all stores of a mend of f and b and applies them to e; then what comes after the last.
 fn run_stores(m: Mending, f: &[u8], b: &[u8], e: &mut [u8]) {
-    let d = kept_device(m, f, b);
+    let d = kept_device(m);
     let n = mend::count(m);
     let mut i = 0;
     while i < n {
@@ -186,7 +182,8 @@ fn print_line(f: &[u8], b: &[u8]) {
 // Prints what a mend has left.
 fn print_copies(f: &[u8], b: &[u8]) {
     print_line(f, b);
-    if discovery::in_step(f, b) {
+    let v = discovery::examine(f, b);
+    if v.step {
         say(b"copies in step");
     } else {
         say(b"copies not in step");

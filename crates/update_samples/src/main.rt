@@ -15,7 +15,7 @@ use sampling::number;
 use sampling::refused;
 use sampling::say;
 use sampling::sum;
-use update::Given;
+use stores::Given;
 use update::Plan;
 use update::Planned;
 
@@ -128,7 +128,7 @@ fn laid(s: &mut [u8], n: usize, r: &[u8]) {
     if s.len() < n {
         return;
     }
-    let k = update::lay(&mut s[..n], Area::B, r);
+    let k = stores::lay(&mut s[..n], Area::B, r);
     print_laid(k, endian::window(s, 0, n));
 }
 

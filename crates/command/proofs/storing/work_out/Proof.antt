@@ -1,10 +1,10 @@
--- `command::stores::work_out` meets its contract.
+-- `command::storing::work_out` meets its contract.
 use mathlib.Core.Path.{_≡_}
 use lib.ListN.{length}
 use Prim.Native.Nat.{_≤_, _-_}
 use borrow.Author.Needs.{needs}
-use Rattle.command.proofs.stores.work_out.Statement.{statement}
-use Rattle.command.proofs.stores.work_out.Tie as tie
+use Rattle.command.proofs.storing.work_out.Statement.{statement}
+use Rattle.command.proofs.storing.work_out.Tie as tie
 
 abbrev Inv-loop : tie.InvT-loop
 Inv-loop w f b r list₀ n all₀ i₀ list all i = (i ≤ n) × (length list ≡ length list₀)

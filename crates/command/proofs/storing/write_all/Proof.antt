@@ -1,8 +1,8 @@
--- `command::stores::write_all` meets its contract.
+-- `command::storing::write_all` meets its contract.
 use Prim.Native.Nat.{_≤_, _-_}
 use borrow.Author.Needs.{needs}
-use Rattle.command.proofs.stores.write_all.Statement.{statement}
-use Rattle.command.proofs.stores.write_all.Tie as tie
+use Rattle.command.proofs.storing.write_all.Statement.{statement}
+use Rattle.command.proofs.storing.write_all.Tie as tie
 
 abbrev Inv-loop : tie.InvT-loop
 Inv-loop fd path w list n i₀ i = i ≤ n

@@ -10,7 +10,7 @@ use block::Entry;
 use block::Verdict;
 use mend::Mending;
 use text::Text;
-use update::Given;
+use stores::Given;
 use update::Plan;
 
 // The most stores that an update or a mend has, and the bytes of the list of them: for each store its sector's number, then
@@ -179,7 +179,7 @@ fn add_block(t: Text, f: BlockFields, last: bool) -> Text {
         }
         return t.add(b"block, area a unused");
     }
-    let x = discovery::newest(f);
+    let x = copy::newest(f);
     crate::facts::add_area(t.add(b"block, area "), x).add(b" used")
 }
 

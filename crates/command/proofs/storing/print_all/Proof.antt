@@ -1,8 +1,8 @@
--- `command::stores::print_all` meets its contract.
+-- `command::storing::print_all` meets its contract.
 use Prim.Native.Nat.{_≤_, _-_}
 use borrow.Author.Needs.{needs}
-use Rattle.command.proofs.stores.print_all.Statement.{statement}
-use Rattle.command.proofs.stores.print_all.Tie as tie
+use Rattle.command.proofs.storing.print_all.Statement.{statement}
+use Rattle.command.proofs.storing.print_all.Tie as tie
 
 abbrev Inv-loop : tie.InvT-loop
 Inv-loop before w n list k ok₀ i₀ ok i = i ≤ k

@@ -1,0 +1,39 @@
+-- Formatting, updates, cuts and mends, one after the other, from the crates' own claims alone: what one leaves is what the next may
+-- start from. `proofs/Chain.antt` proves `Onward`, `Landing` and `Chain`.
+use Prim.Native.Nat.{ℕ, _^_, _≤_, _<_}
+use mathlib.Core.Path.{_≡_}
+use mathlib.Core.Bool.{true}
+use mathlib.Core.List.{List}
+use Rattle.layout.specs.declared.Device.{Device}
+use Rattle.layout.specs.Limits.{mostNanoseconds}
+use Rattle.block.specs.declared.Time.{Time}
+use Rattle.block.specs.Entry.{laterThan}
+use Rattle.record.specs.Demand.{RightBytes}
+use Rattle.crash.specs.Crash.{Sectors, CutIn, allLanded}
+use Rattle.stores.specs.States.{Ready, Excused}
+use Rattle.update.specs.Demand.{Start, FrontNew, groupsOn}
+use Rattle.mend.specs.Demand.{after}
+
+-- every later update that document 01 does not refuse may start: a time within its limit, later than u, and a record that is right
+abbrev pub Starts : Device → Sectors → Time → List ℕ → Type 0
+Starts v d u q =
+    (t : Time) (r : List ℕ) → t .seconds < 2 ^ 64 → t .nanoseconds ≤ mostNanoseconds → laterThan t u ≡ true → RightBytes v r → Start v d u q t r
+
+-- It may from copies in step, such as formatting leaves (`format`'s `Starting` and `Possible`).
+abbrev pub Onward : Type 0
+Onward = (v : Device) (d : Sectors) (u : Time) (q : List ℕ) → Ready v d u q → Starts v d u q
+
+-- All stores of an update landed: the copies are in step on its record with its time, and the next update may start.
+abbrev pub Landing : Type 0
+Landing =
+    (v : Device) (d : Sectors) (u : Time) (q : List ℕ) (t : Time) (r : List ℕ) → Start v d u q t r
+    → Ready v (allLanded (groupsOn v d t r) d) t r × Starts v (allLanded (groupsOn v d t r) d) t r
+
+-- An update, a cut anywhere in it or after it, then a mend: the copies are in step on the new record exactly when the front signature
+-- block stood in its new version, and otherwise on the old one, and the next update may start.
+abbrev pub Chain : Type 0
+Chain =
+    (v : Device) (d : Sectors) (u : Time) (q : List ℕ) (t : Time) (r : List ℕ) → Start v d u q t r
+    → (e : Sectors) (g : ℕ) → CutIn (groupsOn v d t r) g d e → (Excused v (groupsOn v d t r) g d e → ⊥)
+    → (FrontNew v d e t r → Ready v (after v e) t r × Starts v (after v e) t r)
+    × ((FrontNew v d e t r → ⊥) → Ready v (after v e) u q × Starts v (after v e) u q)
