@@ -3,3 +3,4 @@ pub mod Presence
 pub mod Latest
 pub mod Newness
 pub mod Readings
+pub mod Demand

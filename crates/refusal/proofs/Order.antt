@@ -53,7 +53,7 @@ first-all [] h = first-nil
 first-all (t ∷ ts) h = first-pass (t .holds) (t .otherwise) ts (h .0) ∙ first-all ts (h .1)
 
 -- a test that fails has no number below those of its list
-fails-above : (m : ℕ) (ts : List Test) → Ascending m ts → (k : ℕ) → Fails ts k → m < k
+pub fails-above : (m : ℕ) (ts : List Test) → Ascending m ts → (k : ℕ) → Fails ts k → m < k
 fails-above m [] a k f = absurd f
 fails-above m (t ∷ ts) a k (inl f) =
     let l : m < t .otherwise = a .0 in
