@@ -4,13 +4,12 @@ use mathlib.Core.Path.{_≡_, refl, sym, ap, ap₂, subst, _∙_}
 use mathlib.Core.Logic.{_↔_, inl, inr}
 use mathlib.Core.Bool.{Bool, true, false, cond, true≢false}
 use mathlib.Core.List.{List, [], _∷_}
-use native.Mathlib.Decide.{ℕ-discrete, decLe}
+use native.Mathlib.Decide.{decLe}
 use native.Mathlib.Nat.{le-refl}
 use native.Mathlib.Omega.{arith}
 use borrow.Author.Tests.{eqb-true, eq-eqb}
 use lib.Dec.{lit<}
 use lib.ListN.{length}
-use Rattle.endian.specs.Bytes.{window}
 use Rattle.endian.proofs.Parts.{length-window-fits}
 use Rattle.checksum.specs.Crc as Crc
 use Rattle.refusal.specs.Tests.{Test, Fails, Ascending}
@@ -27,7 +26,7 @@ use Rattle.block.specs.declared.Reading.{Reading}
 use Rattle.block.specs.declared.Verdict.{Verdict}
 use Rattle.block.specs.declared.Verdict.the-variants.{Accepted as Accepts, Refused}
 use Rattle.block.specs.Entry.{laterThan, timeOf}
-use Rattle.block.specs.Block.{entryAt, fieldsOf, readTests, reading, acceptedReading, refusedReading}
+use Rattle.block.specs.Block.{fieldsOf, readTests, reading, acceptedReading, refusedReading}
 use Rattle.block.specs.Writing.{holdingOf}
 use Rattle.block.specs.Accepted.{Within, Apart, Accepted}
 use Rattle.block.proofs.Demand as Block
@@ -36,7 +35,6 @@ use Rattle.copy.specs.declared.Present.{Present}
 use Rattle.copy.specs.declared.Present.the-variants.{Nothing, At}
 use Rattle.copy.specs.declared.CopyReading.{CopyReading}
 use Rattle.copy.specs.Copy.{isCopy, areaBytes, entryIn, wholeEntry, whole, newer, newest, present, current, copyReadingOf, copyReading}
-use Rattle.copy.specs.Answers.{copyNumber}
 use Rattle.copy.specs.Demand.{Sized, signatureBlock, firstBytes, entryFor, moment, AcceptedCopy, WholeArea, PresentRecord, LaterEntry, Reads, Exactly}
 use Rattle.copy.proofs.Latest.{Latest, present-latest, present-nothing}
 use Rattle.copy.proofs.Newness.{current-whole}
@@ -181,7 +179,7 @@ module _ (c : List ℕ) (a : AcceptedCopy c) where
       go (At y k) e = absurd (n y k (present-record y k e .whole))
 
   -- the newest entry, in both words
-  later-newest : (x : Area) (h : Holding) → LaterEntry c x h → newest (fieldsIn c) ≡ x
+  pub later-newest : (x : Area) (h : Holding) → LaterEntry c x h → newest (fieldsIn c) ≡ x
   unfolding newest
   later-newest A h l = ap (λ (t : Bool). cond t B A) (go (entryFor c B) refl)
     where
@@ -220,14 +218,14 @@ module _ (c : List ℕ) (a : AcceptedCopy c) where
       go B true t n u B k e = same B k h e u
       go B false t n u y k e = area-apart (sym n)
 
-  pub current-facts : current (fieldsIn c) (present c (fieldsIn c)) ≡ true → (x : Area) × (h : Holding) × LaterEntry c x h × WholeArea c x h
-  current-facts e =
-      let w : (h : Holding) × WholeArea c (newest (fieldsIn c)) h = whole-area c a (newest (fieldsIn c)) (sym (current-whole c (fieldsIn c)) ∙ e) in
-      (newest (fieldsIn c), w .0, newest-later (newest (fieldsIn c)) (w .0) refl (w .1 .used), w .1)
+  pub newest-whole : whole c (fieldsIn c) (newest (fieldsIn c)) ≡ true
+      → (h : Holding) × LaterEntry c (newest (fieldsIn c)) h × WholeArea c (newest (fieldsIn c)) h
+  newest-whole e =
+      let w : (h : Holding) × WholeArea c (newest (fieldsIn c)) h = whole-area c a (newest (fieldsIn c)) e in
+      (w .0, newest-later (newest (fieldsIn c)) (w .0) refl (w .1 .used), w .1)
 
-  pub current-test : (x : Area) (h : Holding) → LaterEntry c x h → WholeArea c x h → current (fieldsIn c) (present c (fieldsIn c)) ≡ true
-  current-test x h l w =
-      current-whole c (fieldsIn c) ∙ (ap (whole c (fieldsIn c)) (later-newest x h l) ∙ area-whole c x h w)
+  pub whole-newest : (x : Area) (h : Holding) → LaterEntry c x h → WholeArea c x h → whole c (fieldsIn c) (newest (fieldsIn c)) ≡ true
+  whole-newest x h l w = ap (whole c (fieldsIn c)) (later-newest x h l) ∙ area-whole c x h w
 
 -- What reading a slice says, in two cases: refused with n, or an accepted copy.
 abbrev pub acceptedRead : List ℕ → CopyReading
@@ -325,7 +323,12 @@ reads c r (taken a) =
       present = λ x h. (present-record c a x h, record-present c a x h);
       nothing = (nothing-whole c a, whole-nothing c a);
       newer = λ e. later-newest c a;
-      current = λ e. (current-facts c a, λ t. current-test c a (t .0) (t .1) (t .2) (t .3));
+      current = λ e. (
+        λ t.
+            let w : (h : Holding) × LaterEntry c (newest (fieldsIn c)) h × WholeArea c (newest (fieldsIn c)) h = newest-whole c a (sym (current-whole c (fieldsIn c)) ∙ t) in
+            (newest (fieldsIn c), w .0, w .1, w .2),
+        λ t. current-whole c (fieldsIn c) ∙ whole-newest c a (t .0) (t .1) (t .2) (t .3),
+      );
     }
 
 pub exactly : Exactly

@@ -1,5 +1,6 @@
--- What the contracts of `discovery` cite.
+-- What the contracts of `discovery` cite, and what discovery promises.
 pub mod Discovery
 pub mod Newest
 pub mod Examine
 pub mod Answers
+pub mod Demand

@@ -1,5 +1,5 @@
 -- What a found record is: the present record of an accepted copy, whole, and no whole area of an accepted copy is later.
--- The theorem is `proofs/Latest.antt`, `newest-found`.
+-- The theorem is `proofs/Latest.antt`, `newest-found`. `Demand.Finds` says it in other words, and says when a record is found.
 use Prim.Native.Nat.{ℕ}
 use mathlib.Core.Path.{_≡_}
 use mathlib.Core.Bool.{true, false}
