@@ -9,7 +9,7 @@ use borrow.Author.Tests.{eqb-true, eqb-false, eq-eqb}
 use lib.Dec.{eqb}
 use Rattle.endian.specs.Bytes.{same}
 use Rattle.endian.proofs.Tests.{and-left, and-right, and-both, same-equal, equal-same}
-use Rattle.refusal.specs.Numbers.{sliceSize, identity, twoRecords}
+use Rattle.refusal.specs.Numbers.{sliceSize, identity}
 use Rattle.layout.specs.Limits.{mostNanoseconds}
 use Rattle.layout.specs.declared.Side.{Side}
 use Rattle.layout.specs.declared.Side.the-variants.{Front, Back}
@@ -208,13 +208,15 @@ module _ (f b : List ℕ) (z : BothSized f b) where
           go (sameTime (timeOf h) (timeOf k)) refl (same (areaBytes f x (h .bytes)) (areaBytes b y (k .bytes))) refl (laterThan (timeOf k) (timeOf h)) refl
         where
           go : (t : Bool) → sameTime (timeOf h) (timeOf k) ≡ t → (u : Bool) → same (areaBytes f x (h .bytes)) (areaBytes b y (k .bytes)) ≡ u
-              → (l : Bool) → laterThan (timeOf k) (timeOf h) ≡ l
-              → Outcome f b (cond t (cond u (Found (findingOf Front (fieldsIn f) x h) (Both (fieldsIn b))) (Refused twoRecords)) (cond l (Found (findingOf Back (fieldsIn b) y k) (Both (fieldsIn f))) (Found (findingOf Front (fieldsIn f) x h) (Both (fieldsIn b)))))
-          go true t true u l v = let e : moment h ≡ moment k = same-moment h k t in in-front (omega arith) (λ d. sym (same-bytes f b x h y k u))
+              → (l : Bool) → laterThan (timeOf k) (timeOf h) ≡ l → Outcome f b (newestOf f b (fieldsIn f) (fieldsIn b) x h y k)
+          go true t true u l v = let e : moment h ≡ moment k = same-moment h k t in rw (t, u) (in-front (omega arith) (λ d. sym (same-bytes f b x h y k u)))
           go true t false u l v =
-              two-records (record { identity = i; x = x; h = h; front = p; y = y; k = k; back = q; time = same-moment h k t; differ = λ e. true≢false (sym (bytes-same f b x h y k e) ∙ u) })
-          go false t u s true v = in-back (later-more h k nh nk v)
-          go false t u s false v = in-front (not-later-less h k nh nk v) (λ d. absurd (true≢false (sym (moment-same h k nh nk (sym d)) ∙ t)))
+              rw (t, u)
+              (two-records
+              (record { identity = i; x = x; h = h; front = p; y = y; k = k; back = q; time = same-moment h k t; differ = λ e. true≢false (sym (bytes-same f b x h y k e) ∙ u) }))
+          go false t u s true v = rw (t, v) (in-back (later-more h k nh nk v))
+          go false t u s false v =
+              rw (t, v) (in-front (not-later-less h k nh nk v) (λ d. absurd (true≢false (sym (moment-same h k nh nk (sym d)) ∙ t))))
 
     together : (p q : Present) → present f (fieldsIn f) ≡ p → present b (fieldsIn b) ≡ q → Outcome f b (togetherOf f b (fieldsIn f) (fieldsIn b) p q)
     together Nothing Nothing p q =

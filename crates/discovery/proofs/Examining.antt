@@ -2,19 +2,17 @@
 -- no comparison more.
 use Prim.Native.Nat.{ℕ}
 use mathlib.Core.Path.{_≡_, refl, sym, ap, ap₂, _∙_}
-use mathlib.Core.Bool.{Bool, true, false, cond, _&&_}
+use mathlib.Core.Bool.{Bool, true, false, _&&_}
 use mathlib.Core.List.{List, []}
 use Rattle.endian.proofs.Tests.{and-left, and-right}
-use Rattle.refusal.specs.Numbers.{twoRecords}
 use Rattle.endian.specs.Bytes.{same}
-use Rattle.layout.specs.declared.Side.the-variants.{Front, Back}
 use Rattle.layout.specs.declared.Area.{Area}
 use Rattle.block.specs.declared.Holding.{Holding}
 use Rattle.block.specs.declared.BlockFields.{BlockFields}
 use Rattle.block.specs.declared.Verdict.{Verdict}
 use Rattle.block.specs.declared.Verdict.the-variants as Verdict
 use Rattle.block.specs.Answers.{verdictNumber}
-use Rattle.block.specs.Entry.{laterThan, sameTime, timeOf}
+use Rattle.block.specs.Entry.{sameTime, timeOf}
 use Rattle.block.specs.Writing.{holdingOf}
 use Rattle.copy.specs.declared.Present.{Present}
 use Rattle.copy.specs.declared.Present.the-variants.{Nothing, At}
@@ -24,24 +22,23 @@ use Rattle.copy.specs.Copy.{isCopy, areaBytes, entryIn, whole, newest, present,
 use Rattle.copy.proofs.Presence.{present-newest}
 use Rattle.copy.proofs.Newness.{current-whole}
 use Rattle.copy.proofs.Readings.{sized-read}
-use Rattle.discovery.specs.declared.Other.the-variants.{Both}
 use Rattle.discovery.specs.declared.Answer.{Answer}
-use Rattle.discovery.specs.declared.Answer.the-variants.{Found, Refused}
+use Rattle.discovery.specs.declared.Answer.the-variants.{Refused}
 use Rattle.discovery.specs.declared.Examined.{Examined}
-use Rattle.discovery.specs.Discovery.{findingOf, newestOf, togetherOf, sameDevice, sameUuids, decide, sized, discovery, agree, stepped, inStepOf, inStep, examined}
+use Rattle.discovery.specs.Discovery.{newestOf, togetherOf, sameDevice, sameUuids, decide, sized, discovery, agree, stepped, inStepOf, inStep, examined}
 use Rattle.discovery.specs.Examine.{oneTime, isFound, stepBoth, stepWith, examineOf}
 use Rattle.discovery.proofs.Deciding.{discovery-unsized, discovery-sized, back-alone}
 
 -- records of one time that are not refused have the same bytes
 agree-found : (f b : List ℕ) (i j : BlockFields) (x : Area) (h : Holding) (y : Area) (k : Holding)
     → sameTime (timeOf h) (timeOf k) && isFound (newestOf f b i j x h y k) ≡ agree f b x h y k
-agree-found f b i j x h y k = go (sameTime (timeOf h) (timeOf k)) (same (areaBytes f x (h .bytes)) (areaBytes b y (k .bytes))) (laterThan (timeOf k) (timeOf h))
+agree-found f b i j x h y k = go (sameTime (timeOf h) (timeOf k)) refl (same (areaBytes f x (h .bytes)) (areaBytes b y (k .bytes))) refl
   where
-    go : (t s l : Bool)
-        → t && isFound (cond t (cond s (Found (findingOf Front i x h) (Both j)) (Refused twoRecords)) (cond l (Found (findingOf Back j y k) (Both i)) (Found (findingOf Front i x h) (Both j)))) ≡ (t && s)
-    go true true l = refl
-    go true false l = refl
-    go false s l = refl
+    go : (t : Bool) → sameTime (timeOf h) (timeOf k) ≡ t → (s : Bool) → same (areaBytes f x (h .bytes)) (areaBytes b y (k .bytes)) ≡ s
+        → sameTime (timeOf h) (timeOf k) && isFound (newestOf f b i j x h y k) ≡ agree f b x h y k
+    go true p true q = rw (p, q)
+    go true p false q = rw (p, q)
+    go false p s q = rw p
 
 module _ (f : List ℕ) (x : BlockFields) (b : List ℕ) (y : BlockFields) where
   abbrev here : Present
