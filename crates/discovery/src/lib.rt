@@ -215,7 +215,14 @@ fn is_found(a: Answer) -> bool
 
 // Two copies of one identity with these fields and present records. They are in step where both records are current and have one
 // time, and discovery, which compares their bytes then, does not refuse them.
-fn examine_both(f: &[u8], b: &[u8], x: BlockFields, y: BlockFields, p: Present, q: Present) -> Examined
+fn examine_both(
+    f: &[u8],
+    b: &[u8],
+    x: BlockFields,
+    y: BlockFields,
+    p: Present,
+    q: Present,
+) -> Examined
     ensures { λ s. ⌜ s ≡ examineBoth (now (f .entry)) (now (b .entry)) x y p q ⌝ }
 {
     let a = together(f, b, x, y, p, q);

@@ -17,7 +17,7 @@ refused-requires : tie.Need-refused-requires
 refused-requires c κs = search needs
 
 returns : tie.Need-returns
-returns c = 
+returns c =
     c .refused .ensures
     ∙ reading-unsized (c .before .before .before .before .args .c .now)
     (sym (ap (λ (n : ℕ). eqb (length (c .before .before .before .before .args .c .now)) n) (c .before .before .copy-bytes .ensures)) ∙ not-true _ (c .before .if1 .taken))
@@ -29,7 +29,7 @@ read-requires : tie.Need-read-requires
 read-requires c κs = search needs
 
 returns-2 : tie.Need-returns-2
-returns-2 c = 
+returns-2 c =
     c .read .ensures
     ∙ (ap reading (c .before .block-in .ensures)
     ∙ reading-sized (c .before .before .before .before .before .args .c .now)

@@ -42,7 +42,7 @@ apart-requires-2 : tie.Need-apart-requires-2
 apart-requires-2 c κs = search needs
 
 returns-2 : tie.Need-returns-2
-returns-2 c = 
+returns-2 c =
     rw (c .apart2 .ensures, c .before .alone .ensures, c .before .before .number-of2 .ensures, c .before .before .before .enum-told2 .given .1, c .before .before .before .before .before .before .v .given .1)
 
 same-device-requires : tie.Need-same-device-requires
@@ -55,14 +55,14 @@ apart-requires-3 : tie.Need-apart-requires-3
 apart-requires-3 c κs = search needs
 
 returns-3 : tie.Need-returns-3
-returns-3 c = 
+returns-3 c =
     rw (c .apart3 .ensures, c .before .before .before .before .before .before .before .before .v .given .1, c .before .before .before .before .before .w .given .1, sym (ap₂ (λ (x y : Bool). x && y) (c .before .before .before .same-device .ensures) (c .before .before .same-uuids .ensures)) ∙ not-true _ (c .before .if1 .taken))
 
 examine-both-requires : tie.Need-examine-both-requires
 examine-both-requires c κs = search needs
 
 returns-4 : tie.Need-returns-4
-returns-4 c = 
+returns-4 c =
     rw (c .examine-both .ensures, c .before .before .before .before .before .before .before .before .v .given .1, c .before .before .before .before .before .w .given .1, sym (ap₂ (λ (x y : Bool). x && y) (c .before .before .before .same-device .ensures) (c .before .before .same-uuids .ensures)) ∙ not-false _ (c .before .if1 .left))
 
 pub decide-spec : {M : Type 1} → statement M

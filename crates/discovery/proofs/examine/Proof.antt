@@ -22,7 +22,7 @@ apart-requires : tie.Need-apart-requires
 apart-requires c κs = search needs
 
 returns : tie.Need-returns
-returns c = 
+returns c =
     c .apart .ensures
     ∙ examined-unsized (c .before .before .before .before .before .before .args .f .now) (c .before .before .before .before .before .before .args .b .now)
     (sym (ap₂ (λ (m n : ℕ). eqb (length (c .before .before .before .before .before .before .args .f .now)) m && eqb (length (c .before .before .before .before .before .before .args .b .now)) n) (c .before .before .before .copy-bytes .ensures) (c .before .before .copy-bytes2 .ensures)) ∙ not-true _ (c .before .if1 .taken))
@@ -37,7 +37,7 @@ decide-requires : tie.Need-decide-requires
 decide-requires c κs = search needs
 
 returns-2 : tie.Need-returns-2
-returns-2 c = 
+returns-2 c =
     c .decide .ensures
     ∙ (ap₂ (λ (r s : PresentReading). examineOf r s (c .before .before .before .before .before .before .before .before .args .f .now) (c .before .before .before .before .before .before .before .before .args .b .now)) (c .before .before .read-present .ensures) (c .before .read-present2 .ensures)
     ∙ examined-sized (c .before .before .before .before .before .before .before .before .args .f .now) (c .before .before .before .before .before .before .before .before .args .b .now)

@@ -21,11 +21,11 @@ front-requires : tie.Need-front-requires
 front-requires c κs = search needs
 
 returns : tie.Need-returns
-returns c = 
+returns c =
     rw (c .front .ensures, sym (c .before .before .before .before .same-time .ensures ∙ ap₂ sameTime (c .before .before .before .before .before .before .time-of .ensures) (c .before .before .before .before .before .time-of2 .ensures)) ∙ c .before .before .before .if1 .taken, sym (c .before .before .same-record .ensures) ∙ c .before .if2 .taken)
 
 returns-2 : tie.Need-returns-2
-returns-2 c = 
+returns-2 c =
     rw (sym (c .before .before .before .same-time .ensures ∙ ap₂ sameTime (c .before .before .before .before .before .time-of .ensures) (c .before .before .before .before .time-of2 .ensures)) ∙ c .before .before .if1 .taken, sym (c .before .same-record .ensures) ∙ c .if2 .left)
 
 later-requires : tie.Need-later-requires
@@ -35,14 +35,14 @@ back-requires : tie.Need-back-requires
 back-requires c κs = search needs
 
 returns-3 : tie.Need-returns-3
-returns-3 c = 
+returns-3 c =
     rw (c .back .ensures, sym (c .before .before .before .before .same-time .ensures ∙ ap₂ sameTime (c .before .before .before .before .before .before .time-of .ensures) (c .before .before .before .before .before .time-of2 .ensures)) ∙ c .before .before .before .if1 .left, sym (c .before .before .later .ensures ∙ ap₂ laterThan (c .before .before .before .before .before .time-of2 .ensures) (c .before .before .before .before .before .before .time-of .ensures)) ∙ c .before .if3 .taken)
 
 front-requires-2 : tie.Need-front-requires-2
 front-requires-2 c κs = search needs
 
 returns-4 : tie.Need-returns-4
-returns-4 c = 
+returns-4 c =
     rw (c .front2 .ensures, sym (c .before .before .before .before .same-time .ensures ∙ ap₂ sameTime (c .before .before .before .before .before .before .time-of .ensures) (c .before .before .before .before .before .time-of2 .ensures)) ∙ c .before .before .before .if1 .left, sym (c .before .before .later .ensures ∙ ap₂ laterThan (c .before .before .before .before .before .time-of2 .ensures) (c .before .before .before .before .before .before .time-of .ensures)) ∙ c .before .if3 .left)
 
 pub newest-of-spec : {M : Type 1} → statement M

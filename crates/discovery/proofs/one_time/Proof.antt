@@ -33,7 +33,7 @@ same-time-requires : tie.Need-same-time-requires
 same-time-requires c κs = search needs
 
 returns-3 : tie.Need-returns-3
-returns-3 c = 
+returns-3 c =
     rw (c .before .before .before .before .before .before .before .p .given .1, c .before .before .before .before .q .given .1)
     (c .same-time .ensures ∙ ap₂ sameTime (c .before .before .time-of .ensures) (c .before .time-of2 .ensures))
 

@@ -28,7 +28,7 @@ same-requires : tie.Need-same-requires
 same-requires c κs = search needs
 
 returns : tie.Need-returns
-returns c = 
+returns c =
     c .same .ensures
     ∙ ap₂ same
     (c .before .before .before .before .window .ensures ∙ ap (λ (i : ℕ). window (c .before .before .before .before .before .before .before .before .before .args .f .now) i (c .before .before .before .before .before .before .before .before .before .args .h .bytes)) (c .before .before .before .before .before .before .area-offset .ensures))
