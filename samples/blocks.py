@@ -211,7 +211,7 @@ def samples():
     )
 
 
-# Places: document 01, 'Where things lie', with the device numbers of its examples
+# Places: docs/FORMAT.md, 'Where things lie', with the device numbers of its examples
 
 DEVICES = [
     (LEAST_SIZE, LEAST_METADATA, 0),
@@ -235,7 +235,7 @@ def places_text(*device):
 
 
 def examples():
-    """Examples 1, 2, 3, 5 and 6 of document 01 and the number of example 4, as the paper has them."""
+    """Examples 1, 2, 3, 5 and 6 of the format and the number of example 4, as docs/FORMAT.md has them."""
     text = places_text(LEAST_SIZE, LEAST_METADATA, 0).split()
     assert text[11:16] == ["2097144", "2097145", "2095104", "2096124", "2095104"]
     assert text[17:] == ["2048", "2095104"] and 2095104 - 2048 == 2093056
@@ -244,7 +244,7 @@ def examples():
     assert "refused" not in places_text(2097152, 16384, 65536)
 
 
-# What each refusal number says: document 01's table, without the values of the limits
+# What each refusal number says: the table of docs/FORMAT.md, 'Refusal numbers', without the values of the limits
 
 WORDS = {
     0: "nothing is refused",

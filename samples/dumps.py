@@ -3,7 +3,7 @@
 
     python3 samples/dumps.py [FOLDER]
 
-Each sample states its line by hand, and layout.py works the line out by document 01's rules: where the two differ the
+Each sample states its line by hand, and layout.py works the line out by the format's rules: where the two differ the
 script stops.
 
 dump: one whole dump and its line. dump_samples: all samples, packed as `packed` in layout.py says, with the dump's size, and a

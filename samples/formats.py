@@ -3,7 +3,7 @@
 
     python3 samples/formats.py [FOLDER]
 
-Each sample states its refusal number by hand, and `refusal` below works it out a second time by document 01's rules: where the
+Each sample states its refusal number by hand, and `refusal` below works it out a second time by the format's rules: where the
 two differ the script stops.
 
 A sample, every number little-endian: the sizes of the two copies that are lent, 2 bytes each; S in 8, L in 4, R in 4; seconds

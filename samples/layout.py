@@ -1,4 +1,4 @@
-"""Document 01's layout, for the scripts that make the samples: the checksum, signature blocks, copies, records and where
+"""The format's layout, for the scripts that make the samples: the checksum, signature blocks, copies, records and where
 things lie, made and read; then what the samples of more than one script are made of.
 
 Written from that document alone; nothing is taken from the library. A device is its three numbers: S, L, R. An entry is

@@ -3,7 +3,7 @@
 
     python3 samples/mends.py [FOLDER]
 
-Each sample states by hand what mending answers, and `mend` below works it out by document 01's rules: where the two differ the
+Each sample states by hand what mending answers, and `mend` below works it out by the format's rules: where the two differ the
 script stops. The stores are applied to a device of numbered sectors, from which the copies are read again; the script stops
 unless they are then in step on the record that was found.
 
@@ -261,7 +261,7 @@ def samples():
 
 def made_up(area, front):
     """The stores of a plan that the program makes up itself: it keeps the front, whose area b gives the record's 700
-    bytes, has 4 sectors of them from `area` on, and blocks of which only the first can be written. The paper says no
+    bytes, has 4 sectors of them from `area` on, and blocks of which only the first can be written. The format says no
     more of it than that no sector has a number over 2^64 - 1; the library's promise says that such a store is refused
     with 23, a block that the writer refuses with its number, and sectors past the record are zeros."""
     _, pool, uuid = read(front)[1].identity

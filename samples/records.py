@@ -3,7 +3,7 @@
 
     python3 samples/records.py [FOLDER]
 
-It runs the same records and requests as crates/record_samples/src/main.rt, by its own reading of document 01's rules.
+It runs the same records and requests as crates/record_samples/src/main.rt, by its own reading of the format's rules.
 """
 import struct
 

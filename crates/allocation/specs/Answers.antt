@@ -1,4 +1,4 @@
--- What the calls on free runs answer: document 01's number, and the values, for each case of an answer.
+-- What the calls on free runs answer: the refusal number, and the values, for each case of an answer.
 use Prim.Native.Nat.{ℕ, _*_, _/_}
 use mathlib.Core.Bool.{cond}
 use mathlib.Core.List.{List, [], _∷_, _++_}

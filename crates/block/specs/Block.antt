@@ -1,4 +1,4 @@
--- The signature block, read: document 01's table, limits and refusals 1 to 9.
+-- The signature block, read: the table of docs/FORMAT.md, 'Signature block', limits and refusals 1 to 9.
 use Prim.Native.Nat.{ℕ, _+_}
 use mathlib.Core.Bool.{Bool, cond, _&&_, _||_}
 use mathlib.Core.List.{List, [], _∷_}

@@ -17,7 +17,7 @@ use Rattle.block.specs.Block.{poolOf, blockdevOf, fieldsOf, readTests, r
 use Rattle.block.specs.Accepted.{Accepted}
 use Rattle.block.specs.Writing.{writeTests, written}
 
--- A signature block is accepted exactly when it obeys the published layout and document 01's limits.
+-- A signature block is accepted exactly when it obeys the published layout and the format's limits.
 abbrev pub Exactly : Type 0
 Exactly =
     (b : List ℕ)
@@ -36,7 +36,7 @@ WriteAfterRead =
     (b out : List ℕ) → Bytes b → Accepted b → length out ≡ 512
     → (first (writeTests out (poolOf b) (blockdevOf b) (fieldsOf b)) ≡ 0) × (written out (poolOf b) (blockdevOf b) (fieldsOf b) ≡ b)
 
--- numbers as the machine's types have them, where no limit of document 01 is narrower
+-- numbers as the machine's types have them, where no limit of the format is narrower
 abbrev pub EntryFits : Entry → Type 0
 EntryFits Unused = Unit {0}
 EntryFits (Used h) = (h .seconds < 2 ^ 64) × (h .checksum < 2 ^ 32)

@@ -1,4 +1,4 @@
--- Area entries and the order of times: document 01, 'Signature block'.
+-- Area entries and the order of times: docs/FORMAT.md, 'Signature block'.
 use Prim.Native.Nat.{ℕ}
 use mathlib.Core.Bool.{Bool, true, false, not, cond, _&&_, _||_}
 use lib.Dec.{leb, ltb, eqb}

@@ -1,4 +1,4 @@
--- The signature block, written: document 01's table in its order, and the refusals of a writer.
+-- The signature block, written: the table of docs/FORMAT.md, 'Signature block', in its order, and the refusals of a writer.
 use Prim.Native.Nat.{ℕ}
 use mathlib.Core.Bool.{Bool, cond, _&&_}
 use mathlib.Core.List.{List, [], _∷_, _++_, flatten}

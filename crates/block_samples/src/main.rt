@@ -150,7 +150,7 @@ fn places(sectors: u64, metadata: u32, reserved: u32) {
     }
 }
 
-// The places of document 01's devices, of the limits and of what lies just past them.
+// The places of the format's example devices, of the limits and of what lies just past them.
 fn devices() {
     places(2097152, 2040, 0);
     places(2097151, 2040, 0);

@@ -1,4 +1,4 @@
--- Document 01's CRC32: the reflected form, its register 32 bits wide, begun with all ones, its result inverted.
+-- The format's CRC32 (docs/FORMAT.md, 'Checksum'): the reflected form, its register 32 bits wide, begun with all ones, its result inverted.
 -- Bit by bit, as a textbook has it.
 use Prim.Native.Nat.{ℕ, zero, suc, _/_, _%_}
 use mathlib.Core.Bool.{cond}

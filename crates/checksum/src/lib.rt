@@ -1,4 +1,4 @@
-// The CRC32 of the Stratis 0.6 layout (document 01), over any slice, whole or in pieces.
+// The CRC32 of the Stratis 0.6 layout (docs/FORMAT.md, 'Checksum'), over any slice, whole or in pieces.
 // Eight bytes a step by table lookup. Four of them wait for the register and are looked up by bytes; the others do not,
 // and are looked up by half bytes, which keeps the table, made in each call, at 4.5 KiB.
 mod table;

@@ -14,7 +14,7 @@ use Rattle.stores.specs.States.{Ready, Excused}
 use Rattle.update.specs.Demand.{Start, FrontNew, groupsOn}
 use Rattle.mend.specs.Demand.{after}
 
--- every later update that document 01 does not refuse may start: a time within its limit, later than u, and a record that is right
+-- every later update that the format does not refuse may start: a time within its limit, later than u, and a record that is right
 abbrev pub Starts : Device → Sectors → Time → List ℕ → Type 0
 Starts v d u q =
     (t : Time) (r : List ℕ) → t .seconds < 2 ^ 64 → t .nanoseconds ≤ mostNanoseconds → laterThan t u ≡ true → RightBytes v r → Start v d u q t r

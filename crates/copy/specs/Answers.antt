@@ -1,4 +1,4 @@
--- The numbers of an answer: document 01's refusal number, 0 for none, and the values of each case.
+-- The numbers of an answer: the refusal number, 0 for none, and the values of each case.
 use Prim.Native.Nat.{ℕ}
 use mathlib.Core.Bool.{Bool, true, false}
 use mathlib.Core.List.{List, [], _∷_}

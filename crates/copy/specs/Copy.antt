@@ -1,4 +1,4 @@
--- One copy as it is lent: what reading it answers, its whole areas and its present record. Document 01, 'Where things lie' and
+-- One copy as it is lent: what reading it answers, its whole areas and its present record. docs/FORMAT.md, 'Where things lie' and
 -- 'Discovery'.
 use Prim.Native.Nat.{ℕ}
 use mathlib.Core.Bool.{Bool, true, false, cond, _&&_}

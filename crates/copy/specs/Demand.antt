@@ -1,4 +1,4 @@
--- One copy in other words than the definitions that read it: document 01, 'Where things lie' and 'Discovery'.
+-- One copy in other words than the definitions that read it: docs/FORMAT.md, 'Where things lie' and 'Discovery'.
 -- `proofs/Demand.antt` proves `Exactly`.
 use Prim.Native.Nat.{ℕ, _+_, _*_, _≤_}
 use mathlib.Core.Path.{_≡_}

@@ -1,4 +1,4 @@
--- A device, stores, groups of stores and cuts: document 01, 'Updates, formatting and mending'.
+-- A device, stores, groups of stores and cuts: docs/FORMAT.md, 'Updates' and 'Cuts'.
 use Prim.Native.Nat.{ℕ, zero, suc, _+_, _/_, _≤_, _<_}
 use mathlib.Core.Path.{_≡_}
 use mathlib.Core.Logic.{_⊎_}

@@ -1,5 +1,5 @@
 -- Discovery, in step and the reading of a found record, of the front copy f and the back copy b, in other words than the definitions
--- that compute them: document 01's rows 1 and 10 to 13, and 'Discovery'. `proofs/Demand.antt` proves `Exactly`, `proofs/Steps.antt`
+-- that compute them: rows 1 and 10 to 13 of docs/FORMAT.md, 'Refusal numbers', and 'Discovery'. `proofs/Demand.antt` proves `Exactly`, `proofs/Steps.antt`
 -- `InStep` and `proofs/Copied.antt` `ReadFound`.
 use Prim.Native.Nat.{ℕ, _≤_, _<_}
 use mathlib.Core.Path.{_≡_}

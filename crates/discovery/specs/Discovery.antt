@@ -1,4 +1,4 @@
--- Discovery over two copies, in step, and reading the found record: document 01, 'Discovery'.
+-- Discovery over two copies, in step, and reading the found record: docs/FORMAT.md, 'Discovery'.
 use Prim.Native.Nat.{ℕ}
 use mathlib.Core.Bool.{Bool, true, false, cond, _&&_}
 use mathlib.Core.List.{List}

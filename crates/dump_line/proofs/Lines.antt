@@ -1,4 +1,4 @@
--- What is printed for a dump of another size than two copies, and document 01's example.
+-- What is printed for a dump of another size than two copies, and the format's example.
 use Prim.Native.Nat.{ℕ, _+_}
 use mathlib.Core.Path.{_≡_, refl}
 use mathlib.Core.Bool.{Bool, true, false, _&&_}

@@ -1,4 +1,4 @@
--- The line that the dump program prints: document 01, 'Discovery'. Words are ASCII bytes.
+-- The line that the dump program prints: docs/FORMAT.md, "The dump's line". Words are ASCII bytes.
 use Prim.Native.Nat.{ℕ}
 use mathlib.Core.Bool.{cond}
 use mathlib.Core.List.{List, [], _∷_, flatten}

@@ -28,7 +28,7 @@ fits s at n = leb (at + n) (length s)
 unfoldable pub splice : List ℕ → ℕ → List ℕ → List ℕ
 splice s at v = cond (fits s at (length v)) (take at s ++ (v ++ drop (at + length v) s)) s
 
--- what a write of n elements at place `at` of s answers: 0, or document 01's 1 where they do not fit
+-- what a write of n elements at place `at` of s answers: 0, or number 1 where they do not fit
 unfoldable pub writeNumber : List ℕ → ℕ → ℕ → ℕ
 writeNumber s at n = cond (fits s at n) 0 1
 

@@ -1,3 +1,3 @@
--- Document 01's marked examples, proved.
+-- The format's marked examples, proved.
 pub mod Room
 pub mod Examples

@@ -1,4 +1,4 @@
--- Document 01's twelve marked examples, as two tables with a row for each: what the paper says, and what the definitions
+-- The format's twelve marked examples (docs/FORMAT.md, 'Examples'), as two tables with a row for each: what the format says, and what the definitions
 -- give that the contracts cite. The theorem `Examples.twelve` says that the tables are the same.
 use Prim.Native.Nat.{ℕ, zero, suc, _+_, _-_}
 use mathlib.Core.Path.{_≡_}
@@ -112,7 +112,7 @@ copy = formattedCopy device zeroUuid zeroUuid (time 10 5) nine
 abbrev pub storesOf : List ℕ → ℕ
 storesOf r = countIn (planned copy copy (time 11 0) r)
 
--- what the paper says
+-- what the format says
 abbrev pub said : List (List ℕ)
 said =
     (2097145 ∷ [])

@@ -1,2 +1,2 @@
--- Document 01's marked examples.
+-- The format's marked examples.
 pub mod Examples

@@ -1,4 +1,4 @@
--- Formatting: its refusals and what it leaves. Document 01, 'Updates, formatting and mending'.
+-- Formatting: its refusals and what it leaves. docs/FORMAT.md, 'Formatting'.
 use Prim.Native.Nat.{ℕ}
 use mathlib.Core.Bool.{cond, _&&_}
 use mathlib.Core.List.{List, _∷_}

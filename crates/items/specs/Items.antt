@@ -1,4 +1,4 @@
--- The items of a segment record, as document 01 lays them out: each with its length first (two bytes, whole item), then a two-byte
+-- The items of a segment record, as docs/FORMAT.md, 'Segment record', lays them out: each with its length first (two bytes, whole item), then a two-byte
 -- kind, then the body. Bytes that are not there count as zero, so that each definition has a value at every list.
 use Prim.Native.Nat.{ℕ, zero, suc, _+_, _-_, _*_, _/_, _%_}
 use mathlib.Core.Bool.{Bool, _&&_}

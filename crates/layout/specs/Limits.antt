@@ -1,4 +1,4 @@
--- Document 01's limits of the device numbers, and the size of records and copies.
+-- The limits of the device numbers (docs/FORMAT.md, 'Signature block'), and the size of records and copies.
 use Prim.Native.Nat.{ℕ, _%_}
 use mathlib.Core.Bool.{Bool, _&&_}
 use mathlib.Core.List.{List, [], _∷_}

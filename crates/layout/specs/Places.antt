@@ -1,4 +1,4 @@
--- Where things lie: document 01, 'Where things lie', in its order. Differences of numbers stop at 0; with device numbers
+-- Where things lie: docs/FORMAT.md, 'Where things lie', in its order. Differences of numbers stop at 0; with device numbers
 -- that are allowed none does.
 use Prim.Native.Nat.{ℕ, _+_, _-_, _*_, _/_}
 use mathlib.Core.Bool.{cond}
@@ -71,6 +71,6 @@ mapOf d = record { front = copyMapOf Front d; back = copyMapOf Back d; start = d
 abbrev pub locatedAt : ℕ → DeviceMap → Located
 locatedAt n p = cond (eqb n 0) (At p) (Refused n)
 
--- what `locate` answers: document 01's number, or the places
+-- what `locate` answers: the refusal number, or the places
 abbrev pub located : Device → Located
 located d = locatedAt (first (deviceTests d)) (mapOf d)

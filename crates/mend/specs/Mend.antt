@@ -1,4 +1,4 @@
--- Mending, document 01's word for repair: what it stores, in which groups. Document 01, 'Updates, formatting and mending'.
+-- Mending, document 01's word for repair: what it stores, in which groups. docs/FORMAT.md, 'Mending'.
 use Prim.Native.Nat.{ℕ}
 use mathlib.Core.Bool.{Bool, cond}
 use mathlib.Core.List.{List, [], _∷_, _++_}

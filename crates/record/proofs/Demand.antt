@@ -196,7 +196,7 @@ ordered-all d s h = (
   subst (Placed (segments s)) (sym (order-taken d s h)) (in-order (segments s) (ordered d s (accepted d s h))),
 )
 
--- heads and kinds in document 01's numbers
+-- heads and kinds in the format's numbers
 plain-block : (d : Device) (b : ℕ) → headRight d (Plain b) ≡ true → (128 ≤ b) × ((b ≤ 2097152) × (b % 128 ≡ 0))
 plain-block d b r =
     let q : eqb (b % 128) 0 && (leb 128 b && leb b 2097152) ≡ true = right-plain d b r in
@@ -214,7 +214,7 @@ heads d b k = (
 pub full : Full
 full h n = (most-room h n, room-most h n)
 
--- document 01's whole record
+-- the format's printed record
 printed-bytes : recordOf (Plain 128) (record { kind = 2; start = 2048; sectors = 100 } ∷ []) ≡ 8 ∷ 0 ∷ 16 ∷ 0 ∷ 128 ∷ 0 ∷ 0 ∷ 0 ∷ 20 ∷ 0 ∷ 2 ∷ 0 ∷ 0 ∷ 8 ∷ 0 ∷ 0 ∷ 0 ∷ 0 ∷ 0 ∷ 0 ∷ 100 ∷ 0 ∷ 0 ∷ 0 ∷ 0 ∷ 0 ∷ 0 ∷ 0 ∷ []
 unfolding recordOf headBytes headSize allBytes segmentBytes toLe
 printed-bytes = refl

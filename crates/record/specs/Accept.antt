@@ -1,4 +1,4 @@
--- When a segment record is accepted on a device: the tests in document 01's order, and what a check answers.
+-- When a segment record is accepted on a device: the tests in the format's order, and what a check answers.
 use Prim.Native.Nat.{ℕ}
 use mathlib.Core.Bool.{Bool, cond}
 use mathlib.Core.List.{List, [], _∷_, _++_}

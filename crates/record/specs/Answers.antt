@@ -1,4 +1,4 @@
--- What the calls answer: document 01's number, and the values, for each case of an answer.
+-- What the calls answer: the refusal number, and the values, for each case of an answer.
 use Prim.Native.Nat.{ℕ, _-_, _*_, _/_, min}
 use mathlib.Core.Bool.{cond, _||_}
 use mathlib.Core.List.{List, [], _∷_, _++_}

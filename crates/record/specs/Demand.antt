@@ -70,7 +70,7 @@ ReadAfterMake =
     (d : Device) (h : Head) (gs : List Segment) → d .sectors < 2 ^ 64 → Right d h gs
     → (headOf (recordOf h gs) ≡ h) × ((segments (recordOf h gs) ≡ gs) × (first (recordTests d (recordOf h gs)) ≡ 0))
 
--- The heads and kinds that are allowed, in document 01's numbers: a head of kind 16 is right on a device exactly when its block size is
+-- The heads and kinds that are allowed, in the format's numbers: a head of kind 16 is right on a device exactly when its block size is
 -- from 128 to 2,097,152 and a multiple of 128, and allows the kinds 1 to 4; one that is not known is never right.
 abbrev pub Heads : Type 0
 Heads =
@@ -87,7 +87,7 @@ Full =
     → (n < mostSegments h → headSize h + itemBytes * (n + 1) ≤ recordLimit)
     × (headSize h + itemBytes * (n + 1) ≤ recordLimit → n < mostSegments h)
 
--- Document 01's whole record, block size 128 and a data segment of 100 sectors at 2,048, byte for byte; it is accepted on the
+-- The format's printed record, block size 128 and a data segment of 100 sectors at 2,048, byte for byte; it is accepted on the
 -- examples' device.
 abbrev pub Printed : Type 0
 Printed =

@@ -1,4 +1,4 @@
-// Runs document 01's printed record, its examples 9 to 11, and records and requests that are refused, and prints a line
+// Runs the format's printed record, its examples 9 to 11, and records and requests that are refused, and prints a line
 // each. The file stdout beside src/ has what must be printed; samples/records.py makes it and shares nothing with the library.
 // Assumes what `io` and `libc` do.
 use allocation::Allocation;

@@ -1,4 +1,4 @@
--- The refusal numbers, in the words and order of document 01's table.
+-- The refusal numbers, in the words and order of the table of docs/FORMAT.md, 'Refusal numbers'.
 use Prim.Native.Nat.{ℕ}
 
 -- a lent slice has the wrong size, or is too small for the answer

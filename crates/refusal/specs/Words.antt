@@ -1,4 +1,4 @@
--- The words of each refusal number: document 01's table, line by line. Where its line names a limit's value, the words do not.
+-- The words of each refusal number: the table of docs/FORMAT.md, 'Refusal numbers', line by line. Where its line names a limit's value, the words do not.
 use Prim.Native.Nat.{ℕ}
 use Prim.Native.Char.{code}
 use Prim.Native.String.{String, [] as none, _∷_ as _then_}

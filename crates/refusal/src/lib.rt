@@ -1,4 +1,4 @@
-// The refusal numbers of document 01, in one place, and the words of each. A number that a later paper adds gets its
+// The refusal numbers (docs/FORMAT.md, 'Refusal numbers'), in one place, and the words of each. A number that a later paper adds gets its
 // constant, its name in specs/Numbers.antt, its line in specs/Words.antt and its arm below.
 ghost use mathlib.Core.Path.{_≡_};
 ghost use Rattle.refusal.specs.Words.{laid, wordsOf};
@@ -72,7 +72,7 @@ fn lay(w: &[u8]) -> Words
     }
 }
 
-// What a refusal number says: its line of document 01's table.
+// What a refusal number says: its line of the table of docs/FORMAT.md, 'Refusal numbers'.
 pub fn words_of(n: u8) -> Words
     ensures { λ r. ⌜ r ≡ wordsOf n ⌝ }
 {

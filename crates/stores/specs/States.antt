@@ -1,5 +1,5 @@
 -- The states of a device that the claims about updates, cuts, formatting and mending speak of: the conclusion of one claim is the
--- hypothesis of the next. Document 01, 'Discovery' and 'Updates, formatting and mending'.
+-- hypothesis of the next. docs/FORMAT.md, 'Discovery', 'Updates' and 'Cuts'.
 use Prim.Native.Nat.{ℕ, suc, _+_, _≤_, _<_}
 use mathlib.Core.Path.{_≡_}
 use mathlib.Core.Logic.{_⊎_}

@@ -1,4 +1,4 @@
--- What stores are made of: a record's sectors, a block, an entry. Document 01, 'Updates, formatting and mending'.
+-- What stores are made of: a record's sectors, a block, an entry. docs/FORMAT.md, 'Updates'.
 use Prim.Native.Nat.{ℕ, _+_, _-_, _*_, _/_}
 use mathlib.Core.List.{List, [], _∷_, _++_}
 use lib.ListN.{length}

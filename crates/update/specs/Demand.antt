@@ -35,7 +35,7 @@ use Rattle.update.specs.declared.Planned.the-variants.{Ready as ReadyPla
 use Rattle.update.specs.Update.{updateNumber, spare, newBlock, updateGroups}
 use Rattle.update.specs.Plan.{planOf, planned, storesIn, groupOf, storeAnswer, storeBytes}
 
--- An update that document 01 does not refuse, in plain words: two copies, which discovery answers and which are in step; a time within
+-- An update that the format does not refuse, in plain words: two copies, which discovery answers and which are in step; a time within
 -- its limit, later than the present record's; and a record that is right on the device that the copies are of.
 pub record Allowed (f b : List ℕ) (t : Time) (r : List ℕ) : Type 0 where
   pub front-copy : length f ≡ copyBytes
@@ -57,7 +57,7 @@ Exactly =
     (f b : List ℕ) (t : Time) (r : List ℕ) → Bytes r
     → (updateNumber f b t r ≡ 0 → Allowed f b t r) × (Allowed f b t r → updateNumber f b t r ≡ 0)
 
--- Otherwise it is the first that applies in document 01's order: discovery's, then 16, then 9 for the nanoseconds of its time, then 14,
+-- Otherwise it is the first that applies in the format's order: discovery's, then 16, then 9 for the nanoseconds of its time, then 14,
 -- then the record's own.
 pub record InOrder (f b : List ℕ) (t : Time) (r : List ℕ) : Type 0 where
   pub refused : (n : ℕ) → discovery f b ≡ Answer.Refused n → updateNumber f b t r ≡ n

@@ -1,4 +1,4 @@
--- An update: its refusals, its stores and their groups. Document 01, 'Updates, formatting and mending'.
+-- An update: its refusals, its stores and their groups. docs/FORMAT.md, 'Updates'.
 use Prim.Native.Nat.{ℕ, _+_, _-_, _*_, _/_}
 use mathlib.Core.Bool.{Bool}
 use mathlib.Core.List.{List, [], _∷_, _++_}
