@@ -92,7 +92,7 @@ pub fn entry_of(seconds: u64, nanoseconds: u32, bytes: u32, checksum: u32) -> En
 }
 
 // Whether an entry is within its limits.
-pub fn entry_allowed(e: Entry) -> bool
+fn entry_allowed(e: Entry) -> bool
     ensures { λ r. ⌜ r ≡ entryAllowed e ⌝ }
 {
     match e {
@@ -102,7 +102,7 @@ pub fn entry_allowed(e: Entry) -> bool
 }
 
 // Whether two entries may stand in one block: each within its limits, and two used ones of different times.
-pub fn entries_allowed(a: Entry, b: Entry) -> bool
+fn entries_allowed(a: Entry, b: Entry) -> bool
     ensures { λ r. ⌜ r ≡ entriesAllowed a b ⌝ }
 {
     entry_allowed(a) & (entry_allowed(b) & differ(a, b))

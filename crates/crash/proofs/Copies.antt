@@ -11,7 +11,7 @@ use Rattle.layout.specs.declared.Device.{Device}
 use Rattle.layout.specs.declared.Side.{Side}
 use Rattle.layout.specs.declared.Area.{Area}
 use Rattle.layout.specs.declared.Area.the-variants.{A, B}
-use Rattle.layout.specs.Limits.{recordLimit}
+use Rattle.layout.specs.Limits.{recordLimit, sectorBytes, blockOffset}
 use Rattle.layout.specs.Places.{headerSector, areaSector, areaOffset, copyBytes}
 use Rattle.crash.specs.Crash.{Sectors, Sound, gather, areaSectors, copyFrom}
 
@@ -56,7 +56,7 @@ module _ (s : Side) (v : Device) (d : Sectors) (h : Sound d) where
       ∙ (let e : 4096 + (recordLimit + recordLimit) ≡ 4096 + recordLimit + recordLimit = omega arith in e))
 
   -- its signature block is in the header's sector 1
-  pub copy-block : window (copyFrom s v d) 512 512 ≡ d (suc (headerSector s v))
+  pub copy-block : window (copyFrom s v d) blockOffset sectorBytes ≡ d (suc (headerSector s v))
   unfolding copyFrom window gather
   copy-block =
       ap (take 512)

@@ -9,7 +9,7 @@ use lib.ListN.{length, take, getD}
 use Rattle.layout.specs.declared.Device.{Device}
 use Rattle.layout.specs.declared.Side.{Side}
 use Rattle.layout.specs.declared.Area.the-variants.{A, B}
-use Rattle.layout.specs.Limits.{sectorBytes, recordLimit}
+use Rattle.layout.specs.Limits.{sectorBytes, headerSectors, recordLimit}
 use Rattle.layout.specs.Places.{headerSector, areaSector}
 
 -- what each sector holds
@@ -86,4 +86,4 @@ areaSectors = recordLimit / sectorBytes
 
 -- a copy as it is lent: the header's 8 sectors, then the first sectors of area a, then of area b
 unfoldable pub copyFrom : Side → Device → Sectors → List ℕ
-copyFrom s v d = gather d (headerSector s v) 8 ++ (gather d (areaSector s A v) areaSectors ++ gather d (areaSector s B v) areaSectors)
+copyFrom s v d = gather d (headerSector s v) headerSectors ++ (gather d (areaSector s A v) areaSectors ++ gather d (areaSector s B v) areaSectors)

@@ -19,7 +19,7 @@ use Rattle.refusal.proofs.Order.{first-all, first-lowest}
 use Rattle.layout.specs.declared.Device.{Device}
 use Rattle.layout.specs.declared.Side.the-variants.{Front}
 use Rattle.layout.specs.declared.Area.the-variants.{A}
-use Rattle.layout.specs.Limits.{recordLimit}
+use Rattle.layout.specs.Limits.{recordLimit, blockOffset, sectorBytes}
 use Rattle.layout.specs.Places.{areaOffset, copyBytes}
 use Rattle.layout.proofs.Laws.{length-facts}
 use Rattle.block.specs.declared.Time.{Time}
@@ -114,7 +114,7 @@ module _ {f b : List ℕ} {v : Device} {p u : List ℕ} {t : Time} {r : List ℕ
       let l : length (blockOf p u (firstFields v t r)) ≡ 512 = length-blockOf p u (firstFields v t r) (k .pool) (k .device) in
       let a : areaOffset A ≡ 4096 = area-a in
       ap blockIn whole
-      ∙ (window-before (blank v p u t r) (areaOffset A) (r ++ padding r) 512 512 (omega arith)
+      ∙ (window-before (blank v p u t r) (areaOffset A) (r ++ padding r) blockOffset sectorBytes (omega arith)
       ∙ (ap (window (blank v p u t r) 512) (sym l) ∙ window-splice (zeros copyBytes) 512 (blockOf p u (firstFields v t r)) block-room))
 
   module _ (ts : t .seconds < 2 ^ 64) (vs : v .sectors < 2 ^ 64) where

@@ -16,7 +16,7 @@ use Rattle.refusal.specs.Tests.{first, AllHold}
 use Rattle.refusal.proofs.Order.{first-all, answer-no, answer-yes}
 use Rattle.layout.specs.declared.Device.{Device}
 use Rattle.layout.specs.declared.Area.the-variants.{A}
-use Rattle.layout.specs.Limits.{lengthAllowed, nanosecondsAllowed}
+use Rattle.layout.specs.Limits.{lengthAllowed, nanosecondsAllowed, blockOffset, sectorBytes}
 use Rattle.layout.specs.Places.{copyBytes}
 use Rattle.block.specs.declared.Time.{Time}
 use Rattle.block.specs.declared.Entry.the-variants.{Unused, Used}
@@ -63,13 +63,13 @@ module _ (c : List ℕ) (n : length c ≡ copyBytes) (z : List ℕ) (ez : z ≡ 
       → y ≡ laid (take 512 z ++ (w ++ drop (1024 - 512) (drop 512 z))) A r → y ≡ filled p u x r
   unfolding filled
   copy-filled p u x r w y ew ey =
-      let q : take (1024 - 512) (drop 512 z) ≡ window z 512 512 = window-part z 512 512 in
-      let e : w ≡ written (window z 512 512) p u x = ew ∙ ap (λ (o : List ℕ). written o p u x) q in
-      let l : length w ≡ 512 = ap length e ∙ length-written (window z 512 512) p u x (length-window-fits z 512 512 part-fits) in
+      let q : take (1024 - 512) (drop 512 z) ≡ window z blockOffset sectorBytes = window-part z blockOffset sectorBytes in
+      let e : w ≡ written (window z blockOffset sectorBytes) p u x = ew ∙ ap (λ (o : List ℕ). written o p u x) q in
+      let l : length w ≡ 512 = ap length e ∙ length-written (window z blockOffset sectorBytes) p u x (length-window-fits z blockOffset sectorBytes part-fits) in
       ey
       ∙ ap (λ (o : List ℕ). laid o A r)
-      (splice-part z 512 512 w part-fits l
-      ∙ (ap (splice z 512) e ∙ ap (λ (o : List ℕ). splice o 512 (written (window o 512 512) p u x)) cleared))
+      (splice-part z blockOffset sectorBytes w part-fits l
+      ∙ (ap (splice z 512) e ∙ ap (λ (o : List ℕ). splice o 512 (written (window o blockOffset sectorBytes) p u x)) cleared))
 
 -- the block's numbers, from the checksum
 pub fields-made : (v : Device) (t : Time) (r : List ℕ) (k : ℕ) → k ≡ Crc.checksum r
@@ -111,9 +111,9 @@ module _ {f b : List ℕ} {v : Device} {p u : List ℕ} {t : Time} {r : List ℕ
   filled-formatted =
       let l : length (zeros copyBytes) ≡ copyBytes = length-zeros copyBytes in
       let m : 1024 ≤ copyBytes = block-fits in
-      let n : length (window (zeros copyBytes) 512 512) ≡ 512 = length-window-fits (zeros copyBytes) 512 512 (omega arith) in
+      let n : length (window (zeros copyBytes) blockOffset sectorBytes) ≡ 512 = length-window-fits (zeros copyBytes) blockOffset sectorBytes (omega arith) in
       ap (λ (w : List ℕ). laid (splice (zeros copyBytes) 512 w) A r)
-      (sym (written-accepted (window (zeros copyBytes) 512 512) p u (firstFields v t r) (first-writes (window (zeros copyBytes) 512 512) n)))
+      (sym (written-accepted (window (zeros copyBytes) blockOffset sectorBytes) p u (firstFields v t r) (first-writes (window (zeros copyBytes) blockOffset sectorBytes) n)))
 
 -- both copies, by the number
 module _ (f b : List ℕ) (v : Device) (p u : List ℕ) (t : Time) (r : List ℕ) (n : ℕ) (e : n ≡ formatNumber f b v p u t r) where

@@ -10,7 +10,7 @@ use Rattle.layout.specs.declared.Side.{Side}
 use Rattle.layout.specs.declared.Side.the-variants.{Front, Back}
 use Rattle.layout.specs.declared.Area.{Area}
 use Rattle.layout.specs.declared.Area.the-variants.{A, B}
-use Rattle.layout.specs.Limits.{recordLimit}
+use Rattle.layout.specs.Limits.{headerSectors, headerBytes, recordLimit}
 use Rattle.layout.specs.Places.{headerSector, areaSector}
 use Rattle.copy.specs.Copy.{areaBytes}
 use Rattle.crash.specs.Crash.{Sectors, areaSectors}
@@ -32,7 +32,7 @@ holding (q ∷ qs) n = cond (has q n) (window (q .content) (512 * (n - q .start)
 
 -- a copy's header, and as much of an area as a record can fill
 abbrev pub headerRun : Side → Device → List ℕ → Run
-headerRun s v c = record { start = headerSector s v; sectors = 8; content = window c 0 4096 }
+headerRun s v c = record { start = headerSector s v; sectors = headerSectors; content = window c 0 headerBytes }
 
 abbrev pub areaRun : Side → Area → Device → List ℕ → Run
 areaRun s x v c = record { start = areaSector s x v; sectors = areaSectors; content = areaBytes c x recordLimit }

@@ -41,7 +41,7 @@ pub enum Head {
 }
 
 // What an item of this kind is.
-pub fn item_of(kind: u16) -> Item
+fn item_of(kind: u16) -> Item
     ensures { λ r. ⌜ r ≡ itemOf kind ⌝ }
 {
     match kind {
@@ -57,7 +57,7 @@ pub fn item_of(kind: u16) -> Item
 }
 
 // Whether an item is a segment.
-pub fn is_segment(i: Item) -> bool
+fn is_segment(i: Item) -> bool
     ensures { λ r. ⌜ r ≡ isSegment i ⌝ }
 {
     match i {
@@ -87,7 +87,7 @@ pub fn head_of(s: &[u8]) -> Head
 }
 
 // The bytes of a head.
-pub fn head_size(h: Head) -> usize
+fn head_size(h: Head) -> usize
     ensures { λ r. ⌜ r ≡ headSize h ⌝ }
 {
     match h {
@@ -107,14 +107,14 @@ pub fn block_size(h: Head) -> u32
 }
 
 // Whether a block size is allowed.
-pub fn block_size_allowed(b: u32) -> bool
+fn block_size_allowed(b: u32) -> bool
     ensures { λ r. ⌜ r ≡ blockSizeAllowed b ⌝ }
 {
     (b % 128 == 0) & ((128 <= b) & (b <= 2097152))
 }
 
 // Whether what a head says is within its limits, whatever the device.
-pub fn head_allowed(h: Head) -> bool
+fn head_allowed(h: Head) -> bool
     ensures { λ r. ⌜ r ≡ headAllowed h ⌝ }
 {
     match h {
@@ -124,7 +124,7 @@ pub fn head_allowed(h: Head) -> bool
 }
 
 // Whether it is within its limits on a device.
-pub fn head_right(d: Device, h: Head) -> bool
+fn head_right(d: Device, h: Head) -> bool
     ensures { λ r. ⌜ r ≡ headRight d h ⌝ }
 {
     match h {

@@ -1,5 +1,5 @@
 -- The limits of the device numbers (docs/FORMAT.md, 'Signature block'), and the size of records and copies.
-use Prim.Native.Nat.{ℕ, _%_}
+use Prim.Native.Nat.{ℕ, _*_, _%_}
 use mathlib.Core.Bool.{Bool, _&&_}
 use mathlib.Core.List.{List, [], _∷_}
 use lib.Dec.{leb, eqb}
@@ -41,6 +41,9 @@ sectorBytes = 512
 -- sectors of a copy's header
 abbrev pub headerSectors : ℕ
 headerSectors = 8
+
+abbrev pub headerBytes : ℕ
+headerBytes = headerSectors * sectorBytes
 
 -- where the signature block begins in a copy as it is lent, in bytes: in the header's sector 1
 abbrev pub blockOffset : ℕ

@@ -13,12 +13,12 @@ use Rattle.layout.specs.declared.CopyMap.{CopyMap}
 use Rattle.layout.specs.declared.DeviceMap.{DeviceMap}
 use Rattle.layout.specs.declared.Located.{Located}
 use Rattle.layout.specs.declared.Located.the-variants.{At, Refused}
-use Rattle.layout.specs.Limits.{deviceTests, sectorBytes, headerSectors, recordLimit}
+use Rattle.layout.specs.Limits.{deviceTests, headerSectors, headerBytes, recordLimit}
 
 -- front: header in sectors 0 to 7; back: header in the last 8 sectors
 abbrev pub headerSector : Side → Device → ℕ
 headerSector Front d = 0
-headerSector Back d = d .sectors - 8
+headerSector Back d = d .sectors - headerSectors
 
 -- the signature block in sector 1; in sector S - 7
 abbrev pub blockSector : Side → Device → ℕ
@@ -27,32 +27,32 @@ blockSector Back d = d .sectors - 7
 
 -- area a from 8, area b from 8 + L/2; area a from S - 8 - L, area b from S - 8 - L/2
 abbrev pub areaSector : Side → Area → Device → ℕ
-areaSector Front A d = 8
-areaSector Front B d = 8 + d .metadata / 2
-areaSector Back A d = d .sectors - 8 - d .metadata
-areaSector Back B d = d .sectors - 8 - d .metadata / 2
+areaSector Front A d = headerSectors
+areaSector Front B d = headerSectors + d .metadata / 2
+areaSector Back A d = d .sectors - headerSectors - d .metadata
+areaSector Back B d = d .sectors - headerSectors - d .metadata / 2
 
 -- then R reserved sectors; reserved space just below area a
 abbrev pub reservedSector : Side → Device → ℕ
-reservedSector Front d = 8 + d .metadata
-reservedSector Back d = d .sectors - 8 - d .metadata - d .reserved
+reservedSector Front d = headerSectors + d .metadata
+reservedSector Back d = d .sectors - headerSectors - d .metadata - d .reserved
 
 -- the data range runs from 8 + L + R up to, not including, S - 8 - L - R
 abbrev pub dataStart : Device → ℕ
-dataStart d = 8 + d .metadata + d .reserved
+dataStart d = headerSectors + d .metadata + d .reserved
 
 abbrev pub dataEnd : Device → ℕ
-dataEnd d = d .sectors - 8 - d .metadata - d .reserved
+dataEnd d = d .sectors - headerSectors - d .metadata - d .reserved
 
 -- A copy is lent as the header's 8 sectors, then as much of area a as a record can fill, then as much of area b: where
 -- an area begins there, in bytes.
 unfoldable pub areaOffset : Area → ℕ
-areaOffset A = headerSectors * sectorBytes
-areaOffset B = headerSectors * sectorBytes + recordLimit
+areaOffset A = headerBytes
+areaOffset B = headerBytes + recordLimit
 
 -- the bytes of a copy as it is lent
 unfoldable pub copyBytes : ℕ
-copyBytes = headerSectors * sectorBytes + recordLimit + recordLimit
+copyBytes = headerBytes + recordLimit + recordLimit
 
 -- a copy's places
 abbrev pub copyMapOf : Side → Device → CopyMap

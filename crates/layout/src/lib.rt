@@ -144,12 +144,12 @@ pub fn area_sector(side: Side, area: Area, d: Device) -> u64
     let l = d.metadata as u64;
     match side {
         Side::Front => match area {
-            Area::A => 8,
-            Area::B => 8 + l / 2,
+            Area::A => HEADER_SECTORS,
+            Area::B => HEADER_SECTORS + l / 2,
         },
         Side::Back => match area {
-            Area::A => saturating_sub(saturating_sub(d.sectors, 8), l),
-            Area::B => saturating_sub(saturating_sub(d.sectors, 8), l / 2),
+            Area::A => saturating_sub(saturating_sub(d.sectors, HEADER_SECTORS), l),
+            Area::B => saturating_sub(saturating_sub(d.sectors, HEADER_SECTORS), l / 2),
         },
     }
 }
@@ -175,7 +175,7 @@ pub fn copy_bytes() -> usize
 pub fn data_start(d: Device) -> u64
     ensures { λ r. ⌜ r ≡ dataStart d ⌝ }
 {
-    8 + d.metadata as u64 + d.reserved as u64
+    HEADER_SECTORS + d.metadata as u64 + d.reserved as u64
 }
 
 // The first sector past the data range; of any numbers, with differences that stop at 0.
@@ -183,7 +183,7 @@ pub fn data_end(d: Device) -> u64
     ensures { λ r. ⌜ r ≡ dataEnd d ⌝ }
 {
     saturating_sub(
-        saturating_sub(saturating_sub(d.sectors, 8), d.metadata as u64),
+        saturating_sub(saturating_sub(d.sectors, HEADER_SECTORS), d.metadata as u64),
         d.reserved as u64,
     )
 }
@@ -202,10 +202,10 @@ pub fn locate(d: Device) -> Located
         block: block_sector(Side::Front, d),
         a: area_sector(Side::Front, Area::A, d),
         b: area_sector(Side::Front, Area::B, d),
-        reserved: 8 + l,
+        reserved: HEADER_SECTORS + l,
     };
     let back = CopyMap {
-        header: saturating_sub(d.sectors, 8),
+        header: saturating_sub(d.sectors, HEADER_SECTORS),
         block: block_sector(Side::Back, d),
         a: area_sector(Side::Back, Area::A, d),
         b: area_sector(Side::Back, Area::B, d),

@@ -23,7 +23,7 @@ use Rattle.copy.specs.declared.PresentReading.{PresentReading}
 use Rattle.copy.specs.Copy.{entryIn, sizedReading, presentFor, copyReading, presentReadingOf}
 use Rattle.copy.proofs.Newness.{current-whole}
 use Rattle.crash.specs.Crash.{areaSectors}
-use Rattle.sectors.specs.Sectors.{copySectors, areaStart, byPart, below, placeOf, sectorAt, named, namedIn, mattersFor, currentFor, newestWhole, matters, isRead, passes, known}
+use Rattle.sectors.specs.Sectors.{copySectors, areaStart, byPart, below, placeOf, sectorAt, named, namedIn, mattersFor, currentFor, newestWhole, isRead, passes, known}
 
 pub below-past : (s n : ℕ) → s ≤ n → s ≡ below s n
 unfolding below
@@ -158,10 +158,6 @@ module _ (c : List ℕ) (q : PresentReading) (w a : Bool) (ew : w ≡ currentFor
   read-by : q .block .verdict ≡ sizedReading c .verdict
   unfolding copyReading
   read-by = ap (λ (z : PresentReading). z .block .verdict) eq
-
-  pub matters-by : (i : ℕ) → a ≡ mattersFor (q .block .verdict) w i → a ≡ matters c i
-  unfolding matters
-  matters-by i h = h ∙ ap₂ (λ (v : Verdict) (t : Bool). mattersFor v t i) read-by whole-by
 
   pub known-by : (m : List ℕ) → a ≡ every (passes (q .block .verdict) w m) copySectors → a ≡ known c m
   unfolding known

@@ -6,7 +6,7 @@ ghost use Prim.Native.Nat.{_+_, _*_, _≤_, _<_};
 ghost use Rattle.crash.specs.Crash.{areaSectors};
 ghost use Rattle.layout.specs.Places.{headerSector};
 ghost use Rattle.search.specs.Search.{every};
-ghost use Rattle.sectors.specs.Sectors.{copySectors, areaStart, below, sectorAt, named, namedIn, mattersFor, currentFor, matters, isRead, passes, known, settled};
+ghost use Rattle.sectors.specs.Sectors.{copySectors, areaStart, below, sectorAt, named, namedIn, mattersFor, currentFor, isRead, passes, known, settled};
 use block::BlockFields;
 use block::Entry;
 use block::Verdict;
@@ -16,7 +16,7 @@ use layout::Device;
 use layout::Side;
 
 // How many sectors a copy has as it is lent.
-pub fn copy_sectors() -> usize
+fn copy_sectors() -> usize
     ensures { λ r. ⌜ r ≡ copySectors ⌝ }
 {
     layout::copy_bytes() / layout::SECTOR_BYTES
@@ -132,19 +132,6 @@ fn newest_whole(v: Verdict, p: Present) -> bool
         return false;
     };
     copy::current(f, p)
-}
-
-// Whether sector i of a copy matters to discovery: the signature block's; where the block is accepted those that the entry with
-// the later time names, the first ceiling(bytes / 512) of its area; and, only where that area is not whole, those that the other
-// entry names.
-pub fn matters(c: &[u8], i: usize) -> bool
-    ensures { λ r. ⌜ r ≡ matters (now (c .entry)) i ⌝ }
-{
-    let q = copy::read_present(c);
-    let r = q.block;
-    let v = r.verdict;
-    let p = q.present;
-    matters_for(v, newest_whole(v, p), i)
 }
 
 // Whether sector i was read. One without a mark was not.

@@ -26,14 +26,14 @@ fn before_end(x: u64, start: u64, sectors: u64) -> bool
 }
 
 // The larger of two numbers.
-pub fn larger(a: u64, b: u64) -> u64
+fn larger(a: u64, b: u64) -> u64
     ensures { λ r. ⌜ r ≡ max a b ⌝ }
 {
     if a < b { b } else { a }
 }
 
 // Whether x is one of a segment's sectors.
-pub fn holds_sector(g: Segment, x: u64) -> bool
+fn holds_sector(g: Segment, x: u64) -> bool
     ensures { λ r. ⌜ r ≡ holds g x ⌝ }
 {
     (g.start <= x) & before_end(x, g.start, g.sectors)
