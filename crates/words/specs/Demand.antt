@@ -1,13 +1,12 @@
 -- What holds of the words, in other terms. `proofs/Demand.antt` proves it.
 use Prim.Native.Nat.{ℕ, _+_, _-_, _*_, _^_, _≤_, _<_}
-use Prim.Native.Char.{code}
-use Prim.Native.String.{String, [] as none, _∷_ as _then_}
 use mathlib.Core.Path.{_≡_}
 use mathlib.Core.Bool.{true, false, cond, _&&_}
 use mathlib.Core.Logic.{_⊎_}
 use mathlib.Core.List.{List, [], _∷_, _++_, map}
 use lib.Dec.{leb}
 use lib.ListN.{length}
+use Rattle.refusal.specs.Words.{ascii}
 use Rattle.endian.specs.Bytes.{allPass, zeros}
 use Rattle.text.specs.Decimal.{decimal, value, isDigit}
 use Rattle.block.specs.Block.{isHex}
@@ -65,18 +64,13 @@ pub record SizesOnly : Type 0 where
   -- a size is read, and as that
   pub every : (s : List ℕ) (x : ℕ) → Size s x → sectorsOf s ≡ Is x
 
--- the ASCII bytes of a text
-abbrev pub bytes : String → List ℕ
-bytes none = []
-bytes (c then t) = code c ∷ bytes t
-
 -- a word that names kind k: its name or its digit
 abbrev pub Names : List ℕ → ℕ → Type 0
 Names s k =
-    ((k ≡ 1) × ((s ≡ bytes "thin-metadata") ⊎ (s ≡ bytes "1")))
-    ⊎ (((k ≡ 2) × ((s ≡ bytes "thin-data") ⊎ (s ≡ bytes "2")))
-    ⊎ (((k ≡ 3) × ((s ≡ bytes "spare") ⊎ (s ≡ bytes "3")))
-    ⊎ ((k ≡ 4) × ((s ≡ bytes "metadata-volume") ⊎ (s ≡ bytes "4")))))
+    ((k ≡ 1) × ((s ≡ ascii "thin-metadata") ⊎ (s ≡ ascii "1")))
+    ⊎ (((k ≡ 2) × ((s ≡ ascii "thin-data") ⊎ (s ≡ ascii "2")))
+    ⊎ (((k ≡ 3) × ((s ≡ ascii "spare") ⊎ (s ≡ ascii "3")))
+    ⊎ ((k ≡ 4) × ((s ≡ ascii "metadata-volume") ⊎ (s ≡ ascii "4")))))
 
 -- The four names and the four digits are kinds 1 to 4, and every other word is 0.
 pub record Kinds : Type 0 where
