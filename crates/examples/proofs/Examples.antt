@@ -3,7 +3,7 @@ use Prim.Native.Nat.{ℕ, _+_, _*_}
 use mathlib.Core.Path.{_≡_, refl, sym, ap, _∙_}
 use mathlib.Core.Bool.{true, _&&_}
 use mathlib.Core.List.{List, [], _∷_}
-use lib.Dec.{leb, lit<}
+use lib.Dec.{leb, lit<, lit≤}
 use lib.ListN.{length}
 use Rattle.endian.specs.Bytes.{allPass, zeros}
 use Rattle.endian.proofs.Tests.{length-zeros}
@@ -14,12 +14,14 @@ use Rattle.layout.specs.Places.{copyBytes}
 use Rattle.block.specs.Entry.{laterThan}
 use Rattle.block.specs.Block.{isHex}
 use Rattle.block.specs.Writing.{writeTests}
+use Rattle.layout.specs.declared.Device.{Device}
+use Rattle.layout.specs.declared.Side.the-variants.{Front}
 use Rattle.segments.specs.Sectors.{freeSectors}
 use Rattle.runs.specs.declared.Run.{Run}
 use Rattle.runs.specs.Runs.{runAt, fitOf, fitting}
 use Rattle.items.specs.Head.{headOf, headSize, dataRange, itemBytes, mostSegments}
 use Rattle.items.specs.Items.{segments}
-use Rattle.record.specs.Accept.{recordTests}
+use Rattle.record.specs.Accept.{contentTests, recordTests}
 use Rattle.record.proofs.Testing.{record-ascending}
 use Rattle.record.proofs.Accepted.{accepted}
 use Rattle.record.proofs.Right.{accepted-content}
@@ -35,7 +37,8 @@ use Rattle.update.specs.Update.{updateNumber}
 use Rattle.stores.specs.Stores.{sectorsOf}
 use Rattle.update.specs.Plan.{planOf}
 use Rattle.format.proofs.Checking.{Taken}
-use Rattle.format.proofs.Starting.{not-refused}
+use Rattle.update.proofs.Allowing.{ordered}
+use Rattle.format.proofs.Demand.{format-in-step, format-device}
 use Rattle.examples.specs.Examples.{device, time, withNanoseconds, zeroUuid, nine, rowOf, yes, runsIn, runIn, totalIn, runOf, asking, startIn, countIn, copy, storesOf, Twelve}
 use Rattle.examples.proofs.Room.{known, free, nine-length, nine-head, nine-segments, nine-accepted, nine-runs, nine-total, example-11, example-12}
 
@@ -135,12 +138,18 @@ later-time : laterThan (time 11 0) (time 10 5) ≡ true
 unfolding laterThan
 later-time = refl
 
+not-refused : (r : List ℕ) → first (recordTests device r) ≡ 0 → updateNumber copy copy (time 11 0) r ≡ 0
+not-refused r a =
+    ordered copy copy (time 11 0) r .content (format-in-step formatted (lit< tt) (lit< tt) .0) (lit≤ tt) (time 10 5) nine
+    (format-in-step formatted (lit< tt) (lit< tt) .1 Front) later-time
+    ∙ (ap (λ (v : Device). first (contentTests v r)) (format-device formatted (lit< tt) (lit< tt)) ∙ first-all (contentTests device r) (accepted-content device r a))
+
 stores : (r : List ℕ) (n k : ℕ) → first (recordTests device r) ≡ 0 → length r ≡ n → 2 * sectorsOf n + 2 ≡ k → storesOf r ≡ k
 stores r n k a l e =
     ap countIn
     (sym
     (answer-yes (Planned.Ready (planOf copy copy (time 11 0) r)) Planned.Refused 0 (updateNumber copy copy (time 11 0) r)
-    (sym (not-refused formatted (lit< tt) (lit< tt) (time 11 0) r refl later-time (accepted-content device r a))) refl))
+    (sym (not-refused r a)) refl))
     ∙ (ap (λ (m : ℕ). 2 * sectorsOf m + 2) l ∙ e)
 
 four : storesOf (rowOf 25) ≡ 4

@@ -239,7 +239,7 @@ fn lend(m: Mending, f: &[u8], b: &[u8], i: u64, out: &mut [u8]) {
     number(out.len() as u64);
     say(b" for");
     number(i);
-    print_given(mend::store(m, f, b, i, out), device_in(f));
+    print_given(mend::store(m, f, b, i, out), kept_device(m));
     sum(out);
     say(b"\n");
 }
