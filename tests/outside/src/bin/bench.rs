@@ -6,7 +6,7 @@ use std::hint::black_box;
 use std::time::Instant;
 
 use outside::ffi::Library;
-use outside::interface::{FreeRun, Interface, BLOCK_NUMBERS, FOUND, UPDATE_PLAN};
+use outside::interface::{FreeRun, Interface, BLOCK_NUMBERS, FOUND, MEND_PLAN, UPDATE_PLAN};
 use outside::model::block::{Identity, Time};
 use outside::model::layout::{Device, COPY, RECORD_LIMIT, SECTOR};
 use outside::model::record::{Segment, MAX_SEGMENTS};
@@ -34,6 +34,7 @@ fn main() {
     record_segments(&mut rng);
     allocation(&mut rng);
     update(&mut rng);
+    mend(&mut rng);
     record_clash(&mut rng);
     free_runs(&mut rng);
     free_run_table(&mut rng);
@@ -203,6 +204,28 @@ fn update(rng: &mut Rng) {
             black_box((&bytes, &sector));
         }
     });
+}
+
+fn mend(rng: &mut Rng) {
+    let [old, new, older] = [rng.bytes(RECORD_LIMIT), rng.bytes(RECORD_LIMIT), rng.bytes(RECORD_LIMIT)];
+    let back = copy(rng, &identity(), &[Area::Whole(time(9), older), Area::Unused]);
+    let front = copy(rng, &identity(), &[Area::Whole(time(10), old.clone()), Area::Whole(time(11), new.clone())]);
+    // The front's later entry is torn, so that its older record is found and its block has a last store.
+    let torn = copy(rng, &identity(), &[Area::Whole(time(10), old), Area::Torn(time(11), new)]);
+    for (front, state, stores) in [(front, "later record in front", 18), (torn, "later entry torn", 19)] {
+        let name = format!("mend, {state}: plan and all {stores} stores");
+        let (mut plan, mut bytes, mut sector) = ([0; MEND_PLAN], [0; SECTOR], [0]);
+        row(&name, |api| {
+            let (front, back) = (black_box(&front), black_box(&back));
+            answered(api.mend_plan(front, back, &mut plan));
+            let count = api.mend_count(&plan);
+            assert_eq!(count, stores);
+            for number in 0..count {
+                answered(api.mend_store(&plan, front, back, number, &mut bytes, &mut sector));
+                black_box((&bytes, &sector));
+            }
+        });
+    }
 }
 
 fn record_clash(rng: &mut Rng) {
