@@ -23,13 +23,12 @@ use Rattle.discovery.specs.declared.Finding.{Finding}
 use Rattle.discovery.specs.declared.Other.{Other}
 use Rattle.discovery.specs.declared.Answer.{Answer}
 use Rattle.discovery.specs.declared.Answer.the-variants as Answer
-use Rattle.discovery.specs.Discovery.{numberOf}
 use Rattle.layout.specs.declared.Device.{Device}
 use Rattle.capi.specs.Lent.{has, numberIf, leftIf, replaced}
 use Rattle.capi.specs.Answers.{fieldsFrom, answerLeft, verdictLeft, uuidLeft}
 use Rattle.layout.specs.Answers.{sideNumber, areaNumber}
 use Rattle.discovery.specs.Answers.{otherNumber, answerNumber}
-use Rattle.block.specs.Answers.{blockNumbers}
+use Rattle.block.specs.Answers.{blockNumbers, verdictNumber}
 use Rattle.capi.proofs.Told.{sized, sized-left, whole}
 
 six : (a b c d e f x y z : ℕ) → x ≡ a → y ≡ b → z ≡ f → _≡_ {A = List ℕ} (x ∷ y ∷ c ∷ d ∷ e ∷ z ∷ []) (a ∷ b ∷ c ∷ d ∷ e ∷ f ∷ [])
@@ -69,13 +68,13 @@ block-numbers x s l h k eh ek w ew = ew ∙ (whole s (numbersBy x h k) l ∙ ap�
 
 -- a block's numbers and UUIDs
 module _ (b s p u : List ℕ) (t : Bool) (h : not t ≡ false) (r : Reading) (e : r ≡ reading b) (v : Verdict) (g : r .verdict ≡ v) where
-  pub block-told : (n : ℕ) (s' p' u' : List ℕ) → n ≡ numberOf v → s' ≡ verdictLeft v s → p' ≡ uuidLeft v (r .pool) p → u' ≡ uuidLeft v (r .blockdev) u
-      → (n ≡ numberIf t (numberOf (reading b .verdict)))
+  pub block-told : (n : ℕ) (s' p' u' : List ℕ) → n ≡ verdictNumber v → s' ≡ verdictLeft v s → p' ≡ uuidLeft v (r .pool) p → u' ≡ uuidLeft v (r .blockdev) u
+      → (n ≡ numberIf t (verdictNumber (reading b .verdict)))
       × ((s' ≡ leftIf t (verdictLeft (reading b .verdict) s) s)
       × ((p' ≡ leftIf t (uuidLeft (reading b .verdict) (reading b .pool) p) p)
       × (u' ≡ leftIf t (uuidLeft (reading b .verdict) (reading b .blockdev) u) u)))
   block-told n s' p' u' en es ep eu = (
-    sized t h n _ (en ∙ (ap numberOf (sym g) ∙ ap (λ (z : Reading). numberOf (z .verdict)) e)),
+    sized t h n _ (en ∙ (ap verdictNumber (sym g) ∙ ap (λ (z : Reading). verdictNumber (z .verdict)) e)),
     (
       sized-left t h s' _ s (es ∙ (ap (λ (z : Verdict). verdictLeft z s) (sym g) ∙ ap (λ (z : Reading). verdictLeft (z .verdict) s) e)),
       (

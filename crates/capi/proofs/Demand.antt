@@ -1,5 +1,5 @@
 -- The C calls on plans give the stores of the libraries' claims.
-use Prim.Native.Nat.{ℕ}
+use Prim.Native.Nat.{ℕ, _^_, _<_}
 use mathlib.Core.Path.{_≡_, sym, ap, _∙_}
 use mathlib.Core.Bool.{Bool, true, _&&_}
 use mathlib.Core.List.{List}
@@ -19,20 +19,22 @@ use Rattle.update.specs.declared.Planned.{Planned}
 use Rattle.update.specs.declared.Planned.the-variants as Planned
 use Rattle.stores.specs.declared.Given.{Given}
 use Rattle.update.specs.Plan as Update
-use Rattle.update.specs.Demand.{Start, planOn}
+use Rattle.update.specs.Demand.{planOn, PlanGives}
 use Rattle.update.proofs.Demand as Updates
 use Rattle.mend.specs.declared.Mending.{Mending}
+use Rattle.mend.specs.Mend.{mendGroups}
 use Rattle.mend.specs.Plan as Mend
+use Rattle.mend.specs.Demand.{MendGives}
 use Rattle.mend.proofs.Kept.{found-sized}
 use Rattle.mend.proofs.Giving as Mends
 use Rattle.capi.specs.Lent.{has, numberIf, leftIf}
 use Rattle.capi.specs.Plans.{encodedPlan, decodedPlan, encodedMend, decodedMend}
-use Rattle.capi.specs.Calls.{givenLeft, plannedLeft, updateStoreNumber, updateStoreBytes, updateStoreSector, mendPlanLeft, mendStoreNumber, mendStoreBytes, mendStoreSector}
+use Rattle.capi.specs.Calls.{givenLeft, plannedLeft, updateGroup, updateStoreNumber, updateStoreBytes, updateStoreSector, mendPlanLeft, mendGroup, mendStoreNumber, mendStoreBytes, mendStoreSector}
 use Rattle.stores.specs.Answers.{givenNumber}
 use Rattle.update.specs.Answers.{plannedNumber}
 use Rattle.mend.specs.Answers.{mendingNumber}
 use Rattle.capi.specs.Demand as Claims
-use Rattle.capi.specs.Demand.{updatePlan}
+use Rattle.capi.specs.Demand.{updatePlan, UpdateCalls, MendCalls}
 use Rattle.capi.proofs.Codec.{plan-long, plan-decoded, mend-decoded, in-step-decoded}
 use Rattle.capi.proofs.Coding.{chosen}
 use Rattle.capi.proofs.Fitting.{plan-fit, rewrite-fit, mend-fit}
@@ -55,20 +57,17 @@ module _ (s m : List ℕ) (j : ℕ) (long : length s ≡ j) (one : length m ≡ 
     (ap (λ (b : Bool). leftIf b u out) right ∙ eu, ap (λ (b : Bool). leftIf b (givenLeft x m) m) right ∙ ap (λ (z : Given). givenLeft z m) e),
   )
 
-module _ (v : Device) (d : Sectors) (t : Time) (r s : List ℕ) (st : Start v d t r) (n : length s ≡ 148) where
-  ready : Update.planned (copyFrom Front v d) (copyFrom Back v d) t r ≡ Planned.Ready (planOn v d t r)
-  ready = Updates.giving v d t r st .0
-
+module _ (v : Device) (d : Sectors) (t : Time) (r s : List ℕ) (h : PlanGives v d t r) (fits : t .seconds < 2 ^ 64) (n : length s ≡ 148) where
   left : updatePlan v d t r s ≡ encodedPlan (planOn v d t r)
   left =
       sym (chosen (plannedLeft (Update.planned (copyFrom Front v d) (copyFrom Back v d) t r) s) s (length s) 148 n)
-      ∙ ap (λ (z : Planned). plannedLeft z s) ready
+      ∙ ap (λ (z : Planned). plannedLeft z s) (h .plan)
 
   long : length (updatePlan v d t r s) ≡ 148
   long = ap length left ∙ plan-long (planOn v d t r)
 
   read : decodedPlan (updatePlan v d t r s) ≡ planOn v d t r
-  read = ap decodedPlan left ∙ plan-decoded (planOn v d t r) (plan-fit (copyFrom Front v d) (copyFrom Back v d) t r (st .not-refused) (st .fits))
+  read = ap decodedPlan left ∙ plan-decoded (planOn v d t r) (plan-fit (copyFrom Front v d) (copyFrom Back v d) t r (h .number) fits)
 
   -- store i, as the plan gives it
   update-stored : (i : ℕ) (out m : List ℕ) → length m ≡ 1 → (x : Given) (w : List ℕ)
@@ -77,28 +76,31 @@ module _ (v : Device) (d : Sectors) (t : Time) (r s : List ℕ) (st : Start v d 
       → (updateStoreNumber (updatePlan v d t r s) (copyFrom Front v d) (copyFrom Back v d) r i out m ≡ givenNumber x)
       × ((updateStoreBytes (updatePlan v d t r s) (copyFrom Front v d) (copyFrom Back v d) r i out m ≡ w)
       × (updateStoreSector (updatePlan v d t r s) (copyFrom Front v d) (copyFrom Back v d) r i out m ≡ givenLeft x m))
-  update-stored i out m one x w h =
-      stored (updatePlan v d t r s) m 148 long one _ x (ap (λ (p : Plan). Update.storeAnswer p (copyFrom Front v d) (copyFrom Back v d) r i out) read ∙ h .0) _ w out
-      (ap (λ (p : Plan). Update.storeBytes p (copyFrom Front v d) (copyFrom Back v d) r i out) read ∙ h .1)
+  update-stored i out m one x w e =
+      stored (updatePlan v d t r s) m 148 long one _ x (ap (λ (p : Plan). Update.storeAnswer p (copyFrom Front v d) (copyFrom Back v d) r i out) read ∙ e .0) _ w out
+      (ap (λ (p : Plan). Update.storeBytes p (copyFrom Front v d) (copyFrom Back v d) r i out) read ∙ e .1)
+
+  -- the group of store i, as the plan has it
+  update-grouped : (i g : ℕ) → Update.groupOf (planOn v d t r) i ≡ g → updateGroup (updatePlan v d t r s) i ≡ g
+  update-grouped i g e =
+      sym (chosen (Update.groupOf (decodedPlan (updatePlan v d t r s)) i) 4 (length (updatePlan v d t r s)) 148 long)
+      ∙ (ap (λ (p : Plan). Update.groupOf p i) read ∙ e)
+
+  update-calls : UpdateCalls v d t r s
+  update-calls =
+      record {
+        number = sym (chosen (plannedNumber (Update.planned (copyFrom Front v d) (copyFrom Back v d) t r)) 1 (length s) 148 n) ∙ ap plannedNumber (h .plan);
+        count =
+            sym (chosen (Update.storesIn (decodedPlan (updatePlan v d t r s))) 0 (length (updatePlan v d t r s)) 148 long)
+            ∙ (ap Update.storesIn read ∙ h .count);
+        grouped = λ g i m a z. update-grouped i g (h .grouped g i m a z);
+        no-group = λ i l. update-grouped i 4 (h .no-group i l);
+        store = λ i out m l room one. update-stored i out m one _ _ (h .store i out l room);
+        no-store = λ i out m l room one. update-stored i out m one _ _ (h .no-store i out l room);
+      }
 
 pub giving : Claims.Giving
-giving v d t r s st n =
-    let plan : List ℕ = updatePlan v d t r s in (
-      sym (chosen (plannedNumber (Update.planned (copyFrom Front v d) (copyFrom Back v d) t r)) 1 (length s) 148 n) ∙ ap plannedNumber (ready v d t r s st n),
-      (
-        sym (chosen (Update.storesIn (decodedPlan plan)) 0 (length plan) 148 (long v d t r s st n))
-            ∙ (ap Update.storesIn (read v d t r s st n) ∙ Updates.giving v d t r st .1 .0),
-        (
-          λ g i h a z.
-              sym (chosen (Update.groupOf (decodedPlan plan) i) 4 (length plan) 148 (long v d t r s st n))
-              ∙ (ap (λ (p : Plan). Update.groupOf p i) (read v d t r s st n) ∙ Updates.giving v d t r st .1 .1 .1 .0 g i h a z),
-          (
-            λ i out m l room one. update-stored v d t r s st n i out m one _ _ (Updates.giving v d t r st .1 .1 .1 .1 .1 .0 i out l room),
-            λ i out m l room one. update-stored v d t r s st n i out m one _ _ (Updates.giving v d t r st .1 .1 .1 .1 .1 .1 i out l room),
-          ),
-        ),
-      ),
-    )
+giving v d u q t r s st n = update-calls v d t r s (Updates.giving v d u q t r st) (st .fits) n
 
 module _ (f b s : List ℕ) (q : Finding) (o : Other) (e : discovery f b ≡ Found q o) (n : length s ≡ 204) where
   mend-left : mendPlanLeft f b s ≡ encodedMend (Mend.mending f b) s
@@ -119,21 +121,24 @@ module _ (f b s : List ℕ) (q : Finding) (o : Other) (e : discovery f b ≡ Fou
       stored (mendPlanLeft f b s) m 204 mend-long one _ x (ap (λ (p : Mending). Mend.storeAnswer p f b i out) mend-read ∙ h .0) _ w out
       (ap (λ (p : Mending). Mend.storeBytes p f b i out) mend-read ∙ h .1)
 
+  -- the group of store i, as the mend has it
+  mend-grouped : (i g : ℕ) → Mend.groupOf (Mend.mending f b) i ≡ g → mendGroup (mendPlanLeft f b s) i ≡ g
+  mend-grouped i g h =
+      sym (chosen (Mend.groupOf (decodedMend (mendPlanLeft f b s)) i) 4 (length (mendPlanLeft f b s)) 204 mend-long)
+      ∙ (ap (λ (p : Mending). Mend.groupOf p i) mend-read ∙ h)
+
+  mend-calls : MendGives f b (Mend.mending f b) (mendGroups f b) → MendCalls f b s
+  mend-calls h =
+      record {
+        number = sym (chosen (mendingNumber (Mend.mending f b)) 1 (length s) 204 n) ∙ mend-fit f b q o e s .0;
+        count =
+            sym (chosen (Mend.storesIn (decodedMend (mendPlanLeft f b s))) 0 (length (mendPlanLeft f b s)) 204 mend-long)
+            ∙ (ap Mend.storesIn mend-read ∙ h .count);
+        grouped = λ g i m a z. mend-grouped i g (h .grouped g i m a z);
+        no-group = λ i l. mend-grouped i 4 (h .no-group i l);
+        store = λ i out m l room one. mend-stored i out m one _ _ (h .store i out l room);
+        no-store = λ i out m l room one. mend-stored i out m one _ _ (h .no-store i out l (found-sized f b q o e) room);
+      }
+
 pub mending : Claims.Mending
-mending f b s q o e n =
-    let plan : List ℕ = mendPlanLeft f b s in (
-      sym (chosen (mendingNumber (Mend.mending f b)) 1 (length s) 204 n) ∙ mend-fit f b q o e s .0,
-      (
-        sym (chosen (Mend.storesIn (decodedMend plan)) 0 (length plan) 204 (mend-long f b s q o e n))
-            ∙ (ap Mend.storesIn (mend-read f b s q o e n) ∙ Mends.giving f b .0),
-        (
-          λ g i h a z.
-              sym (chosen (Mend.groupOf (decodedMend plan) i) 4 (length plan) 204 (mend-long f b s q o e n))
-              ∙ (ap (λ (p : Mending). Mend.groupOf p i) (mend-read f b s q o e n) ∙ Mends.giving f b .1 .0 g i h a z),
-          (
-            λ i out m l room one. mend-stored f b s q o e n i out m one _ _ (Mends.giving f b .1 .1 .0 i out l room),
-            λ i out m l room one. mend-stored f b s q o e n i out m one _ _ (Mends.giving f b .1 .1 .1 i out l (found-sized f b q o e) room),
-          ),
-        ),
-      ),
-    )
+mending f b s q o e n = mend-calls f b s q o e n (Mends.giving f b)

@@ -7,10 +7,9 @@ ghost use Rattle.layout.specs.Places.{located};
 ghost use Rattle.block.specs.Block.{reading};
 ghost use Rattle.block.specs.Entry.{entryOf};
 ghost use Rattle.block.specs.Writing.{writeTests, written};
-ghost use Rattle.discovery.specs.Discovery.{numberOf};
 ghost use Rattle.capi.specs.Lent.{has, numberIf, leftIf};
 ghost use Rattle.capi.specs.Answers.{deviceFrom, fieldsFrom, verdictLeft, uuidLeft, locatedLeft};
-ghost use Rattle.block.specs.Answers.{blockNumbers};
+ghost use Rattle.block.specs.Answers.{blockNumbers, verdictNumber};
 ghost use Rattle.layout.specs.Answers.{locatedNumber};
 use crate::lent;
 use block::BlockFields;
@@ -52,7 +51,7 @@ pub extern "C" fn amseokbin_block_read(
     pool: &mut [u8],
     device: &mut [u8],
 ) -> u8
-    ensures { λ n. ⌜ n ≡ numberIf (has (now (numbers .entry)) 11 && (has (now (pool .entry)) 32 && has (now (device .entry)) 32)) (numberOf (reading (now (block .entry)) .verdict)) ⌝ }
+    ensures { λ n. ⌜ n ≡ numberIf (has (now (numbers .entry)) 11 && (has (now (pool .entry)) 32 && has (now (device .entry)) 32)) (verdictNumber (reading (now (block .entry)) .verdict)) ⌝ }
     ensures { λ _. ⌜ now (numbers .exit) ≡ leftIf (has (now (numbers .entry)) 11 && (has (now (pool .entry)) 32 && has (now (device .entry)) 32)) (verdictLeft (reading (now (block .entry)) .verdict) (now (numbers .entry))) (now (numbers .entry)) ⌝ }
     ensures { λ _. ⌜ now (pool .exit) ≡ leftIf (has (now (numbers .entry)) 11 && (has (now (pool .entry)) 32 && has (now (device .entry)) 32)) (uuidLeft (reading (now (block .entry)) .verdict) (reading (now (block .entry)) .pool) (now (pool .entry))) (now (pool .entry)) ⌝ }
     ensures { λ _. ⌜ now (device .exit) ≡ leftIf (has (now (numbers .entry)) 11 && (has (now (pool .entry)) 32 && has (now (device .entry)) 32)) (uuidLeft (reading (now (block .entry)) .verdict) (reading (now (block .entry)) .blockdev) (now (device .entry))) (now (device .entry)) ⌝ }

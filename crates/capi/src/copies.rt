@@ -21,7 +21,7 @@ fn other_number(o: Other) -> u8
     ensures { λ n. ⌜ n ≡ otherNumber o ⌝ }
 {
     match o {
-        Other::Both => 0,
+        Other::Both(_) => 0,
         Other::One(n) => n,
     }
 }
@@ -90,7 +90,8 @@ pub extern "C" fn amseokbin_read_found(
 pub extern "C" fn amseokbin_in_step(front: &[u8], back: &[u8]) -> bool
     ensures { λ r. ⌜ r ≡ inStep (now (front .entry)) (now (back .entry)) ⌝ }
 {
-    discovery::in_step(front, back)
+    let s = discovery::examine(front, back);
+    s.step
 }
 
 // Lays a record into area a of a copy in memory, or into area b.
@@ -99,7 +100,7 @@ pub extern "C" fn amseokbin_lay(copy: &mut [u8], area_b: bool, content: &[u8]) -
     ensures { λ n. ⌜ n ≡ first (layTests (now (copy .entry)) (now (content .entry))) ⌝ }
     ensures { λ _. ⌜ now (copy .exit) ≡ laid (now (copy .entry)) (areaFrom «area_b») (now (content .entry)) ⌝ }
 {
-    update::lay(copy, area_from(area_b), content)
+    stores::lay(copy, area_from(area_b), content)
 }
 
 // Area b where it is asked for.

@@ -4,7 +4,7 @@ ghost use Rattle.capi.specs.Calls.{mendPlanNumber, mendPlanLeft, mendCou
 use crate::lent;
 use crate::plan;
 use mend::Mending;
-use update::Given;
+use stores::Given;
 
 // Works a mend out, into a plan of 204 bytes.
 #[no_mangle]

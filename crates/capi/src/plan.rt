@@ -11,7 +11,7 @@ use layout::Side;
 use mend::Last;
 use mend::Mending;
 use mend::Rewrite;
-use update::Part;
+use stores::Part;
 use update::Plan;
 
 // C's number of a side.

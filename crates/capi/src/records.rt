@@ -16,14 +16,14 @@ ghost use Rattle.allocation.specs.Change.{allocateAnswer, allocateLeft, release
 ghost use Rattle.capi.specs.Lent.{has, numberIf, leftIf};
 ghost use Rattle.capi.specs.Answers.{deviceFrom, segmentLeft, handedLeft, totalLeft, runsLeft, allocationLeft, releaseNumbers};
 use crate::lent;
-use items::Head;
-use layout::Device;
-use record::Counted;
-use record::Found;
 use allocation::Allocation;
 use allocation::FreeTotal;
 use allocation::Released;
 use allocation::RunCount;
+use items::Head;
+use layout::Device;
+use record::Counted;
+use record::Found;
 use runs::Run;
 
 // Checks a record on a device.

@@ -6,7 +6,7 @@ ghost use Rattle.capi.specs.Answers.{timeFrom};
 use crate::lent;
 use crate::plan;
 use block::Time;
-use update::Given;
+use stores::Given;
 use update::Planned;
 
 // The refusal number of an update; 0 where it is not refused.
