@@ -130,8 +130,10 @@ uint8_t amseokbin_discover(const uint8_t *front, size_t front_length, const uint
 uint8_t amseokbin_read_found(const uint8_t *front, size_t front_length, const uint8_t *back, size_t back_length,
                              uint8_t *record, size_t record_length, uint64_t *found, size_t found_length);
 
-/* Whether the two copies are in step. */
-bool amseokbin_in_step(const uint8_t *front, size_t front_length, const uint8_t *back, size_t back_length);
+/* Whether the two copies are in step, 1 or 0 (an array of one number). 1 for another array first, then 1 for a slice that has not the
+ * size of a copy; copies that are refused are not in step. */
+uint8_t amseokbin_in_step(const uint8_t *front, size_t front_length, const uint8_t *back, size_t back_length,
+                          uint64_t *step, size_t step_length);
 
 /* ---- Updates ----------------------------------------------------------------------------------------------------------- */
 

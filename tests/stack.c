@@ -61,7 +61,7 @@ static int writing_block(void) {
 }
 static int discovering(void) { return amseokbin_discover(COPIES, found, AMSEOKBIN_FOUND); }
 static int reading(void) { return amseokbin_read_found(COPIES, changed, sizeof changed, found, AMSEOKBIN_FOUND); }
-static int stepping(void) { return !amseokbin_in_step(COPIES); }
+static int stepping(void) { return amseokbin_in_step(COPIES, one, 1) || one[0] != 1; }
 static int testing(void) { return amseokbin_update_check(COPIES, 11, 0, record, length); }
 static int planning(void) { return amseokbin_update_plan(COPIES, 11, 0, record, length, update, sizeof update); }
 static int counting(void) { return amseokbin_update_count(update, sizeof update) != 34; }

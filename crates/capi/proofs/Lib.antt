@@ -2,6 +2,7 @@
 mod Told
 mod Answered
 mod Saying
+mod Stepping
 mod Fields
 mod Codec
 mod Coding

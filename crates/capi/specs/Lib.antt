@@ -2,6 +2,7 @@
 pub mod Lent
 pub mod Answers
 pub mod Words
+pub mod Copies
 pub mod Plans
 pub mod Calls
 pub mod Demand

@@ -2,12 +2,14 @@
 ghost use mathlib.Core.Path.{_≡_};
 ghost use lib.ListN.{length};
 ghost use Rattle.refusal.specs.Tests.{first};
+ghost use Rattle.search.specs.Search.{one};
 ghost use Rattle.format.specs.Format.{formatNumber, formatted};
 ghost use Rattle.stores.specs.Given.{layTests, laid};
-ghost use Rattle.discovery.specs.Discovery.{discovery, inStep, readAnswer, readBytes};
+ghost use Rattle.discovery.specs.Discovery.{discovery, sized, readAnswer, readBytes};
 ghost use Rattle.capi.specs.Lent.{has, numberIf, leftIf};
 ghost use Rattle.capi.specs.Answers.{deviceFrom, timeFrom, areaFrom, answerLeft};
 ghost use Rattle.discovery.specs.Answers.{otherNumber, answerNumber};
+ghost use Rattle.capi.specs.Copies.{stepNumber, stepLeft};
 use crate::lent;
 use crate::plan;
 use block::Time;
@@ -85,13 +87,37 @@ pub extern "C" fn amseokbin_read_found(
     tell(a, found)
 }
 
-// Whether the two copies are in step.
-#[no_mangle]
-pub extern "C" fn amseokbin_in_step(front: &[u8], back: &[u8]) -> bool
-    ensures { λ r. ⌜ r ≡ inStep (now (front .entry)) (now (back .entry)) ⌝ }
+// 1 for yes, 0 for no.
+fn flag(yes: bool) -> u64
+    ensures { λ n. ⌜ n ≡ one yes ⌝ }
 {
-    let s = discovery::examine(front, back);
-    s.step
+    if yes {
+        return 1;
+    }
+    0
+}
+
+// Whether two slices are copies by their size.
+fn are_copies(front: &[u8], back: &[u8]) -> bool
+    ensures { λ r. ⌜ r ≡ sized (now (front .entry)) (now (back .entry)) ⌝ }
+{
+    (front.len() == layout::copy_bytes()) & (back.len() == layout::copy_bytes())
+}
+
+// Whether the two copies are in step, 1 or 0 in an array of one.
+#[no_mangle]
+pub extern "C" fn amseokbin_in_step(front: &[u8], back: &[u8], step: &mut [u64]) -> u8
+    ensures { λ n. ⌜ n ≡ stepNumber (now (front .entry)) (now (back .entry)) (now (step .entry)) ⌝ }
+    ensures { λ _. ⌜ now (step .exit) ≡ stepLeft (now (front .entry)) (now (back .entry)) (now (step .entry)) ⌝ }
+{
+    let right = (step.len() == 1) & are_copies(front, back);
+    if !right {
+        return refusal::SLICE_SIZE;
+    }
+    let e = discovery::examine(front, back);
+    let v = [flag(e.step)];
+    lent::set(step, &v);
+    0
 }
 
 // Lays a record into area a of a copy in memory, or into area b.

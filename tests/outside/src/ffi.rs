@@ -62,7 +62,14 @@ extern "C" {
         found: *mut u64,
         found_length: usize,
     ) -> u8;
-    fn amseokbin_in_step(front: *const u8, front_length: usize, back: *const u8, back_length: usize) -> bool;
+    fn amseokbin_in_step(
+        front: *const u8,
+        front_length: usize,
+        back: *const u8,
+        back_length: usize,
+        step: *mut u64,
+        step_length: usize,
+    ) -> u8;
     fn amseokbin_update_check(
         front: *const u8,
         front_length: usize,
@@ -341,8 +348,8 @@ impl Interface for Library {
         }
     }
 
-    fn in_step(&self, front: &[u8], back: &[u8]) -> bool {
-        unsafe { amseokbin_in_step(start(front), front.len(), start(back), back.len()) }
+    fn in_step(&self, front: &[u8], back: &[u8], step: &mut [u64]) -> u8 {
+        unsafe { amseokbin_in_step(start(front), front.len(), start(back), back.len(), start_mut(step), step.len()) }
     }
 
     fn update_check(&self, front: &[u8], back: &[u8], seconds: u64, nanoseconds: u32, record: &[u8]) -> u8 {

@@ -60,7 +60,7 @@ pub trait Interface {
 
     fn discover(&self, front: &[u8], back: &[u8], found: &mut [u64]) -> u8;
     fn read_found(&self, front: &[u8], back: &[u8], record: &mut [u8], found: &mut [u64]) -> u8;
-    fn in_step(&self, front: &[u8], back: &[u8]) -> bool;
+    fn in_step(&self, front: &[u8], back: &[u8], step: &mut [u64]) -> u8;
 
     fn update_check(&self, front: &[u8], back: &[u8], seconds: u64, nanoseconds: u32, record: &[u8]) -> u8;
     fn update_plan(

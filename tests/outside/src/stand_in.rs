@@ -149,8 +149,10 @@ unsafe extern "C" fn amseokbin_in_step(
     front_length: usize,
     back: *const u8,
     back_length: usize,
-) -> bool {
-    Model.in_step(shared(front, front_length), shared(back, back_length))
+    step: *mut u64,
+    step_length: usize,
+) -> u8 {
+    Model.in_step(shared(front, front_length), shared(back, back_length), unique(step, step_length))
 }
 
 #[no_mangle]

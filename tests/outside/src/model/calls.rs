@@ -1,7 +1,7 @@
 //! The calls of the C interface, by the independent implementation.
 
 use super::block::{Block, Entry, Identity, Time};
-use super::discovery::{self, Found};
+use super::discovery::{self, Found, Pair};
 use super::format;
 use super::layout::{BACK, FRONT, SECTOR};
 use super::plan_bytes::{decode_mend, decode_update, encode_mend, encode_update, MEND_PLAN, UPDATE_PLAN};
@@ -118,6 +118,12 @@ fn read_found(front: &[u8], back: &[u8], record: &mut [u8], numbers: &mut [u64])
     has_room(record, found.bytes)?;
     record[..found.bytes].copy_from_slice(found.record([front, back]));
     numbers.copy_from_slice(&found_numbers(&found));
+    Ok(())
+}
+
+fn in_step(front: &[u8], back: &[u8], step: &mut [u64]) -> Done {
+    has_size(step, 1)?;
+    step[0] = u64::from(Pair::read(front, back)?.in_step());
     Ok(())
 }
 
@@ -289,8 +295,8 @@ impl Interface for Model {
         number(read_found(front, back, record, found))
     }
 
-    fn in_step(&self, front: &[u8], back: &[u8]) -> bool {
-        discovery::in_step(front, back)
+    fn in_step(&self, front: &[u8], back: &[u8], step: &mut [u64]) -> u8 {
+        number(in_step(front, back, step))
     }
 
     fn update_check(&self, front: &[u8], back: &[u8], seconds: u64, nanoseconds: u32, record: &[u8]) -> u8 {

@@ -137,8 +137,3 @@ fn found(side: usize, area: usize, block: &Block, other: Option<Refusal>) -> Fou
 pub fn discover(front: &[u8], back: &[u8]) -> Result<Found, Refusal> {
     Pair::read(front, back)?.discover()
 }
-
-/// False also for copies of another size.
-pub fn in_step(front: &[u8], back: &[u8]) -> bool {
-    Pair::read(front, back).is_ok_and(|pair| pair.in_step())
-}

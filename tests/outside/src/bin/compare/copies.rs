@@ -56,7 +56,7 @@ fn discovery(run: &mut Run, rng: &mut Rng, front: &Lent<u8>, back: &Lent<u8>) {
             });
         }
     }
-    run.both("in_step", &inputs, [], [], |api, [], []| api.in_step(front.part(), back.part()));
+    stepping(run, rng, front, back);
 
     let random = rng.index(2 * RECORD_LIMIT);
     let choices = [record_bytes, record_bytes + 1, RECORD_LIMIT, random, record_bytes.saturating_sub(1), 0];
@@ -69,6 +69,25 @@ fn discovery(run: &mut Run, rng: &mut Rng, front: &Lent<u8>, back: &Lent<u8>) {
     });
     if outcome.expected == 0 && size == FOUND && read.expected == 1 {
         run.reached("read_found, too little room");
+    }
+}
+
+/// 1 exactly where a slice has another size; else 0, and the array holds 1 or 0.
+fn stepping(run: &mut Run, rng: &mut Rng, front: &Lent<u8>, back: &Lent<u8>) {
+    let size = length(rng, 1);
+    let step = [Lent::random(rng, size)];
+    let outcome = run.both("in_step", &[front, back], [], step, |api, [], [step]| {
+        api.in_step(front.part(), back.part(), step.part_mut())
+    });
+    let copies = front.part().len() == COPY && back.part().len() == COPY;
+    let right = size == 1 && copies;
+    run.require("in_step", outcome.answer == u8::from(!right), "1 for the right sizes, or another number");
+    match outcome.library.1[0].part() {
+        [0] if right => run.reached("in_step, no"),
+        [1] if right => run.reached("in_step, yes"),
+        _ if right => run.require("in_step", false, "neither 1 nor 0 in the array"),
+        _ if size != 1 => run.reached("in_step, an array of another length"),
+        _ => run.reached("in_step, a slice that is no copy"),
     }
 }
 

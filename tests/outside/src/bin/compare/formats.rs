@@ -55,8 +55,9 @@ pub fn case(run: &mut Run, rng: &mut Rng, _: u64) {
 /// Formatted copies are in step on the record.
 fn formatted(run: &mut Run, rng: &mut Rng, front: &Lent<u8>, back: &Lent<u8>, record: &[u8]) {
     let api: &dyn Interface = &outside::ffi::Library;
-    let in_step = api.in_step(front.part(), back.part());
-    run.require("format", in_step, "formatted copies are not in step");
+    let mut step = [0];
+    let answer = api.in_step(front.part(), back.part(), &mut step);
+    run.require("format", (answer, step) == (0, [1]), "formatted copies are not in step");
     let lent = [Lent::random(rng, RECORD_LIMIT)];
     let found = [Lent::random(rng, FOUND)];
     let read = run.both("read_found", &[front, back], lent, found, |api, [record], [found]| {

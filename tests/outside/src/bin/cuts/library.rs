@@ -49,7 +49,8 @@ pub fn discover(rng: &mut Rng, disk: &Disk) -> Result<Stamped, String> {
 
 pub fn in_step(disk: &Disk) -> bool {
     let [front, back] = disk.copies();
-    Library.in_step(&front, &back)
+    let mut step = [0];
+    Library.in_step(&front, &back, &mut step) == 0 && step == [1]
 }
 
 /// The stores of an update, or its refusal number.
