@@ -114,6 +114,21 @@ enum amseokbin_place {
 /* Where a device's copies and its data range lie. 1, 4, 7, 8. */
 uint8_t amseokbin_places(uint64_t sectors, uint32_t metadata, uint32_t reserved, uint64_t *places, size_t places_length);
 
+/* ---- One copy ---------------------------------------------------------------------------------------------------------- */
+
+/* The numbers of a copy: those of its block, then whether area a is whole and whether area b is, 1 or 0, and its present record. */
+enum amseokbin_copy_number {
+    AMSEOKBIN_C_A_WHOLE = AMSEOKBIN_BLOCK_NUMBERS, AMSEOKBIN_C_B_WHOLE, AMSEOKBIN_C_PRESENT,
+    AMSEOKBIN_COPY_NUMBERS /* 14 */
+};
+
+/* The whole area with the later time, or none. */
+enum amseokbin_present { AMSEOKBIN_PRESENT_NONE = 0, AMSEOKBIN_PRESENT_A = 1, AMSEOKBIN_PRESENT_B = 2 };
+
+/* Reads one copy: its numbers, its pool's UUID and its device's. 1 to 9. */
+uint8_t amseokbin_copy_read(const uint8_t *copy, size_t copy_length, uint64_t *numbers, size_t numbers_length,
+                            uint8_t *pool, size_t pool_length, uint8_t *device, size_t device_length);
+
 /* ---- Discovery --------------------------------------------------------------------------------------------------------- */
 
 /* What was found, in this order. `other` is 0 where both copies were accepted, else the other copy's refusal number. */

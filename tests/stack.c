@@ -59,6 +59,10 @@ static int reading_block(void) {
 static int writing_block(void) {
     return amseokbin_block_write(DEVICE, 10, 5, 8188, 1, 11, 0, 8188, 2, pool, 32, device, 32, bytes, sizeof bytes);
 }
+static int reading_copy(void) {
+    return amseokbin_copy_read(front, sizeof front, numbers, AMSEOKBIN_COPY_NUMBERS, pool, 32, device, 32) ||
+           numbers[AMSEOKBIN_C_PRESENT] != AMSEOKBIN_PRESENT_A;
+}
 static int discovering(void) { return amseokbin_discover(COPIES, found, AMSEOKBIN_FOUND); }
 static int reading(void) { return amseokbin_read_found(COPIES, changed, sizeof changed, found, AMSEOKBIN_FOUND); }
 static int stepping(void) { return amseokbin_in_step(COPIES, one, 1) || one[0] != 1; }
@@ -124,6 +128,7 @@ int main(int words, char **word) {
         {"lay", laying, 0},
         {"block_read", reading_block, 0},
         {"block_write", writing_block, 0},
+        {"copy_read", reading_copy, 0},
         {"discover", discovering, 0},
         {"read_found", reading, 0},
         {"in_step", stepping, 0},

@@ -66,29 +66,34 @@ pub block-numbers : (x : BlockFields) (s : List ℕ) → length s ≡ 11 → (h 
     → (w : List ℕ) → w ≡ replaced s (numbersBy x h k) → w ≡ blockNumbers x
 block-numbers x s l h k eh ek w ew = ew ∙ (whole s (numbersBy x h k) l ∙ ap₂ (numbersBy x) eh ek)
 
--- a block's numbers and UUIDs
-module _ (b s p u : List ℕ) (t : Bool) (h : not t ≡ false) (r : Reading) (e : r ≡ reading b) (v : Verdict) (g : r .verdict ≡ v) where
-  pub block-told : (n : ℕ) (s' p' u' : List ℕ) → n ≡ verdictNumber v → s' ≡ verdictLeft v s → p' ≡ uuidLeft v (r .pool) p → u' ≡ uuidLeft v (r .blockdev) u
-      → (n ≡ numberIf t (verdictNumber (reading b .verdict)))
-      × ((s' ≡ leftIf t (verdictLeft (reading b .verdict) s) s)
-      × ((p' ≡ leftIf t (uuidLeft (reading b .verdict) (reading b .pool) p) p)
-      × (u' ≡ leftIf t (uuidLeft (reading b .verdict) (reading b .blockdev) u) u)))
-  block-told n s' p' u' en es ep eu = (
-    sized t h n _ (en ∙ (ap verdictNumber (sym g) ∙ ap (λ (z : Reading). verdictNumber (z .verdict)) e)),
+-- the number, the numbers and the UUIDs of a block, of an answer r that has a reading of it and leaves numbers by its verdict
+module _ {X : Type 0} (block : X → Reading) (left : X → Verdict → List ℕ → List ℕ) (s p u : List ℕ) (t : Bool) (h : not t ≡ false) (r a : X) (e : r ≡ a) (v : Verdict) (g : block r .verdict ≡ v) where
+  pub read-told : (n : ℕ) (s' p' u' : List ℕ) → n ≡ verdictNumber v → s' ≡ left r v s → p' ≡ uuidLeft v (block r .pool) p → u' ≡ uuidLeft v (block r .blockdev) u
+      → (n ≡ numberIf t (verdictNumber (block a .verdict)))
+      × ((s' ≡ leftIf t (left a (block a .verdict) s) s)
+      × ((p' ≡ leftIf t (uuidLeft (block a .verdict) (block a .pool) p) p)
+      × (u' ≡ leftIf t (uuidLeft (block a .verdict) (block a .blockdev) u) u)))
+  read-told n s' p' u' en es ep eu = (
+    sized t h n _ (en ∙ (ap verdictNumber (sym g) ∙ ap (λ (z : X). verdictNumber (block z .verdict)) e)),
     (
-      sized-left t h s' _ s (es ∙ (ap (λ (z : Verdict). verdictLeft z s) (sym g) ∙ ap (λ (z : Reading). verdictLeft (z .verdict) s) e)),
+      sized-left t h s' _ s (es ∙ (ap (λ (z : Verdict). left r z s) (sym g) ∙ ap (λ (z : X). left z (block z .verdict) s) e)),
       (
-        sized-left t h p' _ p (ep ∙ (ap (λ (z : Verdict). uuidLeft z (r .pool) p) (sym g) ∙ ap (λ (z : Reading). uuidLeft (z .verdict) (z .pool) p) e)),
-        sized-left t h u' _ u (eu ∙ (ap (λ (z : Verdict). uuidLeft z (r .blockdev) u) (sym g) ∙ ap (λ (z : Reading). uuidLeft (z .verdict) (z .blockdev) u) e)),
+        sized-left t h p' _ p
+            (ep ∙ (ap (λ (z : Verdict). uuidLeft z (block r .pool) p) (sym g) ∙ ap (λ (z : X). uuidLeft (block z .verdict) (block z .pool) p) e)),
+        sized-left t h u' _ u
+            (eu ∙ (ap (λ (z : Verdict). uuidLeft z (block r .blockdev) u) (sym g) ∙ ap (λ (z : X). uuidLeft (block z .verdict) (block z .blockdev) u) e)),
       ),
     ),
   )
 
 -- each UUID of a reading has 32 bytes
-abbrev Long : Reading → Type 0
+abbrev pub Long : Reading → Type 0
 Long r = (length (r .pool) ≡ 32) × (length (r .blockdev) ≡ 32)
 
-reading-long : (b : List ℕ) → Long (reading b)
+pub refused-long : (n : ℕ) → Long (refusedReading n)
+refused-long n = (length-zeros 32, length-zeros 32)
+
+pub reading-long : (b : List ℕ) → Long (reading b)
 unfolding reading
 reading-long b = go (eqb (first (readTests b)) 0) refl
   where
@@ -96,27 +101,23 @@ reading-long b = go (eqb (first (readTests b)) 0) refl
     go true e =
         let l : length b ≡ 512 = accepted-length b (eqb-true (first (readTests b)) 0 e) in
         (length-window-fits b 32 32 (omega arith), length-window-fits b 64 32 (omega arith))
-    go false e = (length-zeros 32, length-zeros 32)
+    go false e = refused-long (first (readTests b))
 
--- it fills a slice of 32 bytes
-module _ (b s p u : List ℕ) (h : not (has s 11 && (has p 32 && has u 32)) ≡ false) (r : Reading) (e : r ≡ reading b) where
-  right : has s 11 && (has p 32 && has u 32) ≡ true
+-- it fills a slice of 32 bytes; the numbers go to an array of k
+module _ (k : ℕ) (s p u : List ℕ) (h : not (has s k && (has p 32 && has u 32)) ≡ false) where
+  right : has s k && (has p 32 && has u 32) ≡ true
   right = not-false _ h
 
-  pub numbers-long : length s ≡ 11
-  numbers-long = eqb-true (length s) 11 (and-left (has s 11) _ right)
+  pub numbers-long : length s ≡ k
+  numbers-long = eqb-true (length s) k (and-left (has s k) _ right)
 
-  pub pool-filled : (w : List ℕ) → w ≡ splice p 0 (r .pool) → w ≡ r .pool
-  pool-filled w ew =
-      ew
-      ∙ splice-whole p (r .pool)
-      (ap (λ (z : Reading). length (z .pool)) e ∙ (reading-long b .0 ∙ sym (eqb-true (length p) 32 (and-left (has p 32) _ (and-right (has s 11) _ right)))))
+  pub pool-filled : (r : Reading) → Long r → (w : List ℕ) → w ≡ splice p 0 (r .pool) → w ≡ r .pool
+  pool-filled r l w ew =
+      ew ∙ splice-whole p (r .pool) (l .0 ∙ sym (eqb-true (length p) 32 (and-left (has p 32) _ (and-right (has s k) _ right))))
 
-  pub device-filled : (w : List ℕ) → w ≡ splice u 0 (r .blockdev) → w ≡ r .blockdev
-  device-filled w ew =
-      ew
-      ∙ splice-whole u (r .blockdev)
-      (ap (λ (z : Reading). length (z .blockdev)) e ∙ (reading-long b .1 ∙ sym (eqb-true (length u) 32 (and-right (has p 32) _ (and-right (has s 11) _ right)))))
+  pub device-filled : (r : Reading) → Long r → (w : List ℕ) → w ≡ splice u 0 (r .blockdev) → w ≡ r .blockdev
+  device-filled r l w ew =
+      ew ∙ splice-whole u (r .blockdev) (l .1 ∙ sym (eqb-true (length u) 32 (and-right (has p 32) _ (and-right (has s k) _ right))))
 
 -- a block written of two entries
 pub block-written : (o p u : List ℕ) (d : Device) (a b x y : Entry) → x ≡ a → y ≡ b → (n : ℕ) (w : List ℕ)

@@ -3,6 +3,7 @@ mod Told
 mod Answered
 mod Saying
 mod Stepping
+mod OneCopy
 mod Fields
 mod Codec
 mod Coding

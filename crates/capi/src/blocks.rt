@@ -18,7 +18,7 @@ use layout::Device;
 use layout::Located;
 
 // An accepted block's numbers, into an array of eleven.
-fn tell_block(x: BlockFields, numbers: &mut [u64])
+pub(super) fn tell_block(x: BlockFields, numbers: &mut [u64])
     requires { ⌜ length (now numbers) ≡ 11 ⌝ }
     ensures { λ _. ⌜ now (numbers .exit) ≡ blockNumbers x ⌝ }
 {

@@ -1,18 +1,25 @@
-// The two copies, as C has them: discovery, reading, laying, formatting.
+// The copies, as C has them: one of them read, discovery, in step, laying, formatting.
 ghost use mathlib.Core.Path.{_≡_};
+ghost use mathlib.Core.List.{_++_};
 ghost use lib.ListN.{length};
 ghost use Rattle.refusal.specs.Tests.{first};
 ghost use Rattle.search.specs.Search.{one};
+ghost use Rattle.block.specs.Answers.{blockNumbers};
 ghost use Rattle.format.specs.Format.{formatNumber, formatted};
 ghost use Rattle.stores.specs.Given.{layTests, laid};
 ghost use Rattle.discovery.specs.Discovery.{discovery, sized, readAnswer, readBytes};
 ghost use Rattle.capi.specs.Lent.{has, numberIf, leftIf};
 ghost use Rattle.capi.specs.Answers.{deviceFrom, timeFrom, areaFrom, answerLeft};
 ghost use Rattle.discovery.specs.Answers.{otherNumber, answerNumber};
-ghost use Rattle.capi.specs.Copies.{stepNumber, stepLeft};
+ghost use Rattle.capi.specs.Copies.{stepNumber, stepLeft, presentNumber, areaNumbers, copyReadNumber, copyReadNumbers, copyReadPool, copyReadDevice};
+use crate::blocks;
 use crate::lent;
 use crate::plan;
+use block::BlockFields;
 use block::Time;
+use block::Verdict;
+use copy::CopyReading;
+use copy::Present;
 use discovery::Answer;
 use discovery::Other;
 use layout::Area;
@@ -25,6 +32,73 @@ fn other_number(o: Other) -> u8
     match o {
         Other::Both(_) => 0,
         Other::One(n) => n,
+    }
+}
+
+// 1 for yes, 0 for no.
+fn flag(yes: bool) -> u64
+    ensures { λ n. ⌜ n ≡ one yes ⌝ }
+{
+    if yes {
+        return 1;
+    }
+    0
+}
+
+// C's number of a present record: 0 for none, 1 for area a, 2 for area b.
+fn present_number(p: Present) -> u64
+    ensures { λ n. ⌜ n ≡ presentNumber p ⌝ }
+{
+    match p {
+        Present::Nothing => 0,
+        Present::At(x, _) => match x {
+            Area::A => 1,
+            Area::B => 2,
+        },
+    }
+}
+
+// What reading an accepted copy says, into an array of fourteen: the numbers of its block, then of its areas.
+fn tell_copy(x: BlockFields, r: CopyReading, numbers: &mut [u64])
+    requires { ⌜ length (now numbers) ≡ 14 ⌝ }
+    ensures { λ _. ⌜ now (numbers .exit) ≡ blockNumbers x ++ areaNumbers r ⌝ }
+{
+    let p = r.present;
+    let v = [flag(r.a), flag(r.b), present_number(p)];
+    blocks::tell_block(x, &mut numbers[0..11]);
+    lent::set(&mut numbers[11..14], &v);
+}
+
+// Reads one copy: its block's numbers, its whole areas and its present record, its pool's UUID and its device's.
+#[no_mangle]
+pub extern "C" fn amseokbin_copy_read(
+    copy: &[u8],
+    numbers: &mut [u64],
+    pool: &mut [u8],
+    device: &mut [u8],
+) -> u8
+    ensures { λ n. ⌜ n ≡ copyReadNumber (now (copy .entry)) (now (numbers .entry)) (now (pool .entry)) (now (device .entry)) ⌝ }
+    ensures { λ _. ⌜ now (numbers .exit) ≡ copyReadNumbers (now (copy .entry)) (now (numbers .entry)) (now (pool .entry)) (now (device .entry)) ⌝ }
+    ensures { λ _. ⌜ now (pool .exit) ≡ copyReadPool (now (copy .entry)) (now (numbers .entry)) (now (pool .entry)) (now (device .entry)) ⌝ }
+    ensures { λ _. ⌜ now (device .exit) ≡ copyReadDevice (now (copy .entry)) (now (numbers .entry)) (now (pool .entry)) (now (device .entry)) ⌝ }
+{
+    let sized = (numbers.len() == 14) & ((pool.len() == 32) & (device.len() == 32));
+    if !sized {
+        return refusal::SLICE_SIZE;
+    }
+    let r = copy::read(copy);
+    let d = r.block;
+    let verdict = d.verdict;
+    let p = d.pool;
+    let u = d.blockdev;
+    match verdict {
+        Verdict::Refused(n) => n,
+        Verdict::Accepted(x) => {
+            tell_copy(x, r, numbers);
+            endian::put(pool, 0, &p);
+            endian::put(device, 0, &u);
+            0
+        }
     }
 }
 
@@ -85,16 +159,6 @@ pub extern "C" fn amseokbin_read_found(
     }
     let a = discovery::read_found(front, back, content);
     tell(a, found)
-}
-
-// 1 for yes, 0 for no.
-fn flag(yes: bool) -> u64
-    ensures { λ n. ⌜ n ≡ one yes ⌝ }
-{
-    if yes {
-        return 1;
-    }
-    0
 }
 
 // Whether two slices are copies by their size.

@@ -44,6 +44,16 @@ extern "C" {
         block_length: usize,
     ) -> u8;
     fn amseokbin_places(sectors: u64, metadata: u32, reserved: u32, places: *mut u64, places_length: usize) -> u8;
+    fn amseokbin_copy_read(
+        copy: *const u8,
+        copy_length: usize,
+        numbers: *mut u64,
+        numbers_length: usize,
+        pool: *mut u8,
+        pool_length: usize,
+        device: *mut u8,
+        device_length: usize,
+    ) -> u8;
     fn amseokbin_discover(
         front: *const u8,
         front_length: usize,
@@ -327,6 +337,21 @@ impl Interface for Library {
 
     fn places(&self, device: &Device, places: &mut [u64]) -> u8 {
         unsafe { amseokbin_places(device.sectors, device.metadata, device.reserved, start_mut(places), places.len()) }
+    }
+
+    fn copy_read(&self, copy: &[u8], numbers: &mut [u64], pool: &mut [u8], device: &mut [u8]) -> u8 {
+        unsafe {
+            amseokbin_copy_read(
+                start(copy),
+                copy.len(),
+                start_mut(numbers),
+                numbers.len(),
+                start_mut(pool),
+                pool.len(),
+                start_mut(device),
+                device.len(),
+            )
+        }
     }
 
     fn discover(&self, front: &[u8], back: &[u8], found: &mut [u64]) -> u8 {

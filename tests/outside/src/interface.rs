@@ -4,6 +4,7 @@
 
 pub const BLOCK_NUMBERS: usize = 11;
 pub const PLACES: usize = 12;
+pub const COPY_NUMBERS: usize = 14;
 pub const FOUND: usize = 6;
 pub const UPDATE_PLAN: usize = 148;
 pub const MEND_PLAN: usize = 204;
@@ -57,6 +58,8 @@ pub trait Interface {
     fn block_write(&self, numbers: &BlockNumbers, pool: &[u8], device: &[u8], block: &mut [u8]) -> u8;
 
     fn places(&self, device: &Device, places: &mut [u64]) -> u8;
+
+    fn copy_read(&self, copy: &[u8], numbers: &mut [u64], pool: &mut [u8], device: &mut [u8]) -> u8;
 
     fn discover(&self, front: &[u8], back: &[u8], found: &mut [u64]) -> u8;
     fn read_found(&self, front: &[u8], back: &[u8], record: &mut [u8], found: &mut [u64]) -> u8;

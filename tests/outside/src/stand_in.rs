@@ -113,6 +113,25 @@ unsafe extern "C" fn amseokbin_places(
 }
 
 #[no_mangle]
+unsafe extern "C" fn amseokbin_copy_read(
+    copy: *const u8,
+    copy_length: usize,
+    numbers: *mut u64,
+    numbers_length: usize,
+    pool: *mut u8,
+    pool_length: usize,
+    device: *mut u8,
+    device_length: usize,
+) -> u8 {
+    Model.copy_read(
+        shared(copy, copy_length),
+        unique(numbers, numbers_length),
+        unique(pool, pool_length),
+        unique(device, device_length),
+    )
+}
+
+#[no_mangle]
 unsafe extern "C" fn amseokbin_discover(
     front: *const u8,
     front_length: usize,

@@ -1,14 +1,14 @@
 //! The calls of the C interface, by the independent implementation.
 
 use super::block::{Block, Entry, Identity, Time};
-use super::discovery::{self, Found, Pair};
+use super::discovery::{self, Found, Pair, Reading};
 use super::format;
-use super::layout::{BACK, FRONT, SECTOR};
+use super::layout::{BACK, COPY, FRONT, SECTOR};
 use super::plan_bytes::{decode_mend, decode_update, encode_mend, encode_update, MEND_PLAN, UPDATE_PLAN};
 use super::record::{self, check, check_length, HEAD_BYTES, SEGMENT_BYTES};
 use super::refusal::{self, require, Refusal};
 use super::{crc, mend, room, update};
-use crate::interface::{BlockNumbers, Device, FreeRun, Interface, BLOCK_NUMBERS, FOUND, PLACES};
+use crate::interface::{BlockNumbers, Device, FreeRun, Interface, BLOCK_NUMBERS, COPY_NUMBERS, FOUND, PLACES};
 
 /// The independent implementation.
 pub struct Model;
@@ -105,6 +105,21 @@ fn places(device: &Device, places: &mut [u64]) -> Done {
     Ok(())
 }
 
+fn copy_read(copy: &[u8], numbers: &mut [u64], pool: &mut [u8], device: &mut [u8]) -> Done {
+    has_size(numbers, COPY_NUMBERS)?;
+    has_size(pool, 32)?;
+    has_size(device, 32)?;
+    has_size(copy, COPY)?;
+    let Reading { block, present } = discovery::read_copy(copy)?;
+    let whole = [0, 1].map(|area| u64::from(discovery::is_whole(copy, area, &block.entries[area])));
+    let (of_block, of_areas) = numbers.split_at_mut(BLOCK_NUMBERS);
+    of_block.copy_from_slice(&block_numbers(&block));
+    of_areas.copy_from_slice(&[whole[0], whole[1], present.map_or(0, |area| area as u64 + 1)]);
+    pool.copy_from_slice(&block.identity.pool_uuid);
+    device.copy_from_slice(&block.identity.device_uuid);
+    Ok(())
+}
+
 fn discover(front: &[u8], back: &[u8], numbers: &mut [u64]) -> Done {
     has_size(numbers, FOUND)?;
     let found = discovery::discover(front, back)?;
@@ -143,8 +158,8 @@ fn update_store(
 ) -> Done {
     has_size(plan, UPDATE_PLAN)?;
     has_size(sector, 1)?;
-    has_size(copies[0], super::layout::COPY)?;
-    has_size(copies[1], super::layout::COPY)?;
+    has_size(copies[0], COPY)?;
+    has_size(copies[1], COPY)?;
     let bytes = bytes.try_into().map_err(|_| Refusal::SliceSize)?;
     check_length(record)?;
     let plan = decode_update(plan).ok_or(Refusal::NoStore)?;
@@ -162,8 +177,8 @@ fn mend_plan(front: &[u8], back: &[u8], plan: &mut [u8]) -> Done {
 fn mend_store(plan: &[u8], copies: [&[u8]; 2], number: u64, bytes: &mut [u8], sector: &mut [u64]) -> Done {
     has_size(plan, MEND_PLAN)?;
     has_size(sector, 1)?;
-    has_size(copies[0], super::layout::COPY)?;
-    has_size(copies[1], super::layout::COPY)?;
+    has_size(copies[0], COPY)?;
+    has_size(copies[1], COPY)?;
     let bytes = bytes.try_into().map_err(|_| Refusal::SliceSize)?;
     sector[0] = decode_mend(plan).store(copies, number, bytes).ok_or(Refusal::NoStore)?;
     Ok(())
@@ -285,6 +300,10 @@ impl Interface for Model {
 
     fn places(&self, device: &Device, answer: &mut [u64]) -> u8 {
         number(places(device, answer))
+    }
+
+    fn copy_read(&self, copy: &[u8], numbers: &mut [u64], pool: &mut [u8], device: &mut [u8]) -> u8 {
+        number(copy_read(copy, numbers, pool, device))
     }
 
     fn discover(&self, front: &[u8], back: &[u8], found: &mut [u64]) -> u8 {

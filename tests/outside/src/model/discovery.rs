@@ -59,7 +59,8 @@ fn present(copy: &[u8], block: &Block) -> Option<usize> {
     in_turn.into_iter().find(|&area| is_whole(copy, area, &block.entries[area]))
 }
 
-fn read_copy(copy: &[u8]) -> Result<Reading, Refusal> {
+/// 2 to 9, of a copy that has its size.
+pub fn read_copy(copy: &[u8]) -> Result<Reading, Refusal> {
     let block = Block::read(block_of(copy))?;
     Ok(Reading { block, present: present(copy, &block) })
 }

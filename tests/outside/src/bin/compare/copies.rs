@@ -1,4 +1,4 @@
-//! Discovery, reading, in step, and mending, on two copies in any state.
+//! Each copy read alone, discovery, reading, in step, and mending, on two copies in any state.
 
 use outside::ffi::Library;
 use outside::interface::{Interface, FOUND, MEND_PLAN};
@@ -9,6 +9,7 @@ use outside::sample::copies::{any_pair, damage_pair, in_step, payload};
 use outside::sample::numbers::{identity, time, wrong_length};
 
 use crate::blocks::length;
+use crate::readings::readings;
 use crate::run::Run;
 
 pub fn case(run: &mut Run, rng: &mut Rng, _: u64) {
@@ -24,6 +25,7 @@ pub fn case(run: &mut Run, rng: &mut Rng, _: u64) {
         any_pair(rng).1
     };
     let [front, back] = lend(rng, copies);
+    readings(run, rng, &front, &back);
     discovery(run, rng, &front, &back);
     mend(run, rng, &front, &back);
 }

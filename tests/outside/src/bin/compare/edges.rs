@@ -4,7 +4,7 @@ use std::cell::RefCell;
 
 use outside::ffi::Library;
 use outside::guard::Guarded;
-use outside::interface::{as_runs, Interface, BLOCK_NUMBERS, FOUND, MEND_PLAN, PLACES, UPDATE_PLAN};
+use outside::interface::{as_runs, Interface, BLOCK_NUMBERS, COPY_NUMBERS, FOUND, MEND_PLAN, PLACES, UPDATE_PLAN};
 use outside::model::layout::{COPY, RECORD_LIMIT, SECTOR};
 use outside::model::refusal;
 use outside::model::Model;
@@ -112,6 +112,11 @@ fn copies(run: &mut Run, rng: &mut Rng, room: &mut Room) {
     let (_, [front, back]) = any_pair(rng);
     let [in_a, in_b, _] = &mut room.inputs;
     let (held_front, held_back) = (&*in_a.hold(&front, end), &*in_b.hold(&back, end));
+    let (mut pool, mut device, mut numbers) = (zeros(rng, 32), zeros(rng, 32), zeros(rng, COPY_NUMBERS));
+    let [out_a, out_b] = &mut room.outputs;
+    let held_numbers = room.numbers[0].hold(&numbers, end);
+    let library = Library.copy_read(held_front, held_numbers, out_a.hold(&pool, end), out_b.hold(&device, end));
+    same(run, "copy_read", library, Model.copy_read(&front, &mut numbers, &mut pool, &mut device));
     let mut found = zeros(rng, FOUND);
     let library = Library.discover(held_front, held_back, room.numbers[0].hold(&found, end));
     same(run, "discover", library, Model.discover(&front, &back, &mut found));

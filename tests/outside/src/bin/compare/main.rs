@@ -12,6 +12,7 @@ mod edges;
 mod examples;
 mod expected;
 mod formats;
+mod readings;
 mod records;
 mod run;
 mod segments;
