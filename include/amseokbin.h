@@ -15,7 +15,7 @@
  *
  * A copy is 20,480 bytes: the 8 sectors of a header, the first 16 sectors of area a, the first 16 of area b, read from the
  * places that amseokbin_places gives. A sector is 512 bytes. A record has 1 to 8,192 bytes. UUIDs are 32 bytes of ASCII hex.
- * Device numbers: sectors of the device, of a metadata area, of the reserved space (S, L, R).
+ * Device numbers: sectors of the device, of the two metadata areas of a copy together, of the reserved space (S, L, R).
  */
 #ifndef AMSEOKBIN_H
 #define AMSEOKBIN_H
