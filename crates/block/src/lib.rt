@@ -97,7 +97,8 @@ fn entry_allowed(e: Entry) -> bool
 {
     match e {
         Entry::Unused => true,
-        Entry::Used(h) => layout::length_allowed(h.bytes as u64) & (h.nanoseconds <= layout::MOST_NANOSECONDS),
+        Entry::Used(h) => layout::length_allowed(h.bytes as u64)
+            & (h.nanoseconds <= layout::MOST_NANOSECONDS),
     }
 }
 

@@ -6,12 +6,12 @@ use crate::facts;
 use crate::picture;
 use crate::say::print;
 use crate::sentences;
-use block::Reading;
-use discovery::Answer;
-use discovery::Other;
-use discovery::Finding;
 use allocation::FreeTotal;
 use allocation::RunCount;
+use block::Reading;
+use discovery::Answer;
+use discovery::Finding;
+use discovery::Other;
 use runs::Run;
 use text::Text;
 

@@ -9,8 +9,8 @@ use block::BlockFields;
 use block::Entry;
 use block::Verdict;
 use mend::Mending;
-use text::Text;
 use stores::Given;
+use text::Text;
 use update::Plan;
 
 // The most stores that an update or a mend has, and the bytes of the list of them: for each store its sector's number, then

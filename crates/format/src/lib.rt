@@ -76,7 +76,12 @@ fn fill(c: &mut [u8], pool: &[u8], blockdev: &[u8], x: BlockFields, r: &[u8])
     ensures { λ _. ⌜ now (c .exit) ≡ filled (now (pool .entry)) (now (blockdev .entry)) x (now (r .entry)) ⌝ }
 {
     endian::clear(c);
-    block::write(&mut c[layout::BLOCK_OFFSET..layout::BLOCK_END], pool, blockdev, x);
+    block::write(
+        &mut c[layout::BLOCK_OFFSET..layout::BLOCK_END],
+        pool,
+        blockdev,
+        x,
+    );
     stores::lay(c, Area::A, r);
 }
 

@@ -42,7 +42,11 @@ fn header_sector(side: Side, d: Device) -> u64
 {
     match side {
         Side::Front => 0,
-        Side::Back => if d.sectors < layout::HEADER_SECTORS { 0 } else { d.sectors - layout::HEADER_SECTORS },
+        Side::Back => if d.sectors < layout::HEADER_SECTORS {
+            0
+        } else {
+            d.sectors - layout::HEADER_SECTORS
+        },
     }
 }
 

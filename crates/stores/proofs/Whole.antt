@@ -86,8 +86,7 @@ presents-newest c z ok wh t r p =
     holds-presents (holds-newest c (eqb-true (length c) copyBytes z) ok wh) z (timeOf (heldIn c)) refl in
     let e : At (k .area) (k .held) ≡ At (p .area) (p .held) = sym (k .is) ∙ p .is in
     let a : k .area ≡ p .area = at-same (k .area) (p .area) (k .held) (p .held) e .0 in
-    let h : k .held ≡ p .held = at-same (k .area) (p .area) (k .held) (p .held) e .1 in
-    (
+    let h : k .held ≡ p .held = at-same (k .area) (p .area) (k .held) (p .held) e .1 in (
       sym (k .time) ∙ (ap timeOf h ∙ p .time),
       sym (k .bytes) ∙ (ap₂ (λ (y : Area) (w : Holding). areaBytes c y (w .bytes)) a h ∙ p .bytes),
     )

@@ -368,8 +368,7 @@ module _ (v : Device) (d : Sectors) (u : Time) (q : List ℕ) (t : Time) (r : Li
     at-end : (g : ℕ) → 4 ≤ g → Known (starting k g) (starting k (suc g)) → Cut (storeIn groups) (starting k g) (starting k (suc g)) d e → IsNew Front e × Ready v e t r
     at-end (suc (suc (suc (suc g)))) h x c =
         let a : starting k (suc (suc (suc (suc g)))) ≡ all = past g in
-        let b : starting k (suc (suc (suc (suc (suc g))))) ≡ all = past (suc g) in
-        (
+        let b : starting k (suc (suc (suc (suc (suc g))))) ≡ all = past (suc g) in (
           stands e (starting k (suc (suc (suc (suc g))))) (starting k (suc (suc (suc (suc (suc g)))))) x (omega arith) (omega arith) c (omega arith),
           made-ready v e (c .sound) (front e (starting k (suc (suc (suc (suc g))))) (starting k (suc (suc (suc (suc (suc g)))))) x (omega arith) (omega arith) c (omega arith))
               (after-last e (starting k (suc (suc (suc (suc g))))) (starting k (suc (suc (suc (suc (suc g)))))) x (omega arith) (omega arith) c (omega arith) (omega arith)) (changed-device Front) (changed-device Back) t refl refl,

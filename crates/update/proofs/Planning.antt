@@ -94,7 +94,7 @@ decide-number (Verdict.Accepted x) (Verdict.Accepted y) u p q f b =
 
 discovery-number : (f b : List ℕ) → Nonzero (discovery f b)
 unfolding discovery
-discovery-number f b = either (sized f b) (decideOf (copyReading f) (copyReading b) f b) (Refused 1) 
+discovery-number f b = either (sized f b) (decideOf (copyReading f) (copyReading b) f b) (Refused 1)
     (decide-number (copyReading f .block .verdict) (copyReading b .block .verdict) (sameUuids (copyReading f .block) (copyReading b .block)) (copyReading f .present) (copyReading b .present) f b) (above 1 (lit< tt))
 
 tests-numbered : (b : Bool) (v : Device) (old t : Time) (r : List ℕ) → Numbered (testsAfter b v old t r)

@@ -14,7 +14,7 @@ copy-bytes-requires : tie.Need-copy-bytes-requires
 copy-bytes-requires c κs = search needs
 
 returns : tie.Need-returns
-returns c = 
+returns c =
     block-unsized (c .before .before .before .before .args .at) (c .before .before .before .before .args .g) (c .before .before .before .before .args .c .now) (c .before .before .before .before .args .out .now)
     (sym (ap (λ (n : ℕ). eqb (length (c .before .before .before .before .args .c .now)) n) (c .before .copy-bytes .ensures)) ∙ not-true _ (c .if1 .taken))
 

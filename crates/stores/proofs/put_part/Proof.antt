@@ -33,11 +33,10 @@ same-length : tie.Need-same-length
 same-length c = search needs
 
 returns-4 : tie.Need-returns-4
-returns-4 c = 
-    (
-      c .before .before .part-store .ensures .0 ∙ part-tested (c .before .before .before .before .before .before .before .before .before .before .before .before .args .p) (c .before .before .before .before .before .before .before .before .before .before .before .before .args .k) (c .before .before .before .before .before .before .before .before .before .before .before .before .args .c .now) (c .before .before .before .before .before .before .before .before .before .before .before .before .args .r .now) (c .before .before .before .before .before .before .before .before .before .before .before .before .args .j) (c .before .before .before .before .before .before .before .before .before .before .before .before .args .out .now) (sym (ap (λ (n : ℕ). eqb (length (c .before .before .before .before .before .before .before .before .before .before .before .before .args .c .now)) n && eqb (length (c .before .before .before .before .before .before .before .before .before .before .before .before .args .out .now)) 512) (c .before .before .before .before .before .before .before .before .copy-bytes .ensures)) ∙ not-false _ (c .before .before .before .before .before .before .before .if1 .left)) (sym (c .before .before .before .before .before .before .length-allowed .ensures) ∙ not-false _ (c .before .before .before .before .before .if2 .left)) (omega (arith, c .before .before .before .before .if3 .left)) .0,
-      c .before .before .part-store .ensures .1 ∙ part-tested (c .before .before .before .before .before .before .before .before .before .before .before .before .args .p) (c .before .before .before .before .before .before .before .before .before .before .before .before .args .k) (c .before .before .before .before .before .before .before .before .before .before .before .before .args .c .now) (c .before .before .before .before .before .before .before .before .before .before .before .before .args .r .now) (c .before .before .before .before .before .before .before .before .before .before .before .before .args .j) (c .before .before .before .before .before .before .before .before .before .before .before .before .args .out .now) (sym (ap (λ (n : ℕ). eqb (length (c .before .before .before .before .before .before .before .before .before .before .before .before .args .c .now)) n && eqb (length (c .before .before .before .before .before .before .before .before .before .before .before .before .args .out .now)) 512) (c .before .before .before .before .before .before .before .before .copy-bytes .ensures)) ∙ not-false _ (c .before .before .before .before .before .before .before .if1 .left)) (sym (c .before .before .before .before .before .before .length-allowed .ensures) ∙ not-false _ (c .before .before .before .before .before .if2 .left)) (omega (arith, c .before .before .before .before .if3 .left)) .1,
-    )
+returns-4 c = (
+  c .before .before .part-store .ensures .0 ∙ part-tested (c .before .before .before .before .before .before .before .before .before .before .before .before .args .p) (c .before .before .before .before .before .before .before .before .before .before .before .before .args .k) (c .before .before .before .before .before .before .before .before .before .before .before .before .args .c .now) (c .before .before .before .before .before .before .before .before .before .before .before .before .args .r .now) (c .before .before .before .before .before .before .before .before .before .before .before .before .args .j) (c .before .before .before .before .before .before .before .before .before .before .before .before .args .out .now) (sym (ap (λ (n : ℕ). eqb (length (c .before .before .before .before .before .before .before .before .before .before .before .before .args .c .now)) n && eqb (length (c .before .before .before .before .before .before .before .before .before .before .before .before .args .out .now)) 512) (c .before .before .before .before .before .before .before .before .copy-bytes .ensures)) ∙ not-false _ (c .before .before .before .before .before .before .before .if1 .left)) (sym (c .before .before .before .before .before .before .length-allowed .ensures) ∙ not-false _ (c .before .before .before .before .before .if2 .left)) (omega (arith, c .before .before .before .before .if3 .left)) .0,
+  c .before .before .part-store .ensures .1 ∙ part-tested (c .before .before .before .before .before .before .before .before .before .before .before .before .args .p) (c .before .before .before .before .before .before .before .before .before .before .before .before .args .k) (c .before .before .before .before .before .before .before .before .before .before .before .before .args .c .now) (c .before .before .before .before .before .before .before .before .before .before .before .before .args .r .now) (c .before .before .before .before .before .before .before .before .before .before .before .before .args .j) (c .before .before .before .before .before .before .before .before .before .before .before .before .args .out .now) (sym (ap (λ (n : ℕ). eqb (length (c .before .before .before .before .before .before .before .before .before .before .before .before .args .c .now)) n && eqb (length (c .before .before .before .before .before .before .before .before .before .before .before .before .args .out .now)) 512) (c .before .before .before .before .before .before .before .before .copy-bytes .ensures)) ∙ not-false _ (c .before .before .before .before .before .before .before .if1 .left)) (sym (c .before .before .before .before .before .before .length-allowed .ensures) ∙ not-false _ (c .before .before .before .before .before .if2 .left)) (omega (arith, c .before .before .before .before .if3 .left)) .1,
+)
 
 pub put-part-spec : {M : Type 1} → statement M
 put-part-spec =

@@ -29,7 +29,7 @@ returns : tie.Need-returns
 returns c = number-refused (c .before .before .before .before .before .before .before .args .f .now) (c .before .before .before .before .before .before .before .args .b .now) (c .before .before .before .before .before .before .before .args .t) (c .before .before .before .before .before .before .before .args .r .now) _ (ap (λ (v : Examined). v .answer) (c .before .before .before .examine .ensures)) _ (c .before .a .given .1)
 
 returns-2 : tie.Need-returns-2
-returns-2 c = 
+returns-2 c =
     number-found (c .before .before .before .before .before .before .before .before .before .before .args .f .now) (c .before .before .before .before .before .before .before .before .before .before .args .b .now) (c .before .before .before .before .before .before .before .before .before .before .args .t) (c .before .before .before .before .before .before .before .before .before .before .args .r .now) _ (ap (λ (v : Examined). v .answer) (c .before .before .before .before .before .before .examine .ensures)) _ _ (c .before .before .before .before .a2 .given .1) _
     (c .check-after .ensures
     ∙ ap₂ (λ (s : Bool) (z : Time). first (testsAfter s (c .before .before .before .before .a2 .given .0 .0 .fields .device) z (c .before .before .before .before .before .before .before .before .before .before .args .t) (c .before .before .before .before .before .before .before .before .before .before .args .r .now)))

@@ -22,7 +22,7 @@ side-part-requires-2 : tie.Need-side-part-requires-2
 side-part-requires-2 c κs = search needs
 
 returns : tie.Need-returns
-returns c = 
+returns c =
     plan-made (c .before .before .before .before .before .args .x) (c .before .before .before .before .before .args .y) (c .before .before .before .before .before .args .t) (c .before .before .before .before .before .args .r .now) _ _ (c .before .before .before .checksum .ensures) (c .before .before .sectors .ensures) _ _ (c .before .side-part .ensures) (c .side-part2 .ensures)
 
 pub plan-for-spec : {M : Type 1} → statement M

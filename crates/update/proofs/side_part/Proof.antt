@@ -20,7 +20,7 @@ block-sector-requires : tie.Need-block-sector-requires
 block-sector-requires c κs = search needs
 
 returns : tie.Need-returns
-returns c = 
+returns c =
     part-made (c .before .before .before .before .before .args .w) (c .before .before .before .before .before .args .d) (c .before .before .before .before .before .args .x) (c .before .before .before .before .before .args .h) _ _ _ _ _ (c .before .before .before .before .newest .ensures) (c .before .before .before .other-area .ensures) (c .before .before .with-entry .ensures) (c .before .area-sector .ensures) (c .block-sector .ensures)
 
 pub side-part-spec : {M : Type 1} → statement M

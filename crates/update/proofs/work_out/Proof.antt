@@ -22,7 +22,7 @@ returns : tie.Need-returns
 returns c = plan-refused (c .before .before .before .before .before .before .before .args .f .now) (c .before .before .before .before .before .before .before .args .b .now) (c .before .before .before .before .before .before .before .args .t) (c .before .before .before .before .before .before .before .args .r .now) _ (sym (ap (λ (v : Examined). v .answer) (c .before .before .before .examine .ensures)) ∙ c .before .a .given .1)
 
 returns-2 : tie.Need-returns-2
-returns-2 c = 
+returns-2 c =
     c .plan-found .ensures
     ∙ plan-found (c .before .before .before .before .before .before .before .before .args .f .now) (c .before .before .before .before .before .before .before .before .args .b .now) (c .before .before .before .before .before .before .before .before .args .t) (c .before .before .before .before .before .before .before .before .args .r .now) _ _ _ (sym (ap (λ (v : Examined). v .answer) (c .before .before .before .before .examine .ensures)) ∙ c .before .before .a2 .given .1)
     (ap (λ (v : Examined). v .step) (c .before .before .before .before .examine .ensures))
