@@ -77,7 +77,7 @@ newer Unused d = false
 newer (Used h) Unused = true
 newer (Used h) (Used k) = laterThan (timeOf h) (timeOf k)
 
--- the area of the used entry with the later time
+-- the area of the used entry with the later time; a where none is used
 unfoldable pub newest : BlockFields → Area
 newest f = cond (newer (f .b) (f .a)) B A
 
@@ -113,13 +113,14 @@ abbrev pub presentFor : List ℕ → Verdict → Present
 presentFor c (Accepted f) = present c f
 presentFor c (Refused n) = Nothing
 
--- the present record is that of the entry with the later time, which is then whole
+-- two areas are the same
 abbrev pub sameArea : Area → Area → Bool
 sameArea A A = true
 sameArea A B = false
 sameArea B A = false
 sameArea B B = true
 
+-- the present record is that of the entry with the later time, which is then whole
 abbrev pub current : BlockFields → Present → Bool
 current f Nothing = false
 current f (At x h) = sameArea x (newest f)

@@ -20,7 +20,7 @@ Sectors = ℕ → List ℕ
 pub record Sound (d : Sectors) : Type 0 where
   pub size : (n : ℕ) → length (d n) ≡ sectorBytes
 
--- document 01's 'store': a device sector number and 512 bytes
+-- document 01's 'store': a device sector number and bytes, of which there are 512 where it fits a device (`stores`, `Fits`)
 pub record Store : Type 0 where
   pub sector : ℕ
   pub content : List ℕ

@@ -21,7 +21,7 @@ use Rattle.record.specs.Demand.{RightBytes}
 use Rattle.record.proofs.Right.{right-content}
 use Rattle.copy.specs.Copy.{isCopy, deviceIn}
 use Rattle.discovery.specs.Discovery.{sized, inStep, copyOn}
-use Rattle.crash.specs.Crash.{copyFrom}
+use Rattle.crash.specs.Crash.{Sectors, Sound, copyFrom}
 use Rattle.stores.specs.States.{Presents, Ready}
 use Rattle.stores.proofs.Places.{sizes-allowed}
 use Rattle.format.specs.Format.{formatTests, formatNumber, formattedCopy}
@@ -40,23 +40,19 @@ module _ {f b : List ℕ} {v : Device} {p u : List ℕ} {t : Time} {r : List ℕ
   abbrev c : List ℕ
   c = formattedCopy v p u t r
 
-  on : (s : Side) → copyFrom s v (onDevice v c c) ≡ c
-  on Front = its-copy v (sizes-allowed v (k .size) (k .metadata)) c c (length-formatted k) (length-formatted k) Front
-  on Back = its-copy v (sizes-allowed v (k .size) (k .metadata)) c c (length-formatted k) (length-formatted k) Back
-
   presented : (s : Side) → Presents c t r
   presented Front = format-in-step k ts vs .1 Front
   presented Back = format-in-step k ts vs .1 Back
 
-  pub ready : Ready v (onDevice v c c) t r
-  ready =
+  pub ready : (d : Sectors) → Sound d → ((s : Side) → copyFrom s v d ≡ c) → Ready v d t r
+  ready d sd on =
       record {
-        sound = sound-device v (sizes-allowed v (k .size) (k .metadata)) c c (length-formatted k) (length-formatted k);
+        sound = sd;
         says = λ s. ap deviceIn (on s) ∙ format-device k ts vs;
         in-step = (ap₂ inStep (on Front) (on Back) ∙ format-in-step k ts vs .0, there);
       }
     where
-      there : (s : Side) → Presents (copyOn s (copyFrom Front v (onDevice v c c)) (copyFrom Back v (onDevice v c c))) t r
+      there : (s : Side) → Presents (copyOn s (copyFrom Front v d) (copyFrom Back v d)) t r
       there Front = subst (λ (z : List ℕ). Presents z t r) (sym (on Front)) (presented Front)
       there Back = subst (λ (z : List ℕ). Presents z t r) (sym (on Back)) (presented Back)
 
@@ -84,7 +80,16 @@ right-taken v t r a vs ns right =
 
 pub possible : Possible
 possible v t r e vs ts ns right =
-    let a : AllHold (deviceTests v) = first-zero 0 (deviceTests v) (lit< tt, (lit< tt, (lit< tt, tt))) e in (
+    let a : AllHold (deviceTests v) = first-zero 0 (deviceTests v) (lit< tt, (lit< tt, (lit< tt, tt))) e in
+    let z : formatNumber (zeros copyBytes) (zeros copyBytes) v zeroUuid zeroUuid t r ≡ 0 = right-taken v t r a vs ns right in
+    let n : length (formattedCopy v zeroUuid zeroUuid t r) ≡ copyBytes = length-formatted (taken (zeros copyBytes) (zeros copyBytes) v zeroUuid zeroUuid t r z) in (
       onDevice v (formattedCopy v zeroUuid zeroUuid t r) (formattedCopy v zeroUuid zeroUuid t r),
-      starting (zeros copyBytes) (zeros copyBytes) v zeroUuid zeroUuid t r ts vs (right-taken v t r a vs ns right),
+      starting (zeros copyBytes) (zeros copyBytes) v zeroUuid zeroUuid t r ts vs z
+          (onDevice v (formattedCopy v zeroUuid zeroUuid t r) (formattedCopy v zeroUuid zeroUuid t r))
+          (placing v (formattedCopy v zeroUuid zeroUuid t r) (formattedCopy v zeroUuid zeroUuid t r) e n n .0)
+          (both (formattedCopy v zeroUuid zeroUuid t r) (placing v (formattedCopy v zeroUuid zeroUuid t r) (formattedCopy v zeroUuid zeroUuid t r) e n n .1)),
     )
+  where
+    both : (c : List ℕ) → ((s : Side) → copyFrom s v (onDevice v c c) ≡ copyOn s c c) → (s : Side) → copyFrom s v (onDevice v c c) ≡ c
+    both c h Front = h Front
+    both c h Back = h Back

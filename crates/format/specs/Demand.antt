@@ -53,12 +53,12 @@ Placing =
     (v : Device) (f b : List ℕ) → first (deviceTests v) ≡ 0 → length f ≡ copyBytes → length b ≡ copyBytes
     → Sound (onDevice v f b) × ((s : Side) → copyFrom s v (onDevice v f b) ≡ copyOn s f b)
 
--- Demand 3 speaks of something: a device with formatted copies is one that every update may start from.
+-- Demand 3 speaks of something: a device that has the formatted copies where S and L place them is one that every update may start from.
 abbrev pub Starting : Type 0
 Starting =
     (f b : List ℕ) (v : Device) (p u : List ℕ) (t : Time) (r : List ℕ) → t .seconds < 2 ^ 64 → v .sectors < 2 ^ 64
     → formatNumber f b v p u t r ≡ 0
-    → Ready v (onDevice v (formattedCopy v p u t r) (formattedCopy v p u t r)) t r
+    → (d : Sectors) → Sound d → ((s : Side) → copyFrom s v d ≡ formattedCopy v p u t r) → Ready v d t r
 
 -- And there is such a device for any allowed device numbers, with any time and any record that is right there.
 abbrev pub Possible : Type 0

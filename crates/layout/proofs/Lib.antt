@@ -1,2 +1,3 @@
 -- The laws that callers cite.
 pub mod Laws
+pub mod Demand

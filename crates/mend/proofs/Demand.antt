@@ -21,25 +21,27 @@ use Rattle.block.specs.Entry.{timeOf}
 use Rattle.block.specs.Block.{poolOf, blockdevOf, fieldsOf}
 use Rattle.discovery.specs.declared.Finding.{Finding}
 use Rattle.discovery.specs.declared.Answer.{Answer}
+use Rattle.discovery.specs.declared.Answer.the-variants.{Found}
 use Rattle.copy.specs.Copy.{deviceIn, blockIn, otherSide, newest}
 use Rattle.discovery.specs.Discovery.{findingOf, inStep, copyOn, recordBytes}
 use Rattle.discovery.specs.Newest.{timeAt}
 use Rattle.discovery.proofs.Latest.{found-same}
 use Rattle.crash.specs.Crash.{Sectors, Sound, Store, Groups, stores, storeIn, landed, allLanded, areaSectors, copyFrom}
 use Rattle.stores.specs.Stores.{sectorsOf}
-use Rattle.stores.specs.States.{Ready, Answered, Fits, AllFit}
+use Rattle.stores.specs.States.{Gives, Ready, Answered, Fits, AllFit}
 use Rattle.stores.proofs.Holding.{heldIn, recordIn, Holds}
 use Rattle.stores.proofs.Blocks.{device-kept}
 use Rattle.stores.proofs.InStep.{Stepped, in-step-facts}
+use Rattle.stores.proofs.Discovering.{gives}
 use Rattle.stores.proofs.States.{stepped-found, made-ready}
 use Rattle.stores.proofs.Padding.{sectors-few, sectors-within, length-sector}
 use Rattle.stores.proofs.OneCopy.{stepped-held}
 use Rattle.stores.proofs.Places.{Sizes, sizes-accepted, area-below, block-below}
 use Rattle.mend.specs.Mend.{refilled, laterWhole, rewriting, groupsAfter, mendGroups}
-use Rattle.mend.specs.Demand.{after, Mended, Goes, Touching}
-use Rattle.mend.proofs.Kept.{Kept, kept-small, held, kept, found-time, found-long}
+use Rattle.mend.specs.Demand.{after, Serving, Mended, Counts, Counting, Goes, Touching}
+use Rattle.mend.proofs.Kept.{Kept, kept-small, held, kept, found-is, found-time, found-long}
 use Rattle.mend.proofs.Blocks.{right-empty, right-filled, right-blank, like-size}
-use Rattle.mend.proofs.Stores.{by-store}
+use Rattle.mend.proofs.Stores.{by-store, count-whole, count-blank}
 use Rattle.mend.proofs.Landing.{first-at, sector-at, second-at, last-at, end-sound, other-holds, kept-whole, kept-blank}
 
 -- the copy of a side
@@ -144,6 +146,23 @@ module _ (v : Device) (d : Sectors) (t : Time) (r₀ : List ℕ) (s : Answered v
       subst (λ (u : Time). Ready v (after v d) u r₀) its-time
       (subst (λ (z : List ℕ). Ready v (after v d) (timeAt q) z) its-record (subst (λ (g : Groups). Ready v (allLanded g d) (timeAt q) r) (sym groups) (done (inStep f b) refl)))
 
+  -- how many stores
+  chosen : (u : Bool) → inStep f b ≡ u → mendGroups f b ≡ cond u [] (rewriting (q .side) c (q .area) r)
+  chosen u e = groups ∙ ap (λ (z : Bool). cond z [] (rewriting (q .side) c (q .area) r)) e
+
+  counts : Counts v d t r₀ q
+  counts =
+      record {
+        in-step = λ e.
+            (chosen true e, subst (λ (w : Time). Ready v d w r₀) its-time (subst (λ (z : List ℕ). Ready v d (timeAt q) z) its-record (untouched e)));
+        whole = λ e h.
+            ap (λ (g : Groups). length (stores g)) (chosen false e)
+            ∙ (count-whole (q .side) c (q .area) r h ∙ ap (λ (z : List ℕ). sectorsOf (length z) + 2) its-record);
+        torn = λ e h.
+            ap (λ (g : Groups). length (stores g)) (chosen false e)
+            ∙ (count-blank (q .side) c (q .area) r h ∙ ap (λ (z : List ℕ). sectorsOf (length z) + 3) its-record);
+      }
+
   sectors : sectorsOf (q .bytes) ≡ sectorsOf (length r)
   sectors = ap sectorsOf (found-long f b q (s .gives .other) (s .gives .answers))
 
@@ -192,6 +211,24 @@ module _ (v : Device) (d : Sectors) (t : Time) (r₀ : List ℕ) (s : Answered v
 
   all-fit : AllFit v (mendGroups f b)
   all-fit = subst (λ (g : Groups). (i : ℕ) → i < length (stores g) → Fits v (storeIn g i)) (sym groups) (fit-step (inStep f b))
+
+pub serving : Serving
+serving v d q o sd e says =
+    record {
+      sound = sd;
+      gives = given;
+      says = ap (λ (z : Finding). deviceIn (copyFrom (z .side) v d)) (found-same q o (given .found) (given .other) (sym (given .answers) ∙ e)) ∙ says;
+    }
+  where
+    given : Gives (copyFrom Front v d) (copyFrom Back v d) (timeAt q) (recordBytes q (copyFrom Front v d) (copyFrom Back v d))
+    given =
+        gives (copyFrom Front v d) (copyFrom Back v d) (q .side) (q .fields) (q .area) (held (copyFrom Front v d) (copyFrom Back v d) q o e) o (timeAt q) _
+        (e ∙ ap (λ (z : Finding). Found z o) (found-is (copyFrom Front v d) (copyFrom Back v d) q o e))
+        (kept (copyFrom Front v d) (copyFrom Back v d) q o e .bytes) (kept (copyFrom Front v d) (copyFrom Back v d) q o e .long)
+        (sym (found-time (copyFrom Front v d) (copyFrom Back v d) q o e))
+
+pub counting : Counting
+counting v d t r s = counts v d t r s
 
 pub mended : Mended
 mended v d t r s = (all-done v d t r s, all-fit v d t r s)

@@ -1,10 +1,11 @@
--- What mending promises: `proofs/Demand.antt` proves `Mended` and `Touching`, `proofs/Giving.antt` `Giving`. The states of a device are
--- those that demand 3 speaks of: a mend serves every state that a cut leaves, and leaves one that every update may start from.
+-- What mending promises: `proofs/Demand.antt` proves `Serving`, `Mended`, `Counting` and `Touching`, `proofs/Giving.antt` `Giving`. The states
+-- of a device are those that demand 3 speaks of: a mend serves what a cut in an update leaves, and leaves what every update may start
+-- from. What a cut in a mend leaves is request [7].
 use Prim.Native.Nat.{ℕ, suc, _+_, _≤_, _<_}
 use mathlib.Core.Path.{_≡_}
 use mathlib.Core.Logic.{_⊎_}
-use mathlib.Core.Bool.{true}
-use mathlib.Core.List.{List}
+use mathlib.Core.Bool.{true, false}
+use mathlib.Core.List.{List, []}
 use lib.ListN.{length}
 use Rattle.refusal.specs.Numbers.{noStore}
 use Rattle.layout.specs.declared.Device.{Device}
@@ -12,15 +13,18 @@ use Rattle.layout.specs.declared.Side.the-variants.{Front, Back}
 use Rattle.layout.specs.declared.Area.the-variants.{A}
 use Rattle.layout.specs.Places.{blockSector, areaSector}
 use Rattle.block.specs.declared.Time.{Time}
-use Rattle.copy.specs.Copy.{otherSide}
+use Rattle.copy.specs.Copy.{otherSide, deviceIn}
 use Rattle.discovery.specs.declared.Finding.{Finding}
-use Rattle.discovery.specs.Discovery.{sized}
-use Rattle.crash.specs.Crash.{Sectors, Groups, stores, storeIn, groupStart, allLanded, copyFrom}
+use Rattle.discovery.specs.declared.Other.{Other}
+use Rattle.discovery.specs.declared.Answer.the-variants.{Found}
+use Rattle.discovery.specs.Discovery.{sized, discovery, inStep, recordBytes}
+use Rattle.discovery.specs.Newest.{timeAt}
+use Rattle.crash.specs.Crash.{Sectors, Sound, Groups, stores, storeIn, groupStart, allLanded, copyFrom}
 use Rattle.stores.specs.declared.Given.the-variants.{At, Refused}
 use Rattle.stores.specs.Stores.{sectorsOf}
 use Rattle.stores.specs.States.{Ready, Answered, AllFit}
 use Rattle.mend.specs.declared.Mending.{Mending}
-use Rattle.mend.specs.Mend.{mendGroups}
+use Rattle.mend.specs.Mend.{laterWhole, mendGroups}
 use Rattle.mend.specs.Plan.{mending, storesIn, groupOf, storeAnswer, storeBytes}
 
 -- the groups of a mend of the device's copies, and the device after all of its stores
@@ -30,10 +34,27 @@ groupsOn v d = mendGroups (copyFrom Front v d) (copyFrom Back v d)
 abbrev pub after : Device → Sectors → Sectors
 after v d = allLanded (groupsOn v d) d
 
--- Mending serves any state that discovery answers. All stores landed: the copies are in step on the same record with its time. The
--- stores go only where they belong.
+-- Any state that discovery answers, from a copy that is where its own S and L place it, is one that mending serves.
+abbrev pub Serving : Type 0
+Serving =
+    (v : Device) (d : Sectors) (q : Finding) (o : Other) → Sound d → discovery (copyFrom Front v d) (copyFrom Back v d) ≡ Found q o
+    → deviceIn (copyFrom (q .side) v d) ≡ v → Answered v d (timeAt q) (recordBytes q (copyFrom Front v d) (copyFrom Back v d))
+
+-- All stores landed: the copies are in step on the same record with its time. The stores go only where they belong.
 abbrev pub Mended : Type 0
 Mended = (v : Device) (d : Sectors) (t : Time) (r : List ℕ) → Answered v d t r → Ready v (after v d) t r × AllFit v (groupsOn v d)
+
+-- how many stores there are: none where the copies are in step, and every update may start then; else k + 2, and one more exactly where the
+-- later entry of the copy with the found record q is not whole
+pub record Counts (v : Device) (d : Sectors) (t : Time) (r : List ℕ) (q : Finding) : Type 0 where
+  pub in-step : inStep (copyFrom Front v d) (copyFrom Back v d) ≡ true → (groupsOn v d ≡ []) × Ready v d t r
+  pub whole : inStep (copyFrom Front v d) (copyFrom Back v d) ≡ false → laterWhole (copyFrom (q .side) v d) ≡ true
+      → length (stores (groupsOn v d)) ≡ sectorsOf (length r) + 2
+  pub torn : inStep (copyFrom Front v d) (copyFrom Back v d) ≡ false → laterWhole (copyFrom (q .side) v d) ≡ false
+      → length (stores (groupsOn v d)) ≡ sectorsOf (length r) + 3
+
+abbrev pub Counting : Type 0
+Counting = (v : Device) (d : Sectors) (t : Time) (r : List ℕ) (a : Answered v d t r) → Counts v d t r (a .gives .found)
 
 -- where a store of a mend that keeps the copy with the found record q goes: to the other copy's signature block, to a sector of its
 -- area a that the record fills, or, the last one, with number k + 2, to the kept block

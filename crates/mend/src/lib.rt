@@ -203,8 +203,8 @@ fn put_rewrite(p: Rewrite, c: &[u8], i: u64, out: &mut [u8]) -> Given
 }
 
 // The store of a mend with number i, counted from 0: its 512 bytes into out, its sector as the answer. The copies are those
-// that the mend was worked out from. 1 for a slice of another size, 23 past the last store; a block that the writer refuses
-// gives its number. Then out stays.
+// that the mend was worked out from. 1 for a slice of another size, 23 past the last store; of a mend that nobody worked out also 15
+// for a length that no record has, 23 for a sector past 2^64 - 1, and the writer's number for a block that it refuses. Then out stays.
 pub fn store(m: Mending, f: &[u8], b: &[u8], i: u64, out: &mut [u8]) -> Given
     ensures { λ g. ⌜ g ≡ storeAnswer m (now (f .entry)) (now (b .entry)) i (now (out .entry)) ⌝ }
     ensures { λ _. ⌜ now (out .exit) ≡ storeBytes m (now (f .entry)) (now (b .entry)) i (now (out .entry)) ⌝ }

@@ -18,7 +18,12 @@ use Rattle.block.specs.declared.Reading.{Reading}
 use Rattle.block.specs.declared.Verdict.the-variants as Verdict
 use Rattle.block.specs.Entry.{sameTime, timeOf}
 use Rattle.block.specs.Block.{poolOf, blockdevOf, fieldsOf}
-use Rattle.copy.specs.Copy.{isCopy, deviceIn, blockIn, areaBytes, newest}
+use Rattle.copy.specs.declared.CopyReading.{CopyReading}
+use Rattle.copy.specs.declared.Present.the-variants.{At}
+use Rattle.copy.specs.Copy.{isCopy, deviceIn, blockIn, areaBytes, newest, presentFor, copyReading}
+use Rattle.copy.proofs.Presence.{present-newest}
+use Rattle.copy.proofs.Readings.{sized-read}
+use Rattle.block.proofs.Readings.{accepted-reading}
 use Rattle.discovery.specs.declared.Finding.{Finding}
 use Rattle.discovery.specs.declared.Other.{Other}
 use Rattle.discovery.specs.declared.Other.the-variants.{Both}
@@ -64,6 +69,12 @@ module _ (c : Side → List ℕ) (k : Stepped c) where
   -- what each presents
   pub stepped-presents : (w : Side) (t : Time) (r : List ℕ) → Presents (c w) t r → (timeOf (heldIn (c w)) ≡ t) × (recordIn (c w) ≡ r)
   stepped-presents w = presents-newest (c w) (sized-at w) (k .accepted w) (k .newest-whole w)
+
+  pub stepped-present : (w : Side) → copyReading (c w) .present ≡ At (newest (fieldsOf (blockIn (c w)))) (heldIn (c w))
+  stepped-present w =
+      ap (λ (q : CopyReading). q .present) (sized-read (c w) (sized-at w))
+      ∙ (ap (λ (q : Reading). presentFor (c w) (q .verdict)) (sym (accepted-reading (blockIn (c w)) (k .accepted w)))
+      ∙ sym (present-newest (c w) (fieldsOf (blockIn (c w))) (newest (fieldsOf (blockIn (c w)))) (heldIn (c w)) refl (k .newest-whole w) refl))
 
   pub presents-stepped : (w : Side) → Presents (c w) (timeOf (heldIn (c Front))) (recordIn (c Front))
   presents-stepped w = holds-presents (holds-at-front w) (sized-at w) (timeOf (heldIn (c Front))) (k .times w)

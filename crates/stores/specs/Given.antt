@@ -20,7 +20,7 @@ use Rattle.stores.specs.declared.Given.{Given}
 use Rattle.stores.specs.declared.Given.the-variants as Given
 use Rattle.stores.specs.Stores.{sectorsOf}
 
--- a sector of the record, as far as there is room for it, and zeros after it
+-- a sector of the record and zeros after it; zeros alone where it has no room
 abbrev pub sectorIn : List ℕ → ℕ → List ℕ → List ℕ
 sectorIn r j out = splice (zeros (length out)) 0 (window r (512 * j) 512)
 

@@ -55,7 +55,7 @@ pub fn with_entry(f: BlockFields, x: Area, e: Entry) -> BlockFields
     }
 }
 
-// Sector j of a record, as far as out has room for it, and zeros after it.
+// Sector j of a record and zeros after it; zeros alone where it has no room.
 fn put_sector(r: &[u8], j: u32, out: &mut [u8])
     ensures { λ _. ⌜ now (out .exit) ≡ sectorIn (now (r .entry)) j (now (out .entry)) ⌝ }
 {

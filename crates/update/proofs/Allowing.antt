@@ -33,13 +33,14 @@ use Rattle.discovery.specs.declared.Answer.the-variants as Answer
 use Rattle.discovery.specs.Discovery.{findingOf, discovery, inStep, copyOn}
 use Rattle.discovery.specs.Newest.{timeAt}
 use Rattle.discovery.proofs.Latest.{found-same}
+use Rattle.crash.specs.Crash.{copyFrom}
 use Rattle.stores.specs.States.{Presents}
 use Rattle.stores.proofs.Blocks.{number-fits}
 use Rattle.stores.proofs.Holding.{heldIn, recordIn}
 use Rattle.stores.proofs.InStep.{Stepped, in-step-facts}
 use Rattle.stores.proofs.States.{stepped-found, stepped-presents, presents-stepped}
 use Rattle.update.specs.Update.{testsAfter, updateTests, numberAfter, updateNumber}
-use Rattle.update.specs.Demand.{Allowed, Exactly, InOrder, Ordered}
+use Rattle.update.specs.Demand.{Allowed, Exactly, InOrder, Ordered, Started}
 use Rattle.update.proofs.Planning.{not-refused}
 
 module _ (f b : List ℕ) (t : Time) (r : List ℕ) where
@@ -156,3 +157,19 @@ exactly f b t r bytes = (allowed f b t r bytes, not-any f b t r)
 
 pub ordered : Ordered
 ordered f b t r = in-order f b t r
+
+pub started : Started
+started v d t r sd says bytes fits z =
+    let a : Allowed (copyFrom Front v d) (copyFrom Back v d) t r = exactly (copyFrom Front v d) (copyFrom Back v d) t r bytes .0 z in (
+      a .old,
+      (
+        a .old-record,
+        record {
+          ready = record { sound = sd; says = says; in-step = (a .in-step, a .presents) };
+          fits = fits;
+          nanoseconds = a .nanoseconds;
+          later = a .later;
+          right = subst (λ (w : Device). RightBytes w r) (says Front) (a .right);
+        },
+      ),
+    )

@@ -21,6 +21,7 @@ use Rattle.layout.specs.Limits.{lengthAllowed, mostNanoseconds, nanosecondsAllo
 use Rattle.layout.specs.Places.{blockSector, areaSector}
 use Rattle.layout.proofs.Laws.{length-facts}
 use Rattle.block.specs.declared.Time.{Time}
+use Rattle.block.specs.declared.Holding.{Holding}
 use Rattle.block.specs.declared.Entry.the-variants.{Used}
 use Rattle.block.specs.declared.BlockFields.{BlockFields}
 use Rattle.block.specs.declared.Reading.{Reading}
@@ -33,7 +34,8 @@ use Rattle.block.proofs.Exactly.{obeys}
 use Rattle.block.proofs.Times.{same-test, same-not-later}
 use Rattle.record.specs.Accept.{contentTests}
 use Rattle.record.proofs.Right.{right-content}
-use Rattle.copy.specs.Copy.{isCopy, deviceIn, blockIn, entryIn, newest, readingIn}
+use Rattle.copy.specs.declared.Present.the-variants.{At}
+use Rattle.copy.specs.Copy.{isCopy, deviceIn, blockIn, entryIn, otherArea, newest, readingIn}
 use Rattle.discovery.specs.declared.Finding.{Finding}
 use Rattle.discovery.specs.declared.Answer.{Answer}
 use Rattle.discovery.specs.Discovery.{sameDevice, inStep}
@@ -57,12 +59,12 @@ use Rattle.stores.proofs.Choosing.{lent-right, block-given, area-given, part-gi
 use Rattle.stores.proofs.Facts.{other-differs, renamed, sized-copies, split, stands-as}
 use Rattle.stores.proofs.Agreeing.{found-front}
 use Rattle.stores.proofs.Places.{Sizes, sizes-accepted, near, area-near, area-below, block-below, block-apart, areas-apart}
-use Rattle.stores.proofs.States.{is-copy, stepped-found, made-ready, made-answered, ready-stepped, ready-time, ready-record}
+use Rattle.stores.proofs.States.{is-copy, stepped-found, stepped-present, made-ready, made-answered, ready-stepped, ready-time, ready-record}
 use Rattle.update.specs.declared.Plan.{Plan}
 use Rattle.update.specs.declared.Planned.the-variants as Planned
 use Rattle.update.specs.Update.{testsAfter, numberAfter, updateNumber, spare, newBlock}
 use Rattle.update.specs.Plan.{partFor, storesIn, groupOf, storeAnswer, storeBytes}
-use Rattle.update.specs.Demand.{Start, Outcome, groupsOn, planOn, Demand3, Giving}
+use Rattle.update.specs.Demand.{Start, Outcome, groupsOn, planOn, Demand3, areaGroup, blockGroup, Places, Placing, Giving}
 use Rattle.update.proofs.NewBlock.{new-reads, new-writes, new-written}
 use Rattle.update.proofs.NewHeld.{new-held}
 use Rattle.update.proofs.Choosing.{in-none, front-store, back-store, no-store}
@@ -431,6 +433,28 @@ module _ (v : Device) (d : Sectors) (u : Time) (q : List ℕ) (t : Time) (r : Li
             })
       ])
 
+  -- which store goes where
+  at-area : (w : Side) → starting k (areaGroup w) ≡ begin k w
+  at-area Front = refl
+  at-area Back = let z : starting k 2 ≡ k + 1 = refl in z
+
+  at-block-group : (w : Side) → starting k (blockGroup w) ≡ begin k w + k
+  at-block-group Front = let z : starting k 1 ≡ k + 0 = refl in omega arith
+  at-block-group Back = let z : starting k 3 ≡ k + (1 + (k + 0)) = refl in omega arith
+
+  area-same : (x y : Area) (h i : Holding) → At x h ≡ At y i → x ≡ y
+  area-same x y h i e = cc
+
+  places : Places v d t r
+  places =
+      record {
+        area = λ w x h e j l.
+            let n : present w ≡ x = area-same (present w) x (heldIn (copy w)) h (sym (stepped-present copy stepped w) ∙ e) in
+            ap (λ (m : ℕ). storeIn groups (m + j)) (starts-at (areaGroup w) ∙ at-area w)
+            ∙ (laid w .area j l ∙ ap (λ (y : Area). record { sector = areaSector w (otherArea y) v + j; content = sectorOf r j }) n);
+        block = λ w. ap (storeIn groups) (starts-at (blockGroup w) ∙ at-block-group w) ∙ laid w .block;
+      }
+
   -- the stores that the plan gives
   sectors-fit : v .sectors < 256 ^ 8
   sectors-fit = subst (λ (w : Device). w .sectors < 256 ^ 8) says (number-fits (blockIn (copy Front)) 20 8)
@@ -543,6 +567,9 @@ demand3 v d u q t r s = (
   (λ i l. fits v d u q t r s i (subst (λ (n : ℕ). i < n) (stores-count v d u q t r s) l)),
   (groups-four (copyFrom Front v d) (copyFrom Back v d) t r, λ e g c x. outcome v d u q t r s e g c x),
 )
+
+pub placing : Placing
+placing v d u q t r s = places v d u q t r s
 
 pub giving : Giving
 giving v d u q t r s =

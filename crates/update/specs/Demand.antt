@@ -1,12 +1,12 @@
--- What an update promises. `proofs/Allowing.antt` proves `Exactly` and `Ordered`, `proofs/Demand.antt` `Demand3` and `Giving`, `proofs/Changing.antt`
--- `Changing`. That there is a start for every allowed device is `format`'s `Possible`.
+-- What an update promises. `proofs/Allowing.antt` proves `Exactly`, `Ordered` and `Started`, `proofs/Demand.antt` `Demand3`, `Placing` and
+-- `Giving`, `proofs/Changing.antt` `Changing`. That there are copies in step on every allowed device is `format`'s `Possible`.
 use Prim.Native.Nat.{ℕ, suc, _+_, _*_, _^_, _≤_, _<_}
 use mathlib.Core.Path.{_≡_}
 use mathlib.Core.Bool.{true, false}
 use mathlib.Core.List.{List}
 use lib.ListN.{length, getD}
 use Rattle.endian.specs.Bytes.{Bytes}
-use Rattle.refusal.specs.Numbers.{notInStep, areaEntry, notLater, noStore}
+use Rattle.refusal.specs.Numbers.{noStore}
 use Rattle.refusal.specs.Tests.{first}
 use Rattle.layout.specs.declared.Device.{Device}
 use Rattle.layout.specs.declared.Side.{Side}
@@ -14,21 +14,23 @@ use Rattle.layout.specs.declared.Side.the-variants.{Front, Back}
 use Rattle.layout.specs.declared.Area.{Area}
 use Rattle.layout.specs.declared.Area.the-variants.{A, B}
 use Rattle.layout.specs.Limits.{mostNanoseconds}
-use Rattle.layout.specs.Places.{blockSector, copyBytes}
+use Rattle.layout.specs.Places.{blockSector, areaSector, copyBytes}
 use Rattle.block.specs.declared.Time.{Time}
+use Rattle.block.specs.declared.Holding.{Holding}
 use Rattle.block.specs.Entry.{laterThan}
 use Rattle.block.specs.Accepted.{Accepted}
 use Rattle.record.specs.Accept.{contentTests}
 use Rattle.record.specs.Demand.{RightBytes}
-use Rattle.copy.specs.Copy.{deviceIn, blockIn}
+use Rattle.copy.specs.declared.Present.the-variants as Present
+use Rattle.copy.specs.Copy.{deviceIn, blockIn, otherArea, copyReading}
 use Rattle.discovery.specs.declared.Finding.{Finding}
 use Rattle.discovery.specs.declared.Other.{Other}
 use Rattle.discovery.specs.declared.Answer.the-variants as Answer
 use Rattle.discovery.specs.Discovery.{discovery, inStep, copyOn}
 use Rattle.discovery.specs.Newest.{timeAt}
-use Rattle.crash.specs.Crash.{Sectors, Groups, stores, storeIn, groupStart, CutIn, copyFrom}
+use Rattle.crash.specs.Crash.{Sectors, Sound, Groups, stores, storeIn, groupStart, CutIn, copyFrom}
 use Rattle.stores.specs.declared.Given.the-variants.{At, Refused}
-use Rattle.stores.specs.Stores.{sectorsOf}
+use Rattle.stores.specs.Stores.{sectorsOf, sectorOf}
 use Rattle.stores.specs.States.{Presents, Gives, Ready, Answered, Excused, AllFit}
 use Rattle.update.specs.declared.Plan.{Plan}
 use Rattle.update.specs.declared.Planned.the-variants.{Ready as ReadyPlan}
@@ -51,7 +53,7 @@ pub record Allowed (f b : List ℕ) (t : Time) (r : List ℕ) : Type 0 where
   pub later : laterThan t old ≡ true
   pub right : RightBytes (deviceIn f) r
 
--- An update's number is 0 exactly then. A device's size below 2^64 and elements below 256 are what the machine's types have.
+-- An update's number is 0 exactly then. Elements below 256 are what the machine's types have.
 abbrev pub Exactly : Type 0
 Exactly =
     (f b : List ℕ) (t : Time) (r : List ℕ) → Bytes r
@@ -61,10 +63,10 @@ Exactly =
 -- then the record's own.
 pub record InOrder (f b : List ℕ) (t : Time) (r : List ℕ) : Type 0 where
   pub refused : (n : ℕ) → discovery f b ≡ Answer.Refused n → updateNumber f b t r ≡ n
-  pub apart : (q : Finding) (o : Other) → discovery f b ≡ Answer.Found q o → inStep f b ≡ false → updateNumber f b t r ≡ notInStep
-  pub limit : inStep f b ≡ true → mostNanoseconds < t .nanoseconds → updateNumber f b t r ≡ areaEntry
+  pub apart : (q : Finding) (o : Other) → discovery f b ≡ Answer.Found q o → inStep f b ≡ false → updateNumber f b t r ≡ 16
+  pub limit : inStep f b ≡ true → mostNanoseconds < t .nanoseconds → updateNumber f b t r ≡ 9
   pub earlier : inStep f b ≡ true → t .nanoseconds ≤ mostNanoseconds → (old : Time) (q : List ℕ) → Presents f old q → laterThan t old ≡ false
-      → updateNumber f b t r ≡ notLater
+      → updateNumber f b t r ≡ 14
   pub content : inStep f b ≡ true → t .nanoseconds ≤ mostNanoseconds → (old : Time) (q : List ℕ) → Presents f old q → laterThan t old ≡ true
       → updateNumber f b t r ≡ first (contentTests (deviceIn f) r)
 
@@ -78,6 +80,12 @@ pub record Start (v : Device) (d : Sectors) (u : Time) (q : List ℕ) (t : Time)
   pub nanoseconds : t .nanoseconds ≤ mostNanoseconds
   pub later : laterThan t u ≡ true
   pub right : RightBytes v r
+
+-- Every update of a device's copies that is not refused has such a start, where each copy says its own places.
+abbrev pub Started : Type 0
+Started =
+    (v : Device) (d : Sectors) (t : Time) (r : List ℕ) → Sound d → ((s : Side) → deviceIn (copyFrom s v d) ≡ v) → Bytes r → t .seconds < 2 ^ 64
+    → updateNumber (copyFrom Front v d) (copyFrom Back v d) t r ≡ 0 → (u : Time) × ((q : List ℕ) × Start v d u q t r)
 
 -- the groups of the update, and its plan
 abbrev pub groupsOn : Device → Sectors → Time → List ℕ → Groups
@@ -107,6 +115,25 @@ Demand3 =
     → AllFit v (groupsOn v d t r)
     × ((length (groupsOn v d t r) ≡ 4)
     × ((e : Sectors) (g : ℕ) → CutIn (groupsOn v d t r) g d e → (Excused v (groupsOn v d t r) g d e → ⊥) → Outcome v d e u q t r g))
+
+-- the groups of a side's area and of its signature block
+abbrev pub areaGroup : Side → ℕ
+areaGroup Front = 0
+areaGroup Back = 2
+
+abbrev pub blockGroup : Side → ℕ
+blockGroup Front = 1
+blockGroup Back = 3
+
+-- which store goes where: in each copy the record's sectors to the area that is not present there, then the block; the front first
+pub record Places (v : Device) (d : Sectors) (t : Time) (r : List ℕ) : Type 0 where
+  pub area : (s : Side) (x : Area) (h : Holding) → copyReading (copyFrom s v d) .present ≡ Present.At x h → (j : ℕ) → j < sectorsOf (length r)
+      → storeIn (groupsOn v d t r) (groupStart (groupsOn v d t r) (areaGroup s) + j) ≡ record { sector = areaSector s (otherArea x) v + j; content = sectorOf r j }
+  pub block : (s : Side)
+      → storeIn (groupsOn v d t r) (groupStart (groupsOn v d t r) (blockGroup s)) ≡ record { sector = blockSector s v; content = newBlock (copyFrom s v d) t r }
+
+abbrev pub Placing : Type 0
+Placing = (v : Device) (d : Sectors) (u : Time) (q : List ℕ) (t : Time) (r : List ℕ) → Start v d u q t r → Places v d t r
 
 -- The stores of the plan that `work_out` gives are those that demand 3 speaks of: the update's number is 0 and the plan is not refused, it
 -- has as many stores, 2k + 2, each is in its group, and each is given with its sector and its 512 bytes; past the last there is

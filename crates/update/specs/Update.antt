@@ -51,7 +51,7 @@ numberAfter (Answer.Found q o) f b t r = first (updateTests f b q t r)
 unfoldable pub updateNumber : List ℕ → List ℕ → Time → List ℕ → ℕ
 updateNumber f b t r = numberAfter (discovery f b) f b t r
 
--- in each copy the record goes to the area that is not present there
+-- in each copy the record goes to the area that is not present there: of copies in step, the one that is not the later entry's
 abbrev pub spare : List ℕ → Area
 spare c = otherArea (newest (fieldsOf (blockIn c)))
 

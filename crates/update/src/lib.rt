@@ -170,7 +170,7 @@ pub fn group(p: Plan, i: u64) -> u8
 
 // The store of a plan with number i, counted from 0: its 512 bytes into out, its sector as the answer. The copies and the
 // record are those that the plan was made of. 1 for a slice of another size, 15 for a length that no record has, 23 past the
-// last store; a block that the writer refuses gives its number. Then out stays.
+// last store and for a made-up sector past 2^64 - 1; a block that the writer refuses gives its number. Then out stays.
 pub fn store(p: Plan, f: &[u8], b: &[u8], r: &[u8], i: u64, out: &mut [u8]) -> Given
     ensures { λ g. ⌜ g ≡ storeAnswer p (now (f .entry)) (now (b .entry)) (now (r .entry)) i (now (out .entry)) ⌝ }
     ensures { λ _. ⌜ now (out .exit) ≡ storeBytes p (now (f .entry)) (now (b .entry)) (now (r .entry)) i (now (out .entry)) ⌝ }
