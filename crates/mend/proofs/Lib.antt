@@ -7,3 +7,4 @@ pub mod Blocks
 pub mod Landing
 pub mod Giving
 pub mod Demand
+pub mod Refusing

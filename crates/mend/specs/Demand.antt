@@ -1,4 +1,4 @@
--- What mending promises: `proofs/Demand.antt` proves `Serving`, `Mended`, `Counting` and `Touching`, `proofs/Giving.antt` `Giving`. The states
+-- What mending promises: `proofs/Demand.antt` proves `Serving`, `Mended`, `Counting` and `Touching`, `proofs/Giving.antt` `Giving`, `proofs/Refusing.antt` `Refusing`. The states
 -- of a device are those that demand 3 speaks of: a mend serves what a cut in an update leaves, and leaves what every update may start
 -- from. What a cut in a mend leaves is request [7].
 use Prim.Native.Nat.{ℕ, suc, _+_, _≤_, _<_}
@@ -83,3 +83,7 @@ pub record MendGives (f b : List ℕ) (m : Mending) (gs : Groups) : Type 0 where
 -- Of any two copies.
 abbrev pub Giving : Type 0
 Giving = (f b : List ℕ) → MendGives f b (mending f b) (mendGroups f b)
+
+-- A refused store changes no lent byte, of any mend, made up or not.
+abbrev pub Refusing : Type 0
+Refusing = (m : Mending) (f b : List ℕ) (i : ℕ) (out : List ℕ) (n : ℕ) → storeAnswer m f b i out ≡ Refused n → storeBytes m f b i out ≡ out

@@ -14,3 +14,4 @@ pub mod Laying
 pub mod Records
 pub mod Whole
 pub mod States
+pub mod Refusing

@@ -3,3 +3,4 @@ pub mod Stores
 pub mod Given
 pub mod Answers
 pub mod States
+pub mod Demand

@@ -8,3 +8,4 @@ pub mod Number
 pub mod Choosing
 pub mod Planning
 pub mod Changing
+pub mod Refusing

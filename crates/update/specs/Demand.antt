@@ -1,9 +1,9 @@
 -- What an update promises. `proofs/Allowing.antt` proves `Exactly`, `Ordered` and `Started`, `proofs/Demand.antt` `Demand3`, `Placing` and
--- `Giving`, `proofs/Changing.antt` `Changing`. That there are copies in step on every allowed device is `format`'s `Possible`.
+-- `Giving`, `proofs/Refusing.antt` `Refusing`, `proofs/Changing.antt` `Changing`. That there are copies in step on every allowed device is `format`'s `Possible`.
 use Prim.Native.Nat.{ℕ, suc, _+_, _*_, _^_, _≤_, _<_}
 use mathlib.Core.Path.{_≡_}
 use mathlib.Core.Bool.{true, false}
-use mathlib.Core.List.{List}
+use mathlib.Core.List.{List, [], _∷_}
 use lib.ListN.{length, getD}
 use Rattle.endian.specs.Bytes.{Bytes}
 use Rattle.refusal.specs.Numbers.{noStore}
@@ -35,6 +35,7 @@ use Rattle.stores.specs.States.{Presents, Gives, Ready, Answered, Excused, AllF
 use Rattle.update.specs.declared.Plan.{Plan}
 use Rattle.update.specs.declared.Planned.the-variants.{Ready as ReadyPlan}
 use Rattle.update.specs.Update.{updateNumber, spare, newBlock, updateGroups}
+use Rattle.update.specs.Answers.{plannedNumber, plannedValues}
 use Rattle.update.specs.Plan.{planOf, planned, storesIn, groupOf, storeAnswer, storeBytes}
 
 -- An update that the format does not refuse, in plain words: two copies, which discovery answers and which are in step; a time within
@@ -154,6 +155,12 @@ pub record PlanGives (v : Device) (d : Sectors) (t : Time) (r : List ℕ) : Type
 
 abbrev pub Giving : Type 0
 Giving = (v : Device) (d : Sectors) (u : Time) (q : List ℕ) (t : Time) (r : List ℕ) → Start v d u q t r → PlanGives v d t r
+
+-- A refused store changes no lent byte, of any plan, made up or not; and a plan's refusal is the update's number.
+pub record Refusing : Type 0 where
+  pub store : (p : Plan) (f b r : List ℕ) (i : ℕ) (out : List ℕ) (n : ℕ) → storeAnswer p f b r i out ≡ Refused n → storeBytes p f b r i out ≡ out
+  pub number : (f b : List ℕ) (t : Time) (r : List ℕ) → plannedNumber (planned f b t r) ≡ updateNumber f b t r
+  pub values : (f b : List ℕ) (t : Time) (r : List ℕ) → updateNumber f b t r ≡ 0 → plannedValues (planned f b t r) ≡ (2 * sectorsOf (length r) + 2) ∷ []
 
 -- where an area's entry lies in the block, 20 bytes
 abbrev pub entryPlace : Area → ℕ

@@ -1,0 +1,50 @@
+-- A refused store changes no lent byte, and a plan's refusal is the update's number.
+use Prim.Native.Nat.{ℕ, _+_, _-_, _*_}
+use mathlib.Core.Path.{_≡_, refl, sym, ap, _∙_}
+use mathlib.Core.Bool.{Bool, cond}
+use mathlib.Core.List.{List, [], _∷_}
+use native.Mathlib.Decide.{ℕ-discrete}
+use lib.Dec.{eqb, leb}
+use lib.ListN.{length}
+use Rattle.refusal.specs.Tests.{first}
+use Rattle.refusal.proofs.Order.{answer-no, answer-yes}
+use Rattle.block.specs.declared.Time.{Time}
+use Rattle.stores.specs.declared.Given.the-variants as Given
+use Rattle.stores.specs.Given.{partGiven, partLeft}
+use Rattle.stores.specs.Stores.{sectorsOf}
+use Rattle.stores.proofs.Refusing.{either, part-refuses}
+use Rattle.update.specs.declared.Plan.{Plan}
+use Rattle.update.specs.declared.Planned.{Planned}
+use Rattle.update.specs.declared.Planned.the-variants as Planned
+use Rattle.update.specs.Update.{updateNumber}
+use Rattle.update.specs.Answers.{plannedNumber, plannedValues}
+use Rattle.update.specs.Plan.{planOf, planned, storeTests, sidesAnswer, sidesBytes, storeAnswer, storeBytes}
+use Rattle.update.specs.Demand.{Refusing}
+
+store-refuses : (p : Plan) (f b r : List ℕ) (i : ℕ) (out : List ℕ) (n : ℕ) → storeAnswer p f b r i out ≡ Given.Refused n → storeBytes p f b r i out ≡ out
+store-refuses p f b r i out n =
+    either (eqb (first (storeTests p f b r i out)) 0) (sidesAnswer p f b r i out) (Given.Refused (first (storeTests p f b r i out))) (sidesBytes p f b r i out) out out n
+    (either (leb i (p .sectors)) (partGiven (p .front) (p .sectors) f r i out) (partGiven (p .back) (p .sectors) b r (i - (p .sectors + 1)) out)
+    (partLeft (p .front) (p .sectors) f r i out) (partLeft (p .back) (p .sectors) b r (i - (p .sectors + 1)) out) out n
+    (part-refuses (p .front) (p .sectors) f r i out n) (part-refuses (p .back) (p .sectors) b r (i - (p .sectors + 1)) out n))
+    (λ e. refl)
+
+module _ (f b : List ℕ) (t : Time) (r : List ℕ) where
+  ready : updateNumber f b t r ≡ 0 → Planned.Ready (planOf f b t r) ≡ planned f b t r
+  ready z = answer-yes (Planned.Ready (planOf f b t r)) Planned.Refused (updateNumber f b t r) (updateNumber f b t r) refl z
+
+  refused : (updateNumber f b t r ≡ 0 → ⊥) → Planned.Refused (updateNumber f b t r) ≡ planned f b t r
+  refused z = answer-no (Planned.Ready (planOf f b t r)) Planned.Refused (updateNumber f b t r) (updateNumber f b t r) refl z
+
+  numbers : plannedNumber (planned f b t r) ≡ updateNumber f b t r
+  numbers =
+      elim (ℕ-discrete (updateNumber f b t r) 0) [
+        | yes z ↦ sym (ap plannedNumber (ready z)) ∙ sym z
+        | no z ↦ sym (ap plannedNumber (refused z))
+      ]
+
+  values : updateNumber f b t r ≡ 0 → plannedValues (planned f b t r) ≡ (2 * sectorsOf (length r) + 2) ∷ []
+  values z = sym (ap plannedValues (ready z))
+
+pub refusing : Refusing
+refusing = record { store = store-refuses; number = numbers; values = values }
