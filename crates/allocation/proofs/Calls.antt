@@ -46,16 +46,16 @@ use Rattle.allocation.proofs.Finding.{chain-of, runs-walked, for-any, r
 
 -- After a check q that accepted, with the items t and their number n: the first n positions are the segments' order, and the gaps
 -- in the range r between the segments there are the free runs.
-pub record Ready (d : Device) (s : List ℕ) (q : Checked) (t : List ℕ) (n : ℕ) (r : Range) : Type 0 where
+pub record Prepared (d : Device) (s : List ℕ) (q : Checked) (t : List ℕ) (n : ℕ) (r : Range) : Type 0 where
   pub zero : first (recordTests d s) ≡ 0
   pub inside : n ≤ length (q .order .at)
   pub exact : n ≡ length (take n (q .order .at))
   pub chain : Chain (r .start) (r .end) (pickedAt (segmentsIn t) (take n (q .order .at)))
   pub runs : walked r (segmentsIn t) (take n (q .order .at)) ≡ runsIn d s
 
-pub ready : (d : Device) (s : List ℕ) (q : Checked) (t : List ℕ) (n : ℕ) (r : Range) → q ≡ checked (first (recordTests d s)) s → q .number ≡ 0
-    → t ≡ itemsOf s → n ≡ length (segmentsIn t) → r ≡ dataRange d → Ready d s q t n r
-ready d s q t n r e z i m k =
+pub prepared : (d : Device) (s : List ℕ) (q : Checked) (t : List ℕ) (n : ℕ) (r : Range) → q ≡ checked (first (recordTests d s)) s → q .number ≡ 0
+    → t ≡ itemsOf s → n ≡ length (segmentsIn t) → r ≡ dataRange d → Prepared d s q t n r
+prepared d s q t n r e z i m k =
     record {
       zero = zero;
       inside = inside;
@@ -166,7 +166,7 @@ module _ (d : Device) (s : List ℕ) (k m w : ℕ) (z : first (recordTests d s) 
           alloc-yes l = placed 0 (sym (first-pass (leb (length s + itemBytes) w) sliceSize [] (le-leb (length s + itemBytes) w l) ∙ first-nil))
 
 -- the walk of an allocation: in the range of its kind
-pub fit-for : (d : Device) (s : List ℕ) (q : Checked) (t : List ℕ) (n : ℕ) (r : Range) (k m : ℕ) (f : Run) → Ready d s q t n r
+pub fit-for : (d : Device) (s : List ℕ) (q : Checked) (t : List ℕ) (n : ℕ) (r : Range) (k m : ℕ) (f : Run) → Prepared d s q t n r
     → f ≡ fitOf m (walked r (segmentsIn t) (take n (q .order .at))) → f ≡ fitOf m (runsFor d s k)
 fit-for d s q t n r k m f w e = e ∙ ap (fitOf m) (w .runs ∙ sym (runs-for d s (accepted d s (w .zero)) k))
 

@@ -2,14 +2,14 @@
 use Prim.Native.Nat.{ℕ, _≤_, _<_}
 use mathlib.Core.Logic.{inl, inr}
 use mathlib.Core.Path.{_≡_, refl, sym, ap, _∙_}
-use mathlib.Core.Bool.{Bool, true, false, _&&_}
-use mathlib.Core.List.{List}
+use mathlib.Core.Bool.{Bool, true, false, _&&_, true≢false}
+use mathlib.Core.List.{List, [], _∷_}
 use native.Mathlib.Omega.{arith}
 use borrow.Author.Tests.{eq-eqb}
 use lib.Dec.{eqb, lit≤}
 use native.Mathlib.Decide.{ℕ-discrete}
 use lib.ListN.{length}
-use Rattle.refusal.specs.Tests.{first, Fails, AllHold}
+use Rattle.refusal.specs.Tests.{Test, first, Fails, AllHold}
 use Rattle.refusal.proofs.Order.{first-zero, first-all, first-lowest}
 use Rattle.endian.proofs.Parts.{length-window-fits}
 use Rattle.endian.proofs.Tests.{and-both}
@@ -20,11 +20,18 @@ use Rattle.block.specs.Block.{poolOf, blockdevOf, fieldsOf, readTests, r
 use Rattle.block.specs.Writing.{writeTests}
 use Rattle.block.specs.Entry.{laterThan}
 use Rattle.block.proofs.Times.{Before, NotAfter, later-facts, not-later-facts}
-use Rattle.block.specs.Demand.{Exactly, Lowest, WriteAfterRead, ReadAfterWrite, nanosecondsIn, Later}
+use Rattle.block.specs.Demand.{Exactly, Applies, Lowest, WriteAfterRead, ReadAfterWrite, nanosecondsIn, Later}
 use Rattle.block.proofs.Readings.{refused-reading, accepted-reading, ascending}
 use Rattle.block.proofs.Exactly.{obeys, no-refusal}
+use Rattle.block.proofs.Applying.{fails-applies, applies-fails}
 use Rattle.block.proofs.Written.{written-accepted, write-ascending, write-sizes}
 use Rattle.block.proofs.RoundTrip.{write-back, read-back}
+
+-- a test that fails is not among tests that all hold
+some-fails : (ts : List Test) (n : ℕ) → Fails ts n → AllHold ts → ⊥
+some-fails [] n f a = f
+some-fails (t ∷ ts) n (inl f) a = true≢false (sym (a .0) ∙ f .0)
+some-fails (t ∷ ts) n (inr f) a = some-fails ts n f (a .1)
 
 module _ (b : List ℕ) where
   -- a block with no number is not refused
@@ -50,16 +57,42 @@ exactly b = (
   λ f e. elim (ℕ-discrete (first (readTests b)) 0) [ yes z ↦ obeys b z | no h ↦ absurd (not-accepted b f h e) ],
 )
 
+-- the first test that fails has the lowest number whose condition holds
+module _ (b : List ℕ) (n : ℕ) where
+  refused-first : reading b .verdict ≡ Verdict.Refused n → (first (readTests b) ≡ n) × (n ≡ 0 → ⊥)
+  refused-first e = elim (ℕ-discrete (first (readTests b)) 0) [ yes z ↦ absurd (not-refused b n z e) | no h ↦ go h ]
+    where
+      go : (first (readTests b) ≡ 0 → ⊥) → (first (readTests b) ≡ n) × (n ≡ 0 → ⊥)
+      go h =
+          let v : Verdict.Refused (first (readTests b)) ≡ Verdict.Refused n = sym (refused-with b h) ∙ e in
+          let m : first (readTests b) ≡ n = cc in
+          (m, λ z. h (m ∙ z))
+
+  refused-lowest : reading b .verdict ≡ Verdict.Refused n → Applies b n × ((k : ℕ) → Applies b k → n ≤ k)
+  refused-lowest e =
+      let m : (first (readTests b) ≡ n) × (n ≡ 0 → ⊥) = refused-first e in
+      let f : first (readTests b) ≡ n = m .0 in
+      let z : n ≡ 0 → ⊥ = m .1 in
+      let l : Fails (readTests b) n × ((k : ℕ) → Fails (readTests b) k → n ≤ k) = rw f at (first-lowest 0 (readTests b) (ascending b) (omega arith)) in
+      (fails-applies b n (l .0), λ k a. l .1 k (applies-fails b k a))
+
+  lowest-refused : Applies b n → ((k : ℕ) → Applies b k → n ≤ k) → reading b .verdict ≡ Verdict.Refused n
+  lowest-refused a h =
+      let f : Fails (readTests b) n = applies-fails b n a in
+      let o : first (readTests b) ≡ 0 → ⊥ = λ z. some-fails (readTests b) n f (first-zero 0 (readTests b) (ascending b) z) in
+      let l : Fails (readTests b) (first (readTests b)) × ((k : ℕ) → Fails (readTests b) k → first (readTests b) ≤ k) =
+      first-lowest 0 (readTests b) (ascending b) (omega arith) in
+      let x : first (readTests b) ≤ n = l .1 n f in
+      let y : n ≤ first (readTests b) = h (first (readTests b)) (fails-applies b (first (readTests b)) (l .0)) in
+      let m : first (readTests b) ≡ n = omega arith in
+      refused-with b o ∙ ap (λ (k : ℕ). Verdict.Refused k) m
+
 pub lowest : Lowest
-lowest b n e = elim (ℕ-discrete (first (readTests b)) 0) [ yes z ↦ absurd (not-refused b n z e) | no h ↦ go h ]
-  where
-    go : (first (readTests b) ≡ 0 → ⊥) → (reading b ≡ refusedReading n) × (Fails (readTests b) n × ((k : ℕ) → Fails (readTests b) k → n ≤ k))
-    go h =
-        let v : Verdict.Refused (first (readTests b)) ≡ Verdict.Refused n = sym (refused-with b h) ∙ e in
-        let m : first (readTests b) ≡ n = cc in (
-          sym (refused-reading b n (sym m) (λ z. h (m ∙ z))),
-          rw m at (first-lowest 0 (readTests b) (ascending b) (omega arith)),
-        )
+lowest b n = (
+  (refused-lowest b n, λ a. lowest-refused b n (a .0) (a .1)),
+  λ e. let m : (first (readTests b) ≡ n) × (n ≡ 0 → ⊥) = refused-first b n e in
+      sym (refused-reading b n (sym (m .0)) (m .1)),
+)
 
 pub write-after-read : WriteAfterRead
 write-after-read b out bytes h n =

@@ -20,7 +20,7 @@ use Rattle.block.specs.declared.Entry.{Entry}
 use Rattle.block.specs.declared.Entry.the-variants.{Unused, Used}
 use Rattle.block.specs.Entry.{sameTime, entryAllowed, differentTimes, entriesAllowed}
 use Rattle.block.specs.Block.{signatureBytes, number, poolOf, blockdevOf, entryAt, isHex, allZero, zeroFields, readTests}
-use Rattle.block.specs.Accepted.{Hex, Within, Apart, Accepted}
+use Rattle.block.specs.Accepted.{Hex, HexBytes, Within, Apart, Accepted}
 use Rattle.block.proofs.Readings.{ascending}
 
 or-cases : (a b : Bool) → a || b ≡ true → (a ≡ true) ⊎ (b ≡ true)
@@ -80,6 +80,25 @@ apart-test (Used k) (Used l) h = go (eqb (k .seconds) (l .seconds)) refl (eqb (k
     go true p false q = ap₂ (λ (s t : Bool). not (s && t)) p q
     go false p y q = ap (λ (s : Bool). not (s && eqb (k .nanoseconds) (l .nanoseconds))) p
 
+-- a UUID, and both entries
+pub hex-bytes : (s : List ℕ) → allPass isHex s ≡ true → HexBytes s
+hex-bytes s h = λ i k. hex-facts (getD s i 0) (all-at isHex s h i k)
+
+pub bytes-hex : (s : List ℕ) → HexBytes s → allPass isHex s ≡ true
+bytes-hex s h = all-of isHex s (λ i k. hex-test (getD s i 0) (h i k))
+
+pub entries-facts : (a b : Entry) → entriesAllowed a b ≡ true → Within a × (Within b × Apart a b)
+entries-facts a b h =
+    let l : entryAllowed b && differentTimes a b ≡ true = and-right (entryAllowed a) (entryAllowed b && differentTimes a b) h in (
+      within-facts a (and-left (entryAllowed a) (entryAllowed b && differentTimes a b) h),
+      (within-facts b (and-left (entryAllowed b) (differentTimes a b) l), apart-facts a b (and-right (entryAllowed b) (differentTimes a b) l)),
+    )
+
+pub entries-test : (a b : Entry) → Within a → Within b → Apart a b → entriesAllowed a b ≡ true
+entries-test a b x y z =
+    and-both (entryAllowed a) (entryAllowed b && differentTimes a b) (within-test a x)
+    (and-both (entryAllowed b) (differentTimes a b) (within-test b y) (apart-test a b z))
+
 zero-facts : (b : List ℕ) (at n : ℕ) → at + n ≤ length b → allZero (window b at n) ≡ true → window b at n ≡ zeros n
 unfolding allZero
 zero-facts b at n l h = all-zeros (window b at n) h ∙ ap zeros (length-window-fits b at n l)
@@ -100,9 +119,8 @@ obeys b e =
     and-right (allZero (window b 116 12)) (allZero (window b 148 12) && allZero (window b 168 344)) z2 in
     let h : allPass isHex (poolOf b) && allPass isHex (blockdevOf b) ≡ true = t .1 .1 .1 .1 .1 .0 in
     let m : (number b 160 4 % 2 ≡ 0) × (2040 ≤ number b 160 4) × (number b 160 4 ≤ 16384) = metadata-facts (number b 160 4) (t .1 .1 .1 .1 .1 .1 .0) in
-    let w : entriesAllowed (entryAt b 96) (entryAt b 128) ≡ true = t .1 .1 .1 .1 .1 .1 .1 .1 .0 in
-    let w2 : entryAllowed (entryAt b 128) && differentTimes (entryAt b 96) (entryAt b 128) ≡ true =
-    and-right (entryAllowed (entryAt b 96)) (entryAllowed (entryAt b 128) && differentTimes (entryAt b 96) (entryAt b 128)) w in
+    let w : Within (entryAt b 96) × (Within (entryAt b 128) × Apart (entryAt b 96) (entryAt b 128)) =
+    entries-facts (entryAt b 96) (entryAt b 128) (t .1 .1 .1 .1 .1 .1 .1 .1 .0) in
     record {
       size = n;
       checksum = eqb-true (number b 0 4) (Crc.checksum (window b 4 508)) (t .1 .1 .0);
@@ -111,15 +129,12 @@ obeys b e =
       flags =
           zero-facts b 28 4 (omega arith)
           (and-left (allZero (window b 28 4)) (allZero (window b 116 12) && (allZero (window b 148 12) && allZero (window b 168 344))) z);
-      pool = λ i k. hex-facts (getD (poolOf b) i 0) (all-at isHex (poolOf b) (and-left (allPass isHex (poolOf b)) (allPass isHex (blockdevOf b)) h) i k);
-      device = λ i k. hex-facts (getD (blockdevOf b) i 0) (all-at isHex (blockdevOf b) (and-right (allPass isHex (poolOf b)) (allPass isHex (blockdevOf b)) h) i k);
-      entry-a =
-          within-facts (entryAt b 96)
-          (and-left (entryAllowed (entryAt b 96)) (entryAllowed (entryAt b 128) && differentTimes (entryAt b 96) (entryAt b 128)) w);
+      pool = hex-bytes (poolOf b) (and-left (allPass isHex (poolOf b)) (allPass isHex (blockdevOf b)) h);
+      device = hex-bytes (blockdevOf b) (and-right (allPass isHex (poolOf b)) (allPass isHex (blockdevOf b)) h);
+      entry-a = w .0;
       zero-116 = zero-facts b 116 12 (omega arith) (and-left (allZero (window b 116 12)) (allZero (window b 148 12) && allZero (window b 168 344)) z2);
-      entry-b = within-facts (entryAt b 128) (and-left (entryAllowed (entryAt b 128)) (differentTimes (entryAt b 96) (entryAt b 128)) w2);
-      times =
-          apart-facts (entryAt b 96) (entryAt b 128) (and-right (entryAllowed (entryAt b 128)) (differentTimes (entryAt b 96) (entryAt b 128)) w2);
+      entry-b = w .1 .0;
+      times = w .1 .1;
       zero-148 = zero-facts b 148 12 (omega arith) (and-left (allZero (window b 148 12)) (allZero (window b 168 344)) z3);
       metadata-even = m .0;
       metadata-least = m .1;
@@ -146,17 +161,13 @@ no-refusal b h =
                   (and-both (allZero (window b 148 12)) (allZero (window b 168 344)) (zero-test (window b 148 12) 12 (h .zero-148)) (zero-test (window b 168 344) 344 (h .zero-168)))),
               (
                 and-both (allPass isHex (poolOf b)) (allPass isHex (blockdevOf b))
-                    (all-of isHex (poolOf b) (λ i k. hex-test (getD (poolOf b) i 0) (h .pool i k)))
-                    (all-of isHex (blockdevOf b) (λ i k. hex-test (getD (blockdevOf b) i 0) (h .device i k))),
+                    (bytes-hex (poolOf b) (h .pool)) (bytes-hex (blockdevOf b) (h .device)),
                 (
                   metadata-test (number b 160 4) (h .metadata-even) (h .metadata-least) (h .metadata-most),
                   (
                     le-leb (number b 164 4) 65536 (h .reserved),
                     (
-                      and-both (entryAllowed (entryAt b 96)) (entryAllowed (entryAt b 128) && differentTimes (entryAt b 96) (entryAt b 128))
-                          (within-test (entryAt b 96) (h .entry-a))
-                          (and-both (entryAllowed (entryAt b 128)) (differentTimes (entryAt b 96) (entryAt b 128)) (within-test (entryAt b 128) (h .entry-b))
-                          (apart-test (entryAt b 96) (entryAt b 128) (h .times))),
+                      entries-test (entryAt b 96) (entryAt b 128) (h .entry-a) (h .entry-b) (h .times),
                       tt,
                     ),
                   ),

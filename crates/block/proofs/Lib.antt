@@ -2,6 +2,7 @@
 pub mod Readings
 pub mod Written
 pub mod Exactly
+pub mod Applying
 pub mod Cuts
 pub mod RoundTrip
 pub mod Demand

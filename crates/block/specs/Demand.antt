@@ -1,20 +1,22 @@
 -- Demand 2, first half, as statements about what `read` and `write` answer. `proofs/Demand.antt` proves them.
-use Prim.Native.Nat.{ℕ, _+_, _*_, _^_, _≤_, _<_}
+use Prim.Native.Nat.{ℕ, _+_, _*_, _%_, _^_, _≤_, _<_}
 use mathlib.Core.Path.{_≡_}
+use mathlib.Core.Logic.{_⊎_, _↔_}
 use mathlib.Core.Bool.{true}
 use mathlib.Core.List.{List}
-use lib.ListN.{length}
+use lib.ListN.{length, getD}
 use Rattle.layout.specs.Limits.{mostNanoseconds}
-use Rattle.endian.specs.Bytes.{Bytes}
-use Rattle.refusal.specs.Tests.{first, Fails}
+use Rattle.endian.specs.Bytes.{Bytes, window}
+use Rattle.checksum.specs.Crc as Crc
+use Rattle.refusal.specs.Tests.{first}
 use Rattle.block.specs.declared.Time.{Time}
 use Rattle.block.specs.declared.Entry.{Entry}
 use Rattle.block.specs.declared.Entry.the-variants.{Unused, Used}
 use Rattle.block.specs.declared.BlockFields.{BlockFields}
 use Rattle.block.specs.declared.Verdict.the-variants as Verdict
 use Rattle.block.specs.Entry.{laterThan}
-use Rattle.block.specs.Block.{poolOf, blockdevOf, fieldsOf, readTests, reading, acceptedReading, refusedReading}
-use Rattle.block.specs.Accepted.{Accepted}
+use Rattle.block.specs.Block.{signatureBytes, number, poolOf, blockdevOf, entryAt, fieldsOf, reading, acceptedReading, refusedReading}
+use Rattle.block.specs.Accepted.{HexBytes, Within, Apart, Accepted}
 use Rattle.block.specs.Writing.{writeTests, written}
 
 -- A signature block is accepted exactly when it obeys the published layout and the format's limits.
@@ -24,11 +26,38 @@ Exactly =
     → (Accepted b → reading b ≡ acceptedReading b)
     × ((f : BlockFields) → reading b .verdict ≡ Verdict.Accepted f → Accepted b)
 
--- A refusal is the lowest number whose condition holds, with zero in every other field.
+-- each byte is zero
+abbrev pub ZeroBytes : List ℕ → Type 0
+ZeroBytes s = (i : ℕ) → i < length s → getD s i 0 ≡ 0
+
+-- the condition of refusal n, 1 to 9, in the words of the table
+abbrev pub Applies : List ℕ → ℕ → Type 0
+Applies b n =
+    -- a size other than the block's
+    ((n ≡ 1) × ¬ (length b ≡ 512))
+    -- the signature bytes differ
+    ⊎ (((n ≡ 2) × ¬ (window b 4 16 ≡ signatureBytes))
+    -- the CRC is wrong
+    ⊎ (((n ≡ 3) × ¬ (number b 0 4 ≡ Crc.checksum (window b 4 508)))
+    -- S is below 2,097,152
+    ⊎ (((n ≡ 4) × (number b 20 8 < 2097152))
+    -- the flags or a zero field are not zero
+    ⊎ (((n ≡ 5) × ¬ (ZeroBytes (window b 28 4) × (ZeroBytes (window b 116 12) × (ZeroBytes (window b 148 12) × ZeroBytes (window b 168 344)))))
+    -- a UUID has a byte that is not hex
+    ⊎ (((n ≡ 6) × ¬ (HexBytes (poolOf b) × HexBytes (blockdevOf b)))
+    -- L is odd, or not within its limits
+    ⊎ (((n ≡ 7) × ¬ ((number b 160 4 % 2 ≡ 0) × ((2040 ≤ number b 160 4) × (number b 160 4 ≤ 16384))))
+    -- R is above its limit
+    ⊎ (((n ≡ 8) × (65536 < number b 164 4))
+    -- an entry is not within its limits, or two used entries have one time
+    ⊎ ((n ≡ 9) × ¬ (Within (entryAt b 96) × (Within (entryAt b 128) × Apart (entryAt b 96) (entryAt b 128)))))))))))
+
+-- A block is refused with n exactly when that condition holds and none with a lower number does; there is zero in every other field.
 abbrev pub Lowest : Type 0
 Lowest =
-    (b : List ℕ) (n : ℕ) → reading b .verdict ≡ Verdict.Refused n
-    → (reading b ≡ refusedReading n) × (Fails (readTests b) n × ((k : ℕ) → Fails (readTests b) k → n ≤ k))
+    (b : List ℕ) (n : ℕ)
+    → (reading b .verdict ≡ Verdict.Refused n ↔ (Applies b n × ((k : ℕ) → Applies b k → n ≤ k)))
+    × (reading b .verdict ≡ Verdict.Refused n → reading b ≡ refusedReading n)
 
 -- Writing what was read gives the same 512 bytes.
 abbrev pub WriteAfterRead : Type 0

@@ -163,11 +163,11 @@ fn zero_fields(s: &[u8]) -> bool
     all_zero(endian::window(s, 28, 4)) & (all_zero(endian::window(s, 116, 12)) & last)
 }
 
-// Whether the 16 signature bytes are in their place.
-fn signature_right(s: &[u8]) -> bool
-    ensures { λ r. ⌜ r ≡ same (window (now (s .entry)) 4 16) signatureBytes ⌝ }
+// The 16 signature bytes.
+fn signature() -> [u8; 16]
+    ensures { λ r. ⌜ r ≡ signatureBytes ⌝ }
 {
-    let bytes = [
+    [
         0x21u8,
         0x53,
         0x74,
@@ -184,7 +184,14 @@ fn signature_right(s: &[u8]) -> bool
         0x41,
         0x72,
         0x68,
-    ];
+    ]
+}
+
+// Whether the 16 signature bytes are in their place.
+fn signature_right(s: &[u8]) -> bool
+    ensures { λ r. ⌜ r ≡ same (window (now (s .entry)) 4 16) signatureBytes ⌝ }
+{
+    let bytes = signature();
     endian::same(endian::window(s, 4, 16), &bytes)
 }
 
@@ -337,24 +344,7 @@ fn put_entry(out: &mut [u8], at: usize, e: Entry)
 fn put_fields(out: &mut [u8], pool: &[u8], blockdev: &[u8], f: BlockFields)
     ensures { λ _. ⌜ now (out .exit) ≡ bodyLaid (length (now (out .entry))) (now (pool .entry)) (now (blockdev .entry)) f ⌝ }
 {
-    let bytes = [
-        0x21u8,
-        0x53,
-        0x74,
-        0x72,
-        0x61,
-        0x30,
-        0x74,
-        0x69,
-        0x73,
-        0x86,
-        0xff,
-        0x02,
-        0x5e,
-        0x41,
-        0x72,
-        0x68,
-    ];
+    let bytes = signature();
     let d = f.device;
     let a = f.a;
     let b = f.b;

@@ -20,7 +20,7 @@ givenLeft (Given.At n) s = givenValues (Given.At n)
 givenLeft (Given.Refused n) s = s
 
 abbrev pub plannedLeft : Planned → List ℕ → List ℕ
-plannedLeft (Planned.Ready p) s = encodedPlan p
+plannedLeft (Planned.Plan p) s = encodedPlan p
 plannedLeft (Planned.Refused n) s = s
 
 abbrev pub updatePlanNumber : List ℕ → List ℕ → Time → List ℕ → List ℕ → ℕ

@@ -51,7 +51,7 @@ pub extern "C" fn amseokbin_update_plan(
     let a = update::work_out(front, back, t, content);
     match a {
         Planned::Refused(n) => n,
-        Planned::Ready(p) => {
+        Planned::Plan(p) => {
             let v = plan::encode_plan(p);
             endian::put(plan, 0, &v);
             0

@@ -50,7 +50,7 @@ use Rattle.mend.specs.Plan.{rewriteOf, mendingAfter, mending, lastAnswer, lastB
 use Rattle.mend.specs.Plan as Mend
 use Rattle.sectors.specs.Sectors.{known, settled}
 use Rattle.sectors.specs.Demand.{SameCopy, SameBoth}
-use Rattle.claims.specs.Unread.{SameStores, Stored, SureStored}
+use Rattle.claims.specs.Unread.{SameStores, StoredAlike, SureStored}
 use Rattle.sectors.proofs.Alone.{fields-of, whole-same, block-bytes, alone}
 use Rattle.sectors.proofs.Placed.{placed}
 use Rattle.sectors.proofs.Demand.{settled-same}
@@ -217,7 +217,7 @@ module _ {f b g k : List ℕ} (sf : SameCopy f g) (sb : SameCopy b k) (hf : bloc
   plan-same t r = ap₂ (λ (c e : List ℕ). planFor (fieldsOf c) (fieldsOf e) t r) hf hb
 
   plans : (t : Time) (r : List ℕ) → planned g k t r ≡ planned f b t r
-  plans t r = ap₂ (λ (n : ℕ) (p : Plan). cond (eqb n 0) (Planned.Ready p) (Planned.Refused n)) (number-same t r) (plan-same t r)
+  plans t r = ap₂ (λ (n : ℕ) (p : Plan). cond (eqb n 0) (Planned.Plan p) (Planned.Refused n)) (number-same t r) (plan-same t r)
 
   module _ (p : Plan) (r : List ℕ) (i : ℕ) (out : List ℕ) where
     sides-answer : sidesAnswer p g k r i out ≡ sidesAnswer p f b r i out
@@ -267,13 +267,13 @@ module _ {f b g k : List ℕ} (sf : SameCopy f g) (sb : SameCopy b k) (hf : bloc
         update-groups = update-groups;
       }
 
-pub stored : Stored
+pub stored-alike : StoredAlike
 unfolding settled
-stored f b g k fm bm af ab s =
+stored-alike f b g k fm bm af ab s =
     all-same (alone fm f g af (and-left (known f fm) (known b bm) s)) (alone bm b k ab (and-right (known f fm) (known b bm) s))
     (block-bytes fm f g af (and-left (known f fm) (known b bm) s)) (block-bytes bm b k ab (and-right (known f fm) (known b bm) s))
     (ap (λ (n : ℕ). eqb n copyBytes) (af .size-too ∙ sym (af .size))) (ap (λ (n : ℕ). eqb n copyBytes) (ab .size-too ∙ sym (ab .size))) (settled-same f b g k fm bm af ab s)
 
 pub sure-stored : SureStored
 sure-stored v d f b fm bm ok h rf rb =
-    stored f b (copyFrom Front v d) (copyFrom Back v d) fm bm (placed Front v d ok h .agrees fm f rf) (placed Back v d ok h .agrees bm b rb)
+    stored-alike f b (copyFrom Front v d) (copyFrom Back v d) fm bm (placed Front v d ok h .agrees fm f rf) (placed Back v d ok h .agrees bm b rb)

@@ -1,18 +1,31 @@
 -- Formatting, updates, cuts and mends, one after the other, from the crates' own claims alone: what one leaves is what the next may
--- start from. `proofs/Chain.antt` proves `Onward`, `Landing` and `Chain`.
-use Prim.Native.Nat.{ℕ, _^_, _≤_, _<_}
+-- start from. `proofs/Chain.antt` proves `Cutting`, `Onward`, `Landing` and `Chain`.
+use Prim.Native.Nat.{ℕ, suc, _^_, _≤_, _<_}
 use mathlib.Core.Path.{_≡_}
 use mathlib.Core.Bool.{true}
 use mathlib.Core.List.{List}
+use lib.ListN.{length}
 use Rattle.layout.specs.declared.Device.{Device}
 use Rattle.layout.specs.Limits.{mostNanoseconds}
 use Rattle.block.specs.declared.Time.{Time}
 use Rattle.block.specs.Entry.{laterThan}
 use Rattle.record.specs.Demand.{RightBytes}
-use Rattle.crash.specs.Crash.{Sectors, CutIn, allLanded}
-use Rattle.stores.specs.States.{Ready, Excused}
+use Rattle.crash.specs.Crash.{Sectors, Sound, Groups, put, storeIn, groupStart, CutIn, allLanded}
+use Rattle.stores.specs.States.{Ready, before, Excused, AllFit}
 use Rattle.update.specs.Demand.{Start, FrontNew, groupsOn}
 use Rattle.mend.specs.Demand.{after}
+
+-- What demand 3 asks of a cut is met: in every group of stores that fit there are cuts without the exception, one that leaves the device as
+-- before the group and one that leaves it as after the group; and one with any 512 bytes w in any sector that the group stores to, which
+-- may be the exception.
+pub record Cuts (v : Device) (gs : Groups) (g : ℕ) (d : Sectors) : Type 0 where
+  pub none : CutIn gs g d (before gs g d) × (Excused v gs g d (before gs g d) → ⊥)
+  pub all : CutIn gs g d (before gs (suc g) d) × (Excused v gs g d (before gs (suc g) d) → ⊥)
+  pub wild : (i : ℕ) (w : List ℕ) → groupStart gs g ≤ i → i < groupStart gs (suc g) → length w ≡ 512
+      → CutIn gs g d (put (before gs g d) (record { sector = storeIn gs i .sector; content = w }))
+
+abbrev pub Cutting : Type 0
+Cutting = (v : Device) (gs : Groups) (g : ℕ) (d : Sectors) → Sound d → AllFit v gs → Cuts v gs g d
 
 -- every later update that the format does not refuse may start: a time within its limit, later than u, and a record that is right
 abbrev pub Starts : Device → Sectors → Time → List ℕ → Type 0

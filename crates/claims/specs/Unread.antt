@@ -1,4 +1,4 @@
--- What is stored does not depend on sectors that could not be read and that do not matter. `proofs/Unread.antt` proves `Stored` and
+-- What is stored does not depend on sectors that could not be read and that do not matter. `proofs/Unread.antt` proves `StoredAlike` and
 -- `SureStored`.
 use Prim.Native.Nat.{ℕ}
 use mathlib.Core.Path.{_≡_}
@@ -33,8 +33,8 @@ pub record SameStores (f b g k : List ℕ) : Type 0 where
   pub update-groups : (t : Time) (r : List ℕ) → updateGroups g k t r ≡ updateGroups f b t r
 
 -- Whatever the marked sectors of two copies hold, what is stored is the same.
-abbrev pub Stored : Type 0
-Stored =
+abbrev pub StoredAlike : Type 0
+StoredAlike =
     (f b g k fm bm : List ℕ) → Agree fm f g → Agree bm b k → settled f b fm bm ≡ true
     → SameStores f b g k
 

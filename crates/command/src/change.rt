@@ -68,7 +68,7 @@ fn apply(
 ) -> u8 {
     let t = new_time(now, facts::found_time(front, back));
     let planned = update::work_out(front, back, t, r);
-    let Planned::Ready(p) = planned else {
+    let Planned::Plan(p) = planned else {
         return refused(path, look, planned);
     };
     let w = Work::Change(p);
@@ -95,7 +95,7 @@ fn apply(
 fn refused(path: &[u8], look: Look, p: Planned) -> u8 {
     match p {
         Planned::Refused(n) => facts::refuse_found(path, look, n),
-        Planned::Ready(_) => facts::WELL,
+        Planned::Plan(_) => facts::WELL,
     }
 }
 

@@ -3,7 +3,7 @@ use Prim.Native.Nat.{ℕ, _+_, _≤_, _<_}
 use mathlib.Core.Path.{_≡_, refl, sym, ap, ap₂, subst, _∙_}
 use mathlib.Core.Logic.{_↔_, inl, inr}
 use mathlib.Core.Bool.{Bool, true, false, cond, true≢false}
-use mathlib.Core.List.{List, [], _∷_}
+use mathlib.Core.List.{List}
 use native.Mathlib.Decide.{decLe}
 use native.Mathlib.Nat.{le-refl}
 use native.Mathlib.Omega.{arith}
@@ -12,8 +12,6 @@ use lib.Dec.{lit<}
 use lib.ListN.{length}
 use Rattle.endian.proofs.Parts.{length-window-fits}
 use Rattle.checksum.specs.Crc as Crc
-use Rattle.refusal.specs.Tests.{Test, Fails, Ascending}
-use Rattle.refusal.proofs.Order.{fails-above}
 use Rattle.layout.specs.Limits.{recordLimit, mostNanoseconds}
 use Rattle.layout.specs.Places.{areaOffset, copyBytes}
 use Rattle.layout.specs.declared.Area.{Area}
@@ -26,11 +24,11 @@ use Rattle.block.specs.declared.Reading.{Reading}
 use Rattle.block.specs.declared.Verdict.{Verdict}
 use Rattle.block.specs.declared.Verdict.the-variants.{Accepted as Accepts, Refused}
 use Rattle.block.specs.Entry.{laterThan, timeOf}
-use Rattle.block.specs.Block.{fieldsOf, readTests, reading, acceptedReading, refusedReading}
+use Rattle.block.specs.Block.{fieldsOf, reading, acceptedReading, refusedReading}
 use Rattle.block.specs.Writing.{holdingOf}
 use Rattle.block.specs.Accepted.{Within, Apart, Accepted}
+use Rattle.block.specs.Demand.{Applies}
 use Rattle.block.proofs.Demand as Block
-use Rattle.block.proofs.Readings.{ascending}
 use Rattle.copy.specs.declared.Present.{Present}
 use Rattle.copy.specs.declared.Present.the-variants.{Nothing, At}
 use Rattle.copy.specs.declared.CopyReading.{CopyReading}
@@ -239,26 +237,21 @@ pub data View (c : List ℕ) : CopyReading → Type 0 where
   not-taken : (n : ℕ) → ¬ AcceptedCopy c → 0 < n → (n ≡ 1 ↔ ¬ Sized c) → (Sized c → refusedReading n ≡ reading (signatureBlock c)) → View c (refusedRead n)
   taken : AcceptedCopy c → View c (acceptedRead c)
 
--- the first of some tests holds; its number
-abbrev Starts : List Test → Type 0
-Starts [] = ⊥
-Starts (t ∷ ts) = t .holds ≡ true
-
-abbrev startNumber : List Test → ℕ
-startNumber [] = 0
-startNumber (t ∷ ts) = t .otherwise
-
--- then a test that fails has a higher one
-not-first : (ts : List Test) (n : ℕ) → Ascending 0 ts → Starts ts → Fails ts n → startNumber ts < n
-not-first [] n a h f = absurd h
-not-first (t ∷ ts) n a h (inl f) = absurd (true≢false (sym h ∙ f .0))
-not-first (t ∷ ts) n a h (inr f) = fails-above (t .otherwise) ts (a .1) n f
-
 module _ (c : List ℕ) where
   -- reading a block of 512 bytes gives no 1
   not-one : Sized c → (n : ℕ) → reading (signatureBlock c) .verdict ≡ Refused n → 1 < n
-  not-one s n e =
-      not-first (readTests (signatureBlock c)) n (ascending (signatureBlock c)) (eq-eqb (length (signatureBlock c)) 512 (block-length c s)) (Block.lowest (signatureBlock c) n e .1 .0)
+  not-one s n e = above (Block.lowest (signatureBlock c) n .0 .0 e .0)
+    where
+      above : Applies (signatureBlock c) n → 1 < n
+      above (inl f) = absurd (f .1 (block-length c s))
+      above (inr (inl f)) = let h : n ≡ 2 = f .0 in omega arith
+      above (inr (inr (inl f))) = let h : n ≡ 3 = f .0 in omega arith
+      above (inr (inr (inr (inl f)))) = let h : n ≡ 4 = f .0 in omega arith
+      above (inr (inr (inr (inr (inl f))))) = let h : n ≡ 5 = f .0 in omega arith
+      above (inr (inr (inr (inr (inr (inl f)))))) = let h : n ≡ 6 = f .0 in omega arith
+      above (inr (inr (inr (inr (inr (inr (inl f))))))) = let h : n ≡ 7 = f .0 in omega arith
+      above (inr (inr (inr (inr (inr (inr (inr (inl f)))))))) = let h : n ≡ 8 = f .0 in omega arith
+      above (inr (inr (inr (inr (inr (inr (inr (inr f)))))))) = let h : n ≡ 9 = f .0 in omega arith
 
   sized-view : Sized c → (r : Reading) → reading (signatureBlock c) ≡ r → (v : Verdict) → r .verdict ≡ v → View c (copyReadingOf c r)
   sized-view s r e (Accepts f) v =
@@ -266,7 +259,7 @@ module _ (c : List ℕ) where
       subst (λ (q : Reading). View c (copyReadingOf c q)) (sym (Block.exactly (signatureBlock c) .0 b) ∙ e) (taken (record { size = s; block = b }))
   sized-view s r e (Refused n) v =
       let d : reading (signatureBlock c) .verdict ≡ Refused n = ap (λ (q : Reading). q .verdict) e ∙ v in
-      let f : reading (signatureBlock c) ≡ refusedReading n = Block.lowest (signatureBlock c) n d .0 in
+      let f : reading (signatureBlock c) ≡ refusedReading n = Block.lowest (signatureBlock c) n .1 d in
       subst (λ (q : Reading). View c (copyReadingOf c q)) (sym f ∙ e)
       (let l : 1 < n = not-one s n d in
       not-taken n (λ a. refused-accepted n (sym d ∙ ap (λ (q : Reading). q .verdict) (Block.exactly (signatureBlock c) .0 (a .block)))) (omega arith)

@@ -148,7 +148,7 @@ stores : (r : List ℕ) (n k : ℕ) → first (recordTests device r) ≡ 0 → l
 stores r n k a l e =
     ap countIn
     (sym
-    (answer-yes (Planned.Ready (planOf copy copy (time 11 0) r)) Planned.Refused 0 (updateNumber copy copy (time 11 0) r)
+    (answer-yes (Planned.Plan (planOf copy copy (time 11 0) r)) Planned.Refused 0 (updateNumber copy copy (time 11 0) r)
     (sym (not-refused r a)) refl))
     ∙ (ap (λ (m : ℕ). 2 * sectorsOf m + 2) l ∙ e)
 

@@ -102,7 +102,7 @@ asking m = startIn (allocateAnswer device nine 2 m 8192)
 
 -- the number of stores of an update; 0 where it is refused
 abbrev pub countIn : Planned → ℕ
-countIn (Planned.Ready p) = storesIn p
+countIn (Planned.Plan p) = storesIn p
 countIn (Planned.Refused n) = 0
 
 -- a copy as formatting leaves both with the record of examples 9 and 10; the stores of an update of them with another record

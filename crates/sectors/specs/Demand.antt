@@ -1,5 +1,5 @@
 -- What sectors that could not be read can change. `proofs/Alone.antt` proves `Alone`, `Steady` and `Meaning`, `proofs/Least.antt`
--- `Bounded`, `proofs/Placed.antt` `Placed`, `proofs/Demand.antt` the rest. That what is stored is the same too is `claims`' `Stored`.
+-- `Bounded`, `proofs/Placed.antt` `Placed`, `proofs/Demand.antt` the rest. That what is stored is the same too is `claims`' `StoredAlike`.
 use Prim.Native.Nat.{ℕ, _+_, _*_, _≤_, _<_}
 use mathlib.Core.Path.{_≡_}
 use mathlib.Core.Bool.{true, false}

@@ -576,7 +576,7 @@ giving v d u q t r s =
     record {
       number = number v d u q t r s;
       plan =
-          sym (answer-yes (Planned.Ready (planOn v d t r)) Planned.Refused 0 (updateNumber (copyFrom Front v d) (copyFrom Back v d) t r) (sym (number v d u q t r s)) refl);
+          sym (answer-yes (Planned.Plan (planOn v d t r)) Planned.Refused 0 (updateNumber (copyFrom Front v d) (copyFrom Back v d) t r) (sym (number v d u q t r s)) refl);
       count =
           (let e : 2 * sectorsOf (length r) + 2 ≡ sectorsOf (length r) + 1 + sectorsOf (length r) + 1 = omega arith in e) ∙ sym (stores-count v d u q t r s);
       two-k-two = refl;

@@ -115,7 +115,7 @@ module _ (f b : List ℕ) (t : Time) (r : List ℕ) where
   pub plan-refused : (n : ℕ) → discovery f b ≡ Refused n → Planned.Refused n ≡ planned f b t r
   unfolding updateNumber
   plan-refused n e =
-      answer-no (Planned.Ready (planOf f b t r)) Planned.Refused n (updateNumber f b t r) (sym (ap (λ (a : Answer). numberAfter a f b t r) e))
+      answer-no (Planned.Plan (planOf f b t r)) Planned.Refused n (updateNumber f b t r) (sym (ap (λ (a : Answer). numberAfter a f b t r) e))
       (λ z. subst Nonzero e (discovery-number f b) z)
 
   pub plan-found : (q : Finding) (o : Other) (step : Bool) → discovery f b ≡ Found q o → step ≡ inStep f b → planFound q o step t r ≡ planned f b t r
@@ -124,9 +124,9 @@ module _ (f b : List ℕ) (t : Time) (r : List ℕ) where
       ap (λ (s : Bool). planFound q o s t r) k
       ∙ (elim (ℕ-discrete number 0) [
         | yes z ↦ sym (answer-yes (planWith (q .fields) o t r) Planned.Refused number number refl z)
-            ∙ (ready z ∙ answer-yes (Planned.Ready (planOf f b t r)) Planned.Refused number (updateNumber f b t r) is z)
+            ∙ (ready z ∙ answer-yes (Planned.Plan (planOf f b t r)) Planned.Refused number (updateNumber f b t r) is z)
         | no z ↦ sym (answer-no (planWith (q .fields) o t r) Planned.Refused number number refl z)
-            ∙ answer-no (Planned.Ready (planOf f b t r)) Planned.Refused number (updateNumber f b t r) is z
+            ∙ answer-no (Planned.Plan (planOf f b t r)) Planned.Refused number (updateNumber f b t r) is z
       ])
     where
       number : ℕ
@@ -140,7 +140,7 @@ module _ (f b : List ℕ) (t : Time) (r : List ℕ) where
       both Back = b
 
       -- not refused: the copies are in step, and discovery has named both
-      ready : number ≡ 0 → planWith (q .fields) o t r ≡ Planned.Ready (planOf f b t r)
+      ready : number ≡ 0 → planWith (q .fields) o t r ≡ Planned.Plan (planOf f b t r)
       ready z =
           let s : Stepped both = in-step-facts both (first-holds (updateTests f b q t r) (tests-numbered (inStep f b) (q .fields .device) (timeAt q) t r) z .0) in
           let p : Found (findingOf Front (fieldsOf (blockIn f)) (newest (fieldsOf (blockIn f))) (heldIn f)) (Both (fieldsOf (blockIn b))) ≡ Found q o =
@@ -174,8 +174,8 @@ module _ (q : Finding) (o : Other) (step : Bool) (t : Time) (r : List ℕ) (n : 
     pub found-one : (m : ℕ) → o ≡ One m → Planned.Refused 16 ≡ planFound q o step t r
     found-one m h = sym (ap (λ (z : Other). planWith (q .fields) z t r) h) ∙ taken
 
-    pub found-both : (y : BlockFields) → o ≡ Both y → (p : Plan) → p ≡ planFor (q .fields) y t r → Planned.Ready p ≡ planFound q o step t r
-    found-both y h p k = ap Planned.Ready k ∙ (sym (ap (λ (z : Other). planWith (q .fields) z t r) h) ∙ taken)
+    pub found-both : (y : BlockFields) → o ≡ Both y → (p : Plan) → p ≡ planFor (q .fields) y t r → Planned.Plan p ≡ planFound q o step t r
+    found-both y h p k = ap Planned.Plan k ∙ (sym (ap (λ (z : Other). planWith (q .fields) z t r) h) ∙ taken)
 
     pub found-length : lengthAllowed (length r) ≡ true
     found-length = first-holds (testsAfter step (q .fields .device) (timeAt q) t r) (tests-numbered step (q .fields .device) (timeAt q) t r) (sym its-number ∙ z) .1 .1 .1 .0

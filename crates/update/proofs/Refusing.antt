@@ -30,11 +30,11 @@ store-refuses p f b r i out n =
     (λ e. refl)
 
 module _ (f b : List ℕ) (t : Time) (r : List ℕ) where
-  ready : updateNumber f b t r ≡ 0 → Planned.Ready (planOf f b t r) ≡ planned f b t r
-  ready z = answer-yes (Planned.Ready (planOf f b t r)) Planned.Refused (updateNumber f b t r) (updateNumber f b t r) refl z
+  ready : updateNumber f b t r ≡ 0 → Planned.Plan (planOf f b t r) ≡ planned f b t r
+  ready z = answer-yes (Planned.Plan (planOf f b t r)) Planned.Refused (updateNumber f b t r) (updateNumber f b t r) refl z
 
   refused : (updateNumber f b t r ≡ 0 → ⊥) → Planned.Refused (updateNumber f b t r) ≡ planned f b t r
-  refused z = answer-no (Planned.Ready (planOf f b t r)) Planned.Refused (updateNumber f b t r) (updateNumber f b t r) refl z
+  refused z = answer-no (Planned.Plan (planOf f b t r)) Planned.Refused (updateNumber f b t r) (updateNumber f b t r) refl z
 
   numbers : plannedNumber (planned f b t r) ≡ updateNumber f b t r
   numbers =

@@ -9,9 +9,9 @@ use Rattle.update.specs.Plan.{storesIn}
 
 -- an update worked out: how many stores it has
 abbrev pub plannedNumber : Planned → ℕ
-plannedNumber (Planned.Ready p) = 0
+plannedNumber (Planned.Plan p) = 0
 plannedNumber (Planned.Refused n) = n
 
 abbrev pub plannedValues : Planned → List ℕ
-plannedValues (Planned.Ready p) = storesIn p ∷ []
+plannedValues (Planned.Plan p) = storesIn p ∷ []
 plannedValues (Planned.Refused n) = []

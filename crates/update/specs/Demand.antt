@@ -33,7 +33,7 @@ use Rattle.stores.specs.declared.Given.the-variants.{At, Refused}
 use Rattle.stores.specs.Stores.{sectorsOf, sectorOf}
 use Rattle.stores.specs.States.{Presents, Gives, Ready, Answered, Excused, AllFit}
 use Rattle.update.specs.declared.Plan.{Plan}
-use Rattle.update.specs.declared.Planned.the-variants.{Ready as ReadyPlan}
+use Rattle.update.specs.declared.Planned.the-variants as Planned
 use Rattle.update.specs.Update.{updateNumber, spare, newBlock, updateGroups}
 use Rattle.update.specs.Answers.{plannedNumber, plannedValues}
 use Rattle.update.specs.Plan.{planOf, planned, storesIn, groupOf, storeAnswer, storeBytes}
@@ -141,7 +141,7 @@ Placing = (v : Device) (d : Sectors) (u : Time) (q : List ℕ) (t : Time) (r : L
 -- none, and no group.
 pub record PlanGives (v : Device) (d : Sectors) (t : Time) (r : List ℕ) : Type 0 where
   pub number : updateNumber (copyFrom Front v d) (copyFrom Back v d) t r ≡ 0
-  pub plan : planned (copyFrom Front v d) (copyFrom Back v d) t r ≡ ReadyPlan (planOn v d t r)
+  pub plan : planned (copyFrom Front v d) (copyFrom Back v d) t r ≡ Planned.Plan (planOn v d t r)
   pub count : storesIn (planOn v d t r) ≡ length (stores (groupsOn v d t r))
   pub two-k-two : storesIn (planOn v d t r) ≡ 2 * sectorsOf (length r) + 2
   pub grouped : (g i : ℕ) → g < 4 → groupStart (groupsOn v d t r) g ≤ i → i < groupStart (groupsOn v d t r) (suc g) → groupOf (planOn v d t r) i ≡ g

@@ -51,7 +51,7 @@ planOf f b t r = planFor (fieldsOf (blockIn f)) (fieldsOf (blockIn b)) t r
 
 -- how the code finds it from what discovery answers; nothing public cites this
 abbrev pub planWith : BlockFields → Other → Time → List ℕ → Planned
-planWith x (Both y) t r = Planned.Ready (planFor x y t r)
+planWith x (Both y) t r = Planned.Plan (planFor x y t r)
 planWith x (One m) t r = Planned.Refused notInStep
 
 abbrev pub planFound : Finding → Other → Bool → Time → List ℕ → Planned
@@ -61,7 +61,7 @@ planFound q o step t r =
 
 -- what `work_out` answers
 abbrev pub planned : List ℕ → List ℕ → Time → List ℕ → Planned
-planned f b t r = cond (eqb (updateNumber f b t r) 0) (Planned.Ready (planOf f b t r)) (Planned.Refused (updateNumber f b t r))
+planned f b t r = cond (eqb (updateNumber f b t r) 0) (Planned.Plan (planOf f b t r)) (Planned.Refused (updateNumber f b t r))
 
 -- 2k + 2
 abbrev pub storesIn : Plan → ℕ

@@ -28,7 +28,7 @@ pub struct Plan {
 
 // What `work_out` answers.
 pub enum Planned {
-    Ready(Plan),
+    Plan(Plan),
     Refused(u8),
 }
 
@@ -125,7 +125,7 @@ fn plan_found(q: Finding, o: Other, step: bool, t: Time, r: &[u8]) -> Planned
         return Planned::Refused(refusal::NOT_IN_STEP);
     };
     let p = plan_for(x, y, t, r);
-    Planned::Ready(p)
+    Planned::Plan(p)
 }
 
 // Works an update out: the plan of its stores, or its refusal number.

@@ -75,7 +75,7 @@ fn judge(f: &[u8], b: &[u8], t: Time, r: &[u8]) {
     let p = update::work_out(f, b, t, r);
     match p {
         Planned::Refused(n) => refused(n),
-        Planned::Ready(q) => {
+        Planned::Plan(q) => {
             print_plan(q, f, b, r);
             print_lengths(q, f, b);
         }

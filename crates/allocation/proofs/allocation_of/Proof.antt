@@ -1,5 +1,5 @@
 -- `allocation::allocation_of` meets its contract, a test at a time.
-use Rattle.allocation.proofs.Calls.{Ready, ready, number-is, alloc-kind, alloc-zero, alloc-full, alloc-none, alloc-short, alloc-yes, fit-for, range-is}
+use Rattle.allocation.proofs.Calls.{Prepared, prepared, number-is, alloc-kind, alloc-zero, alloc-full, alloc-none, alloc-short, alloc-yes, fit-for, range-is}
 use Rattle.refusal.proofs.Order.{answer-no, answer-yes}
 use Rattle.refusal.specs.Tests.{first}
 use Rattle.record.specs.Accept.{recordTests}
@@ -84,13 +84,13 @@ array-share-prefix-at : tie.Need-array-share-prefix-at
 array-share-prefix-at c =
     let d : Device = c .before .before .before .before .before .before .before .before .before .before .before .before .before .args .d in
     let s : List ℕ = c .before .before .before .before .before .before .before .before .before .before .before .before .before .args .s .now in
-    (ready d s (c .before .before .before .before .before .before .before .before .before .before .before .check-in-order .result) (c .before .before .before .before .before .items-of .result .now) (c .before .before .before .before .count-in .result) (dataRange d) (c .before .before .before .before .before .before .before .before .before .before .before .check-in-order .ensures) (c .before .before .before .before .before .before .before .before .before .before .if1 .left) (c .before .before .before .before .before .items-of .ensures) (c .before .before .before .before .count-in .ensures) refl) .inside
+    (prepared d s (c .before .before .before .before .before .before .before .before .before .before .before .check-in-order .result) (c .before .before .before .before .before .items-of .result .now) (c .before .before .before .before .count-in .result) (dataRange d) (c .before .before .before .before .before .before .before .before .before .before .before .check-in-order .ensures) (c .before .before .before .before .before .before .before .before .before .before .if1 .left) (c .before .before .before .before .before .items-of .ensures) (c .before .before .before .before .count-in .ensures) refl) .inside
 
 slice-aggregate-fit : tie.Need-slice-aggregate-fit
 slice-aggregate-fit c =
     let d : Device = c .before .before .before .before .before .before .before .before .before .before .before .before .before .before .args .d in
     let s : List ℕ = c .before .before .before .before .before .before .before .before .before .before .before .before .before .before .args .s .now in
-    (ready d s (c .before .before .before .before .before .before .before .before .before .before .before .before .check-in-order .result) (c .before .before .before .before .before .before .items-of .result .now) (c .before .before .before .before .before .count-in .result) (dataRange d) (c .before .before .before .before .before .before .before .before .before .before .before .before .check-in-order .ensures) (c .before .before .before .before .before .before .before .before .before .before .before .if1 .left) (c .before .before .before .before .before .before .items-of .ensures) (c .before .before .before .before .before .count-in .ensures) refl) .exact
+    (prepared d s (c .before .before .before .before .before .before .before .before .before .before .before .before .check-in-order .result) (c .before .before .before .before .before .before .items-of .result .now) (c .before .before .before .before .before .count-in .result) (dataRange d) (c .before .before .before .before .before .before .before .before .before .before .before .before .check-in-order .ensures) (c .before .before .before .before .before .before .before .before .before .before .before .if1 .left) (c .before .before .before .before .before .before .items-of .ensures) (c .before .before .before .before .before .count-in .ensures) refl) .exact
 
 range-for-requires : tie.Need-range-for-requires
 range-for-requires c κs = search needs
@@ -103,7 +103,7 @@ fit-requires c κs =
     let m : ℕ = c .before .before .before .before .before .before .before .before .before .before .before .before .before .before .before .args .m in
     let w : ℕ = c .before .before .before .before .before .before .before .before .before .before .before .before .before .before .before .args .w in
     let z : first (recordTests d s) ≡ 0 = sym (number-is d s (c .before .before .before .before .before .before .before .before .before .before .before .before .before .check-in-order .result) (c .before .before .before .before .before .before .before .before .before .before .before .before .before .check-in-order .ensures)) ∙ c .before .before .before .before .before .before .before .before .before .before .before .before .if1 .left in
-    (ready d s (c .before .before .before .before .before .before .before .before .before .before .before .before .before .check-in-order .result) (c .before .before .before .before .before .before .before .items-of .result .now) (c .before .before .before .before .before .before .count-in .result) (c .range-for .result) (c .before .before .before .before .before .before .before .before .before .before .before .before .before .check-in-order .ensures) (c .before .before .before .before .before .before .before .before .before .before .before .before .if1 .left) (c .before .before .before .before .before .before .before .items-of .ensures) (c .before .before .before .before .before .before .count-in .ensures) (range-is d s (c .before .before .before .before .before .before .before .before .before .before .before .head-of .result) (c .range-for .result) k z (c .before .before .before .before .before .before .before .before .before .before .before .head-of .ensures) (c .range-for .ensures))) .chain
+    (prepared d s (c .before .before .before .before .before .before .before .before .before .before .before .before .before .check-in-order .result) (c .before .before .before .before .before .before .before .items-of .result .now) (c .before .before .before .before .before .before .count-in .result) (c .range-for .result) (c .before .before .before .before .before .before .before .before .before .before .before .before .before .check-in-order .ensures) (c .before .before .before .before .before .before .before .before .before .before .before .before .if1 .left) (c .before .before .before .before .before .before .before .items-of .ensures) (c .before .before .before .before .before .before .count-in .ensures) (range-is d s (c .before .before .before .before .before .before .before .before .before .before .before .head-of .result) (c .range-for .result) k z (c .before .before .before .before .before .before .before .before .before .before .before .head-of .ensures) (c .range-for .ensures))) .chain
 
 returns-5 : tie.Need-returns-5
 returns-5 c =
@@ -115,7 +115,7 @@ returns-5 c =
     let z : first (recordTests d s) ≡ 0 = sym (number-is d s (c .before .before .before .before .before .before .before .before .before .before .before .before .before .before .before .before .check-in-order .result) (c .before .before .before .before .before .before .before .before .before .before .before .before .before .before .before .before .check-in-order .ensures)) ∙ c .before .before .before .before .before .before .before .before .before .before .before .before .before .before .before .if1 .left in
     let n : c .before .before .before .before .before .before .before .before .before .count-in .result ≡ length (segments s) = c .before .before .before .before .before .before .before .before .before .count-in .ensures ∙ ap (λ (u : List ℕ). length (segmentsIn u)) (c .before .before .before .before .before .before .before .before .before .before .items-of .ensures) in
     let mo : c .before .before .before .before .before .before .before .before .most-segments .result ≡ mostSegments (headOf s) = c .before .before .before .before .before .before .before .before .most-segments .ensures ∙ ap mostSegments (c .before .before .before .before .before .before .before .before .before .before .before .before .before .before .head-of .ensures) in
-    let r : Ready d s (c .before .before .before .before .before .before .before .before .before .before .before .before .before .before .before .before .check-in-order .result) (c .before .before .before .before .before .before .before .before .before .before .items-of .result .now) (c .before .before .before .before .before .before .before .before .before .count-in .result) (c .before .before .before .range-for .result) = ready d s (c .before .before .before .before .before .before .before .before .before .before .before .before .before .before .before .before .check-in-order .result) (c .before .before .before .before .before .before .before .before .before .before .items-of .result .now) (c .before .before .before .before .before .before .before .before .before .count-in .result) (c .before .before .before .range-for .result) (c .before .before .before .before .before .before .before .before .before .before .before .before .before .before .before .before .check-in-order .ensures) (c .before .before .before .before .before .before .before .before .before .before .before .before .before .before .before .if1 .left) (c .before .before .before .before .before .before .before .before .before .before .items-of .ensures) (c .before .before .before .before .before .before .before .before .before .count-in .ensures) (range-is d s (c .before .before .before .before .before .before .before .before .before .before .before .before .before .before .head-of .result) (c .before .before .before .range-for .result) k z (c .before .before .before .before .before .before .before .before .before .before .before .before .before .before .head-of .ensures) (c .before .before .before .range-for .ensures)) in
+    let r : Prepared d s (c .before .before .before .before .before .before .before .before .before .before .before .before .before .before .before .before .check-in-order .result) (c .before .before .before .before .before .before .before .before .before .before .items-of .result .now) (c .before .before .before .before .before .before .before .before .before .count-in .result) (c .before .before .before .range-for .result) = prepared d s (c .before .before .before .before .before .before .before .before .before .before .before .before .before .before .before .before .check-in-order .result) (c .before .before .before .before .before .before .before .before .before .before .items-of .result .now) (c .before .before .before .before .before .before .before .before .before .count-in .result) (c .before .before .before .range-for .result) (c .before .before .before .before .before .before .before .before .before .before .before .before .before .before .before .before .check-in-order .ensures) (c .before .before .before .before .before .before .before .before .before .before .before .before .before .before .before .if1 .left) (c .before .before .before .before .before .before .before .before .before .before .items-of .ensures) (c .before .before .before .before .before .before .before .before .before .count-in .ensures) (range-is d s (c .before .before .before .before .before .before .before .before .before .before .before .before .before .before .head-of .result) (c .before .before .before .range-for .result) k z (c .before .before .before .before .before .before .before .before .before .before .before .before .before .before .head-of .ensures) (c .before .before .before .range-for .ensures)) in
     let f : c .before .before .fit .result ≡ fitOf m (runsFor d s k) = fit-for d s (c .before .before .before .before .before .before .before .before .before .before .before .before .before .before .before .before .check-in-order .result) (c .before .before .before .before .before .before .before .before .before .before .items-of .result .now) (c .before .before .before .before .before .before .before .before .before .count-in .result) (c .before .before .before .range-for .result) k m (c .before .before .fit .result) r (c .before .before .fit .ensures) in
     let few : length (segments s) < mostSegments (headOf s) = omega (arith, c .before .before .before .before .before .before .before .if4 .left) in
     answer-no (Allocation.Placed (given d s k m .start) (length s + itemBytes)) Allocation.Refused 20 (first (allocateTests d s k m w)) (alloc-none d s k m w z (c .before .before .before .before .before .before .before .before .before .before .before .before .before .allowed .result) (c .before .before .before .before .before .before .before .before .before .before .before .before .before .allowed .ensures ∙ ap (λ (v : Head). allows v k) (c .before .before .before .before .before .before .before .before .before .before .before .before .before .before .head-of .ensures)) (c .before .before .before .before .before .before .before .before .before .before .before .before .if2 .left) (c .before .before .before .before .before .before .before .before .before .before .before .if3 .left) few (c .before .before .fit .result) f (c .if5 .taken)) (omega arith)
@@ -133,7 +133,7 @@ returns-6 c =
     let z : first (recordTests d s) ≡ 0 = sym (number-is d s (c .before .before .before .before .before .before .before .before .before .before .before .before .before .before .before .before .before .check-in-order .result) (c .before .before .before .before .before .before .before .before .before .before .before .before .before .before .before .before .before .check-in-order .ensures)) ∙ c .before .before .before .before .before .before .before .before .before .before .before .before .before .before .before .before .if1 .left in
     let n : c .before .before .before .before .before .before .before .before .before .before .count-in .result ≡ length (segments s) = c .before .before .before .before .before .before .before .before .before .before .count-in .ensures ∙ ap (λ (u : List ℕ). length (segmentsIn u)) (c .before .before .before .before .before .before .before .before .before .before .before .items-of .ensures) in
     let mo : c .before .before .before .before .before .before .before .before .before .most-segments .result ≡ mostSegments (headOf s) = c .before .before .before .before .before .before .before .before .before .most-segments .ensures ∙ ap mostSegments (c .before .before .before .before .before .before .before .before .before .before .before .before .before .before .before .head-of .ensures) in
-    let r : Ready d s (c .before .before .before .before .before .before .before .before .before .before .before .before .before .before .before .before .before .check-in-order .result) (c .before .before .before .before .before .before .before .before .before .before .before .items-of .result .now) (c .before .before .before .before .before .before .before .before .before .before .count-in .result) (c .before .before .before .before .range-for .result) = ready d s (c .before .before .before .before .before .before .before .before .before .before .before .before .before .before .before .before .before .check-in-order .result) (c .before .before .before .before .before .before .before .before .before .before .before .items-of .result .now) (c .before .before .before .before .before .before .before .before .before .before .count-in .result) (c .before .before .before .before .range-for .result) (c .before .before .before .before .before .before .before .before .before .before .before .before .before .before .before .before .before .check-in-order .ensures) (c .before .before .before .before .before .before .before .before .before .before .before .before .before .before .before .before .if1 .left) (c .before .before .before .before .before .before .before .before .before .before .before .items-of .ensures) (c .before .before .before .before .before .before .before .before .before .before .count-in .ensures) (range-is d s (c .before .before .before .before .before .before .before .before .before .before .before .before .before .before .before .head-of .result) (c .before .before .before .before .range-for .result) k z (c .before .before .before .before .before .before .before .before .before .before .before .before .before .before .before .head-of .ensures) (c .before .before .before .before .range-for .ensures)) in
+    let r : Prepared d s (c .before .before .before .before .before .before .before .before .before .before .before .before .before .before .before .before .before .check-in-order .result) (c .before .before .before .before .before .before .before .before .before .before .before .items-of .result .now) (c .before .before .before .before .before .before .before .before .before .before .count-in .result) (c .before .before .before .before .range-for .result) = prepared d s (c .before .before .before .before .before .before .before .before .before .before .before .before .before .before .before .before .before .check-in-order .result) (c .before .before .before .before .before .before .before .before .before .before .before .items-of .result .now) (c .before .before .before .before .before .before .before .before .before .before .count-in .result) (c .before .before .before .before .range-for .result) (c .before .before .before .before .before .before .before .before .before .before .before .before .before .before .before .before .before .check-in-order .ensures) (c .before .before .before .before .before .before .before .before .before .before .before .before .before .before .before .before .if1 .left) (c .before .before .before .before .before .before .before .before .before .before .before .items-of .ensures) (c .before .before .before .before .before .before .before .before .before .before .count-in .ensures) (range-is d s (c .before .before .before .before .before .before .before .before .before .before .before .before .before .before .before .head-of .result) (c .before .before .before .before .range-for .result) k z (c .before .before .before .before .before .before .before .before .before .before .before .before .before .before .before .head-of .ensures) (c .before .before .before .before .range-for .ensures)) in
     let f : c .before .before .before .fit .result ≡ fitOf m (runsFor d s k) = fit-for d s (c .before .before .before .before .before .before .before .before .before .before .before .before .before .before .before .before .before .check-in-order .result) (c .before .before .before .before .before .before .before .before .before .before .before .items-of .result .now) (c .before .before .before .before .before .before .before .before .before .before .count-in .result) (c .before .before .before .before .range-for .result) k m (c .before .before .before .fit .result) r (c .before .before .before .fit .ensures) in
     let few : length (segments s) < mostSegments (headOf s) = omega (arith, c .before .before .before .before .before .before .before .before .if4 .left) in
     answer-no (Allocation.Placed (given d s k m .start) (length s + itemBytes)) Allocation.Refused 1 (first (allocateTests d s k m w)) (alloc-short d s k m w z (c .before .before .before .before .before .before .before .before .before .before .before .before .before .before .allowed .result) (c .before .before .before .before .before .before .before .before .before .before .before .before .before .before .allowed .ensures ∙ ap (λ (v : Head). allows v k) (c .before .before .before .before .before .before .before .before .before .before .before .before .before .before .before .head-of .ensures)) (c .before .before .before .before .before .before .before .before .before .before .before .before .before .if2 .left) (c .before .before .before .before .before .before .before .before .before .before .before .before .if3 .left) few (c .before .before .before .fit .result) f (c .before .if5 .left) (c .if6 .taken)) (omega arith)
@@ -151,7 +151,7 @@ returns-7 c =
     let z : first (recordTests d s) ≡ 0 = sym (number-is d s (c .before .before .before .before .before .before .before .before .before .before .before .before .before .before .before .before .before .check-in-order .result) (c .before .before .before .before .before .before .before .before .before .before .before .before .before .before .before .before .before .check-in-order .ensures)) ∙ c .before .before .before .before .before .before .before .before .before .before .before .before .before .before .before .before .if1 .left in
     let n : c .before .before .before .before .before .before .before .before .before .before .count-in .result ≡ length (segments s) = c .before .before .before .before .before .before .before .before .before .before .count-in .ensures ∙ ap (λ (u : List ℕ). length (segmentsIn u)) (c .before .before .before .before .before .before .before .before .before .before .before .items-of .ensures) in
     let mo : c .before .before .before .before .before .before .before .before .before .most-segments .result ≡ mostSegments (headOf s) = c .before .before .before .before .before .before .before .before .before .most-segments .ensures ∙ ap mostSegments (c .before .before .before .before .before .before .before .before .before .before .before .before .before .before .before .head-of .ensures) in
-    let r : Ready d s (c .before .before .before .before .before .before .before .before .before .before .before .before .before .before .before .before .before .check-in-order .result) (c .before .before .before .before .before .before .before .before .before .before .before .items-of .result .now) (c .before .before .before .before .before .before .before .before .before .before .count-in .result) (c .before .before .before .before .range-for .result) = ready d s (c .before .before .before .before .before .before .before .before .before .before .before .before .before .before .before .before .before .check-in-order .result) (c .before .before .before .before .before .before .before .before .before .before .before .items-of .result .now) (c .before .before .before .before .before .before .before .before .before .before .count-in .result) (c .before .before .before .before .range-for .result) (c .before .before .before .before .before .before .before .before .before .before .before .before .before .before .before .before .before .check-in-order .ensures) (c .before .before .before .before .before .before .before .before .before .before .before .before .before .before .before .before .if1 .left) (c .before .before .before .before .before .before .before .before .before .before .before .items-of .ensures) (c .before .before .before .before .before .before .before .before .before .before .count-in .ensures) (range-is d s (c .before .before .before .before .before .before .before .before .before .before .before .before .before .before .before .head-of .result) (c .before .before .before .before .range-for .result) k z (c .before .before .before .before .before .before .before .before .before .before .before .before .before .before .before .head-of .ensures) (c .before .before .before .before .range-for .ensures)) in
+    let r : Prepared d s (c .before .before .before .before .before .before .before .before .before .before .before .before .before .before .before .before .before .check-in-order .result) (c .before .before .before .before .before .before .before .before .before .before .before .items-of .result .now) (c .before .before .before .before .before .before .before .before .before .before .count-in .result) (c .before .before .before .before .range-for .result) = prepared d s (c .before .before .before .before .before .before .before .before .before .before .before .before .before .before .before .before .before .check-in-order .result) (c .before .before .before .before .before .before .before .before .before .before .before .items-of .result .now) (c .before .before .before .before .before .before .before .before .before .before .count-in .result) (c .before .before .before .before .range-for .result) (c .before .before .before .before .before .before .before .before .before .before .before .before .before .before .before .before .before .check-in-order .ensures) (c .before .before .before .before .before .before .before .before .before .before .before .before .before .before .before .before .if1 .left) (c .before .before .before .before .before .before .before .before .before .before .before .items-of .ensures) (c .before .before .before .before .before .before .before .before .before .before .count-in .ensures) (range-is d s (c .before .before .before .before .before .before .before .before .before .before .before .before .before .before .before .head-of .result) (c .before .before .before .before .range-for .result) k z (c .before .before .before .before .before .before .before .before .before .before .before .before .before .before .before .head-of .ensures) (c .before .before .before .before .range-for .ensures)) in
     let f : c .before .before .before .fit .result ≡ fitOf m (runsFor d s k) = fit-for d s (c .before .before .before .before .before .before .before .before .before .before .before .before .before .before .before .before .before .check-in-order .result) (c .before .before .before .before .before .before .before .before .before .before .before .items-of .result .now) (c .before .before .before .before .before .before .before .before .before .before .count-in .result) (c .before .before .before .before .range-for .result) k m (c .before .before .before .fit .result) r (c .before .before .before .fit .ensures) in
     let few : length (segments s) < mostSegments (headOf s) = omega (arith, c .before .before .before .before .before .before .before .before .if4 .left) in
     ap (λ (v : Run). Allocation.Placed (v .start) (length s + itemBytes)) f ∙ answer-yes (Allocation.Placed (given d s k m .start) (length s + itemBytes)) Allocation.Refused 0 (first (allocateTests d s k m w)) (alloc-yes d s k m w z (c .before .before .before .before .before .before .before .before .before .before .before .before .before .before .allowed .result) (c .before .before .before .before .before .before .before .before .before .before .before .before .before .before .allowed .ensures ∙ ap (λ (v : Head). allows v k) (c .before .before .before .before .before .before .before .before .before .before .before .before .before .before .before .head-of .ensures)) (c .before .before .before .before .before .before .before .before .before .before .before .before .before .if2 .left) (c .before .before .before .before .before .before .before .before .before .before .before .before .if3 .left) few (c .before .before .before .fit .result) f (c .before .if5 .left) (c .if6 .left)) refl

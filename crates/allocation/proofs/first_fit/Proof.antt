@@ -1,5 +1,5 @@
 -- `allocation::first_fit` meets its contract.
-use Rattle.allocation.proofs.Calls.{Ready, ready, number-is, fit-zero, fit-none, fit-some}
+use Rattle.allocation.proofs.Calls.{Prepared, prepared, number-is, fit-zero, fit-none, fit-some}
 use Rattle.refusal.proofs.Order.{answer-no, answer-yes}
 use Rattle.refusal.specs.Tests.{first}
 use Rattle.record.specs.Accept.{recordTests}
@@ -47,13 +47,13 @@ array-share-prefix-at : tie.Need-array-share-prefix-at
 array-share-prefix-at c =
     let d : Device = c .before .before .before .before .before .before .before .before .args .d in
     let s : List ℕ = c .before .before .before .before .before .before .before .before .args .s .now in
-    (ready d s (c .before .before .before .before .before .before .check-in-order .result) (c .before .items-of .result .now) (c .count-in .result) (dataRange d) (c .before .before .before .before .before .before .check-in-order .ensures) (c .before .before .before .before .before .if1 .left) (c .before .items-of .ensures) (c .count-in .ensures) refl) .inside
+    (prepared d s (c .before .before .before .before .before .before .check-in-order .result) (c .before .items-of .result .now) (c .count-in .result) (dataRange d) (c .before .before .before .before .before .before .check-in-order .ensures) (c .before .before .before .before .before .if1 .left) (c .before .items-of .ensures) (c .count-in .ensures) refl) .inside
 
 slice-aggregate-fit : tie.Need-slice-aggregate-fit
 slice-aggregate-fit c =
     let d : Device = c .before .before .before .before .before .before .before .before .before .args .d in
     let s : List ℕ = c .before .before .before .before .before .before .before .before .before .args .s .now in
-    (ready d s (c .before .before .before .before .before .before .before .check-in-order .result) (c .before .before .items-of .result .now) (c .before .count-in .result) (dataRange d) (c .before .before .before .before .before .before .before .check-in-order .ensures) (c .before .before .before .before .before .before .if1 .left) (c .before .before .items-of .ensures) (c .before .count-in .ensures) refl) .exact
+    (prepared d s (c .before .before .before .before .before .before .before .check-in-order .result) (c .before .before .items-of .result .now) (c .before .count-in .result) (dataRange d) (c .before .before .before .before .before .before .before .check-in-order .ensures) (c .before .before .before .before .before .before .if1 .left) (c .before .before .items-of .ensures) (c .before .count-in .ensures) refl) .exact
 
 data-range-requires : tie.Need-data-range-requires
 data-range-requires c κs = search needs
@@ -62,14 +62,14 @@ fit-requires : tie.Need-fit-requires
 fit-requires c κs =
     let d : Device = c .before .before .before .before .before .before .before .before .before .before .args .d in
     let s : List ℕ = c .before .before .before .before .before .before .before .before .before .before .args .s .now in
-    (ready d s (c .before .before .before .before .before .before .before .before .check-in-order .result) (c .before .before .before .items-of .result .now) (c .before .before .count-in .result) (c .data-range .result) (c .before .before .before .before .before .before .before .before .check-in-order .ensures) (c .before .before .before .before .before .before .before .if1 .left) (c .before .before .before .items-of .ensures) (c .before .before .count-in .ensures) (c .data-range .ensures)) .chain
+    (prepared d s (c .before .before .before .before .before .before .before .before .check-in-order .result) (c .before .before .before .items-of .result .now) (c .before .before .count-in .result) (c .data-range .result) (c .before .before .before .before .before .before .before .before .check-in-order .ensures) (c .before .before .before .before .before .before .before .if1 .left) (c .before .before .before .items-of .ensures) (c .before .before .count-in .ensures) (c .data-range .ensures)) .chain
 
 returns-3 : tie.Need-returns-3
 returns-3 c =
     let d : Device = c .before .before .before .before .before .before .before .before .before .before .before .before .before .args .d in
     let s : List ℕ = c .before .before .before .before .before .before .before .before .before .before .before .before .before .args .s .now in
     let m : ℕ = c .before .before .before .before .before .before .before .before .before .before .before .before .before .args .m in
-    let w : Ready d s (c .before .before .before .before .before .before .before .before .before .before .before .check-in-order .result) (c .before .before .before .before .before .before .items-of .result .now) (c .before .before .before .before .before .count-in .result) (c .before .before .before .data-range .result) = ready d s (c .before .before .before .before .before .before .before .before .before .before .before .check-in-order .result) (c .before .before .before .before .before .before .items-of .result .now) (c .before .before .before .before .before .count-in .result) (c .before .before .before .data-range .result) (c .before .before .before .before .before .before .before .before .before .before .before .check-in-order .ensures) (c .before .before .before .before .before .before .before .before .before .before .if1 .left) (c .before .before .before .before .before .before .items-of .ensures) (c .before .before .before .before .before .count-in .ensures) (c .before .before .before .data-range .ensures) in
+    let w : Prepared d s (c .before .before .before .before .before .before .before .before .before .before .before .check-in-order .result) (c .before .before .before .before .before .before .items-of .result .now) (c .before .before .before .before .before .count-in .result) (c .before .before .before .data-range .result) = prepared d s (c .before .before .before .before .before .before .before .before .before .before .before .check-in-order .result) (c .before .before .before .before .before .before .items-of .result .now) (c .before .before .before .before .before .count-in .result) (c .before .before .before .data-range .result) (c .before .before .before .before .before .before .before .before .before .before .before .check-in-order .ensures) (c .before .before .before .before .before .before .before .before .before .before .if1 .left) (c .before .before .before .before .before .before .items-of .ensures) (c .before .before .before .before .before .count-in .ensures) (c .before .before .before .data-range .ensures) in
     let f : c .before .before .fit .result ≡ fitOf m (runsIn d s) = c .before .before .fit .ensures ∙ ap (fitOf m) (w .runs) in
     answer-no (RunFound.At (fitOf m (runsIn d s))) RunFound.Refused 20 (first (recordTests d s ++ fitTests (runsIn d s) m)) (fit-none d s (runsIn d s) m (c .before .before .fit .result) (w .zero) (c .before .before .before .before .before .before .before .before .before .if2 .left) f (c .if3 .taken)) (omega arith)
 
@@ -78,7 +78,7 @@ returns-4 c =
     let d : Device = c .before .before .before .before .before .before .before .before .before .before .before .before .before .args .d in
     let s : List ℕ = c .before .before .before .before .before .before .before .before .before .before .before .before .before .args .s .now in
     let m : ℕ = c .before .before .before .before .before .before .before .before .before .before .before .before .before .args .m in
-    let w : Ready d s (c .before .before .before .before .before .before .before .before .before .before .before .check-in-order .result) (c .before .before .before .before .before .before .items-of .result .now) (c .before .before .before .before .before .count-in .result) (c .before .before .before .data-range .result) = ready d s (c .before .before .before .before .before .before .before .before .before .before .before .check-in-order .result) (c .before .before .before .before .before .before .items-of .result .now) (c .before .before .before .before .before .count-in .result) (c .before .before .before .data-range .result) (c .before .before .before .before .before .before .before .before .before .before .before .check-in-order .ensures) (c .before .before .before .before .before .before .before .before .before .before .if1 .left) (c .before .before .before .before .before .before .items-of .ensures) (c .before .before .before .before .before .count-in .ensures) (c .before .before .before .data-range .ensures) in
+    let w : Prepared d s (c .before .before .before .before .before .before .before .before .before .before .before .check-in-order .result) (c .before .before .before .before .before .before .items-of .result .now) (c .before .before .before .before .before .count-in .result) (c .before .before .before .data-range .result) = prepared d s (c .before .before .before .before .before .before .before .before .before .before .before .check-in-order .result) (c .before .before .before .before .before .before .items-of .result .now) (c .before .before .before .before .before .count-in .result) (c .before .before .before .data-range .result) (c .before .before .before .before .before .before .before .before .before .before .before .check-in-order .ensures) (c .before .before .before .before .before .before .before .before .before .before .if1 .left) (c .before .before .before .before .before .before .items-of .ensures) (c .before .before .before .before .before .count-in .ensures) (c .before .before .before .data-range .ensures) in
     let f : c .before .before .fit .result ≡ fitOf m (runsIn d s) = c .before .before .fit .ensures ∙ ap (fitOf m) (w .runs) in
     ap RunFound.At f ∙ answer-yes (RunFound.At (fitOf m (runsIn d s))) RunFound.Refused 0 (first (recordTests d s ++ fitTests (runsIn d s) m)) (fit-some d s (runsIn d s) m (c .before .before .fit .result) (w .zero) (c .before .before .before .before .before .before .before .before .before .if2 .left) f (c .if3 .left)) refl
 

@@ -1,5 +1,5 @@
 -- `allocation::free_run_numbers` meets its contract.
-use Rattle.allocation.proofs.Calls.{Ready, ready, number-is, table-short, numbers-no, numbers-yes}
+use Rattle.allocation.proofs.Calls.{Prepared, prepared, number-is, table-short, numbers-no, numbers-yes}
 use Rattle.record.proofs.Testing.{more-no}
 use Rattle.refusal.specs.Tests.{first, _elseRefuse_}
 use Rattle.record.specs.Accept.{recordTests}
@@ -41,13 +41,13 @@ array-share-prefix-at : tie.Need-array-share-prefix-at
 array-share-prefix-at c =
     let d : Device = c .before .before .before .before .before .before .before .before .args .d in
     let s : List ℕ = c .before .before .before .before .before .before .before .before .args .s .now in
-    (ready d s (c .before .before .before .before .before .check-in-order .result) (c .before .items-of .result .now) (c .count-in .result) (dataRange d) (c .before .before .before .before .before .check-in-order .ensures) (c .before .before .before .before .if1 .left) (c .before .items-of .ensures) (c .count-in .ensures) refl) .inside
+    (prepared d s (c .before .before .before .before .before .check-in-order .result) (c .before .items-of .result .now) (c .count-in .result) (dataRange d) (c .before .before .before .before .before .check-in-order .ensures) (c .before .before .before .before .if1 .left) (c .before .items-of .ensures) (c .count-in .ensures) refl) .inside
 
 slice-aggregate-count-gaps : tie.Need-slice-aggregate-count-gaps
 slice-aggregate-count-gaps c =
     let d : Device = c .before .before .before .before .before .before .before .before .before .args .d in
     let s : List ℕ = c .before .before .before .before .before .before .before .before .before .args .s .now in
-    (ready d s (c .before .before .before .before .before .before .check-in-order .result) (c .before .before .items-of .result .now) (c .before .count-in .result) (dataRange d) (c .before .before .before .before .before .before .check-in-order .ensures) (c .before .before .before .before .before .if1 .left) (c .before .before .items-of .ensures) (c .before .count-in .ensures) refl) .exact
+    (prepared d s (c .before .before .before .before .before .before .check-in-order .result) (c .before .before .items-of .result .now) (c .before .count-in .result) (dataRange d) (c .before .before .before .before .before .before .check-in-order .ensures) (c .before .before .before .before .before .if1 .left) (c .before .before .items-of .ensures) (c .before .count-in .ensures) refl) .exact
 
 data-range-requires : tie.Need-data-range-requires
 data-range-requires c κs = search needs
@@ -56,14 +56,14 @@ count-gaps-requires : tie.Need-count-gaps-requires
 count-gaps-requires c κs =
     let d : Device = c .before .before .before .before .before .before .before .before .before .before .args .d in
     let s : List ℕ = c .before .before .before .before .before .before .before .before .before .before .args .s .now in
-    (ready d s (c .before .before .before .before .before .before .before .check-in-order .result) (c .before .before .before .items-of .result .now) (c .before .before .count-in .result) (c .data-range .result) (c .before .before .before .before .before .before .before .check-in-order .ensures) (c .before .before .before .before .before .before .if1 .left) (c .before .before .before .items-of .ensures) (c .before .before .count-in .ensures) (c .data-range .ensures)) .chain
+    (prepared d s (c .before .before .before .before .before .before .before .check-in-order .result) (c .before .before .before .items-of .result .now) (c .before .before .count-in .result) (c .data-range .result) (c .before .before .before .before .before .before .before .check-in-order .ensures) (c .before .before .before .before .before .before .if1 .left) (c .before .before .before .items-of .ensures) (c .before .before .count-in .ensures) (c .data-range .ensures)) .chain
 
 returns-2 : tie.Need-returns-2
 returns-2 c =
     let d : Device = c .before .before .before .before .before .before .before .before .before .before .before .before .args .d in
     let s : List ℕ = c .before .before .before .before .before .before .before .before .before .before .before .before .args .s .now in
     let t : List ℕ = c .before .before .before .before .before .before .before .before .before .before .before .before .args .table .now in
-    let w : Ready d s (c .before .before .before .before .before .before .before .before .before .check-in-order .result) (c .before .before .before .before .before .items-of .result .now) (c .before .before .before .before .count-in .result) (c .before .before .data-range .result) = ready d s (c .before .before .before .before .before .before .before .before .before .check-in-order .result) (c .before .before .before .before .before .items-of .result .now) (c .before .before .before .before .count-in .result) (c .before .before .data-range .result) (c .before .before .before .before .before .before .before .before .before .check-in-order .ensures) (c .before .before .before .before .before .before .before .before .if1 .left) (c .before .before .before .before .before .items-of .ensures) (c .before .before .before .before .count-in .ensures) (c .before .before .data-range .ensures) in
+    let w : Prepared d s (c .before .before .before .before .before .before .before .before .before .check-in-order .result) (c .before .before .before .before .before .items-of .result .now) (c .before .before .before .before .count-in .result) (c .before .before .data-range .result) = prepared d s (c .before .before .before .before .before .before .before .before .before .check-in-order .result) (c .before .before .before .before .before .items-of .result .now) (c .before .before .before .before .count-in .result) (c .before .before .data-range .result) (c .before .before .before .before .before .before .before .before .before .check-in-order .ensures) (c .before .before .before .before .before .before .before .before .if1 .left) (c .before .before .before .before .before .items-of .ensures) (c .before .before .before .before .count-in .ensures) (c .before .before .data-range .ensures) in
     let n : c .before .count-gaps .result ≡ length (runsIn d s) = c .before .count-gaps .ensures ∙ ap (λ (v : List Run). length v) (w .runs) in
     numbers-no d s t 1 (table-short d s (length t / 2) (w .zero) (let l : length t / 2 < length (runsIn d s) = omega (arith, c .if2 .taken) in l)) (omega arith)
 
@@ -71,13 +71,13 @@ array-share-prefix-at-2 : tie.Need-array-share-prefix-at-2
 array-share-prefix-at-2 c =
     let d : Device = c .before .before .before .before .before .before .before .before .before .before .before .before .args .d in
     let s : List ℕ = c .before .before .before .before .before .before .before .before .before .before .before .before .args .s .now in
-    (ready d s (c .before .before .before .before .before .before .before .before .before .check-in-order .result) (c .before .before .before .before .before .items-of .result .now) (c .before .before .before .before .count-in .result) (dataRange d) (c .before .before .before .before .before .before .before .before .before .check-in-order .ensures) (c .before .before .before .before .before .before .before .before .if1 .left) (c .before .before .before .before .before .items-of .ensures) (c .before .before .before .before .count-in .ensures) refl) .inside
+    (prepared d s (c .before .before .before .before .before .before .before .before .before .check-in-order .result) (c .before .before .before .before .before .items-of .result .now) (c .before .before .before .before .count-in .result) (dataRange d) (c .before .before .before .before .before .before .before .before .before .check-in-order .ensures) (c .before .before .before .before .before .before .before .before .if1 .left) (c .before .before .before .before .before .items-of .ensures) (c .before .before .before .before .count-in .ensures) refl) .inside
 
 slice-aggregate-fill-numbers : tie.Need-slice-aggregate-fill-numbers
 slice-aggregate-fill-numbers c =
     let d : Device = c .before .before .before .before .before .before .before .before .before .before .before .before .before .args .d in
     let s : List ℕ = c .before .before .before .before .before .before .before .before .before .before .before .before .before .args .s .now in
-    (ready d s (c .before .before .before .before .before .before .before .before .before .before .check-in-order .result) (c .before .before .before .before .before .before .items-of .result .now) (c .before .before .before .before .before .count-in .result) (dataRange d) (c .before .before .before .before .before .before .before .before .before .before .check-in-order .ensures) (c .before .before .before .before .before .before .before .before .before .if1 .left) (c .before .before .before .before .before .before .items-of .ensures) (c .before .before .before .before .before .count-in .ensures) refl) .exact
+    (prepared d s (c .before .before .before .before .before .before .before .before .before .before .check-in-order .result) (c .before .before .before .before .before .before .items-of .result .now) (c .before .before .before .before .before .count-in .result) (dataRange d) (c .before .before .before .before .before .before .before .before .before .before .check-in-order .ensures) (c .before .before .before .before .before .before .before .before .before .if1 .left) (c .before .before .before .before .before .before .items-of .ensures) (c .before .before .before .before .before .count-in .ensures) refl) .exact
 
 data-range-requires-2 : tie.Need-data-range-requires-2
 data-range-requires-2 c κs = search needs
@@ -87,9 +87,9 @@ fill-numbers-requires c κs =
     let d : Device = c .before .before .before .before .before .before .before .before .before .before .before .before .before .before .before .args .d in
     let s : List ℕ = c .before .before .before .before .before .before .before .before .before .before .before .before .before .before .before .args .s .now in
     let t : List ℕ = c .before .before .before .before .before .before .before .before .before .before .before .before .before .before .before .args .table .now in
-    let w : Ready d s (c .before .before .before .before .before .before .before .before .before .before .before .before .check-in-order .result) (c .before .before .before .before .before .before .before .before .items-of .result .now) (c .before .before .before .before .before .before .before .count-in .result) (c .before .before .before .before .before .data-range .result) = ready d s (c .before .before .before .before .before .before .before .before .before .before .before .before .check-in-order .result) (c .before .before .before .before .before .before .before .before .items-of .result .now) (c .before .before .before .before .before .before .before .count-in .result) (c .before .before .before .before .before .data-range .result) (c .before .before .before .before .before .before .before .before .before .before .before .before .check-in-order .ensures) (c .before .before .before .before .before .before .before .before .before .before .before .if1 .left) (c .before .before .before .before .before .before .before .before .items-of .ensures) (c .before .before .before .before .before .before .before .count-in .ensures) (c .before .before .before .before .before .data-range .ensures) in
+    let w : Prepared d s (c .before .before .before .before .before .before .before .before .before .before .before .before .check-in-order .result) (c .before .before .before .before .before .before .before .before .items-of .result .now) (c .before .before .before .before .before .before .before .count-in .result) (c .before .before .before .before .before .data-range .result) = prepared d s (c .before .before .before .before .before .before .before .before .before .before .before .before .check-in-order .result) (c .before .before .before .before .before .before .before .before .items-of .result .now) (c .before .before .before .before .before .before .before .count-in .result) (c .before .before .before .before .before .data-range .result) (c .before .before .before .before .before .before .before .before .before .before .before .before .check-in-order .ensures) (c .before .before .before .before .before .before .before .before .before .before .before .if1 .left) (c .before .before .before .before .before .before .before .before .items-of .ensures) (c .before .before .before .before .before .before .before .count-in .ensures) (c .before .before .before .before .before .data-range .ensures) in
     let n : c .before .before .before .before .count-gaps .result ≡ length (runsIn d s) = c .before .before .before .before .count-gaps .ensures ∙ ap (λ (v : List Run). length v) (w .runs) in
-    let v : Ready d s (c .before .before .before .before .before .before .before .before .before .before .before .before .check-in-order .result) (c .before .before .before .before .before .before .before .before .items-of .result .now) (c .before .before .before .before .before .before .before .count-in .result) (c .before .data-range2 .result) = ready d s (c .before .before .before .before .before .before .before .before .before .before .before .before .check-in-order .result) (c .before .before .before .before .before .before .before .before .items-of .result .now) (c .before .before .before .before .before .before .before .count-in .result) (c .before .data-range2 .result) (c .before .before .before .before .before .before .before .before .before .before .before .before .check-in-order .ensures) (c .before .before .before .before .before .before .before .before .before .before .before .if1 .left) (c .before .before .before .before .before .before .before .before .items-of .ensures) (c .before .before .before .before .before .before .before .count-in .ensures) (c .before .data-range2 .ensures) in
+    let v : Prepared d s (c .before .before .before .before .before .before .before .before .before .before .before .before .check-in-order .result) (c .before .before .before .before .before .before .before .before .items-of .result .now) (c .before .before .before .before .before .before .before .count-in .result) (c .before .data-range2 .result) = prepared d s (c .before .before .before .before .before .before .before .before .before .before .before .before .check-in-order .result) (c .before .before .before .before .before .before .before .before .items-of .result .now) (c .before .before .before .before .before .before .before .count-in .result) (c .before .data-range2 .result) (c .before .before .before .before .before .before .before .before .before .before .before .before .check-in-order .ensures) (c .before .before .before .before .before .before .before .before .before .before .before .if1 .left) (c .before .before .before .before .before .before .before .before .items-of .ensures) (c .before .before .before .before .before .before .before .count-in .ensures) (c .before .data-range2 .ensures) in
     let l : length (runsIn d s) ≡ length (walked (c .before .data-range2 .result) (segmentsIn (c .before .before .before .before .before .before .before .before .items-of .result .now)) (take (c .before .before .before .before .before .before .before .count-in .result) (c .before .before .before .before .before .before .before .before .before .before .before .before .check-in-order .result .order .at))) = sym (ap (λ (x : List Run). length x) (v .runs)) in
     let h : c .before .before .before .before .count-gaps .result ≤ length t / 2 = omega (arith, c .before .before .before .if2 .left) in
     ((λ _. v .chain), (omega arith, omega arith))
@@ -102,9 +102,9 @@ returns-3 c =
     let d : Device = c .before .before .before .before .before .before .before .before .before .before .before .before .before .before .before .before .before .before .args .d in
     let s : List ℕ = c .before .before .before .before .before .before .before .before .before .before .before .before .before .before .before .before .before .before .args .s .now in
     let t : List ℕ = c .before .before .before .before .before .before .before .before .before .before .before .before .before .before .before .before .before .before .args .table .now in
-    let w : Ready d s (c .before .before .before .before .before .before .before .before .before .before .before .before .before .before .before .check-in-order .result) (c .before .before .before .before .before .before .before .before .before .before .before .items-of .result .now) (c .before .before .before .before .before .before .before .before .before .before .count-in .result) (c .before .before .before .before .before .before .before .before .data-range .result) = ready d s (c .before .before .before .before .before .before .before .before .before .before .before .before .before .before .before .check-in-order .result) (c .before .before .before .before .before .before .before .before .before .before .before .items-of .result .now) (c .before .before .before .before .before .before .before .before .before .before .count-in .result) (c .before .before .before .before .before .before .before .before .data-range .result) (c .before .before .before .before .before .before .before .before .before .before .before .before .before .before .before .check-in-order .ensures) (c .before .before .before .before .before .before .before .before .before .before .before .before .before .before .if1 .left) (c .before .before .before .before .before .before .before .before .before .before .before .items-of .ensures) (c .before .before .before .before .before .before .before .before .before .before .count-in .ensures) (c .before .before .before .before .before .before .before .before .data-range .ensures) in
+    let w : Prepared d s (c .before .before .before .before .before .before .before .before .before .before .before .before .before .before .before .check-in-order .result) (c .before .before .before .before .before .before .before .before .before .before .before .items-of .result .now) (c .before .before .before .before .before .before .before .before .before .before .count-in .result) (c .before .before .before .before .before .before .before .before .data-range .result) = prepared d s (c .before .before .before .before .before .before .before .before .before .before .before .before .before .before .before .check-in-order .result) (c .before .before .before .before .before .before .before .before .before .before .before .items-of .result .now) (c .before .before .before .before .before .before .before .before .before .before .count-in .result) (c .before .before .before .before .before .before .before .before .data-range .result) (c .before .before .before .before .before .before .before .before .before .before .before .before .before .before .before .check-in-order .ensures) (c .before .before .before .before .before .before .before .before .before .before .before .before .before .before .if1 .left) (c .before .before .before .before .before .before .before .before .before .before .before .items-of .ensures) (c .before .before .before .before .before .before .before .before .before .before .count-in .ensures) (c .before .before .before .before .before .before .before .before .data-range .ensures) in
     let n : c .before .before .before .before .before .before .before .count-gaps .result ≡ length (runsIn d s) = c .before .before .before .before .before .before .before .count-gaps .ensures ∙ ap (λ (v : List Run). length v) (w .runs) in
-    let v : Ready d s (c .before .before .before .before .before .before .before .before .before .before .before .before .before .before .before .check-in-order .result) (c .before .before .before .before .before .before .before .before .before .before .before .items-of .result .now) (c .before .before .before .before .before .before .before .before .before .before .count-in .result) (c .before .before .before .before .data-range2 .result) = ready d s (c .before .before .before .before .before .before .before .before .before .before .before .before .before .before .before .check-in-order .result) (c .before .before .before .before .before .before .before .before .before .before .before .items-of .result .now) (c .before .before .before .before .before .before .before .before .before .before .count-in .result) (c .before .before .before .before .data-range2 .result) (c .before .before .before .before .before .before .before .before .before .before .before .before .before .before .before .check-in-order .ensures) (c .before .before .before .before .before .before .before .before .before .before .before .before .before .before .if1 .left) (c .before .before .before .before .before .before .before .before .before .before .before .items-of .ensures) (c .before .before .before .before .before .before .before .before .before .before .count-in .ensures) (c .before .before .before .before .data-range2 .ensures) in
+    let v : Prepared d s (c .before .before .before .before .before .before .before .before .before .before .before .before .before .before .before .check-in-order .result) (c .before .before .before .before .before .before .before .before .before .before .before .items-of .result .now) (c .before .before .before .before .before .before .before .before .before .before .count-in .result) (c .before .before .before .before .data-range2 .result) = prepared d s (c .before .before .before .before .before .before .before .before .before .before .before .before .before .before .before .check-in-order .result) (c .before .before .before .before .before .before .before .before .before .before .before .items-of .result .now) (c .before .before .before .before .before .before .before .before .before .before .count-in .result) (c .before .before .before .before .data-range2 .result) (c .before .before .before .before .before .before .before .before .before .before .before .before .before .before .before .check-in-order .ensures) (c .before .before .before .before .before .before .before .before .before .before .before .before .before .before .if1 .left) (c .before .before .before .before .before .before .before .before .before .before .before .items-of .ensures) (c .before .before .before .before .before .before .before .before .before .before .count-in .ensures) (c .before .before .before .before .data-range2 .ensures) in
     let l : c .before .before .before .before .before .before .before .count-gaps .result ≡ length (walked (c .before .before .before .before .data-range2 .result) (segmentsIn (c .before .before .before .before .before .before .before .before .before .before .before .items-of .result .now)) (take (c .before .before .before .before .before .before .before .before .before .before .count-in .result) (c .before .before .before .before .before .before .before .before .before .before .before .before .before .before .before .check-in-order .result .order .at))) = n ∙ sym (ap (λ (x : List Run). length x) (v .runs)) in
     numbers-yes d s t (c .before .before .before .before .before .before .before .count-gaps .result) (walked (c .before .before .before .before .data-range2 .result) (segmentsIn (c .before .before .before .before .before .before .before .before .before .before .before .items-of .result .now)) (take (c .before .before .before .before .before .before .before .before .before .before .count-in .result) (c .before .before .before .before .before .before .before .before .before .before .before .before .before .before .before .check-in-order .result .order .at))) (c .before .before .fill-numbers .last .1 .1 .1 .1 .0) (v .runs) l (v .zero) (let h : c .before .before .before .before .before .before .before .count-gaps .result ≤ length t / 2 = omega (arith, c .before .before .before .before .before .before .if2 .left) in h) (c .before .before .fill-numbers .ensures)
 

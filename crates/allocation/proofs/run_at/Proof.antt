@@ -1,5 +1,5 @@
 -- `allocation::run_at` meets its contract.
-use Rattle.allocation.proofs.Calls.{Ready, ready, number-is}
+use Rattle.allocation.proofs.Calls.{Prepared, prepared, number-is}
 use Rattle.refusal.proofs.Order.{answer-no, answer-yes}
 use Rattle.refusal.specs.Tests.{first}
 use Rattle.record.specs.Accept.{recordTests}
@@ -35,13 +35,13 @@ array-share-prefix-at : tie.Need-array-share-prefix-at
 array-share-prefix-at c =
     let d : Device = c .before .before .before .before .before .before .before .args .d in
     let s : List ℕ = c .before .before .before .before .before .before .before .args .s .now in
-    (ready d s (c .before .before .before .before .before .check-in-order .result) (c .before .items-of .result .now) (c .count-in .result) (dataRange d) (c .before .before .before .before .before .check-in-order .ensures) (c .before .before .before .before .if1 .left) (c .before .items-of .ensures) (c .count-in .ensures) refl) .inside
+    (prepared d s (c .before .before .before .before .before .check-in-order .result) (c .before .items-of .result .now) (c .count-in .result) (dataRange d) (c .before .before .before .before .before .check-in-order .ensures) (c .before .before .before .before .if1 .left) (c .before .items-of .ensures) (c .count-in .ensures) refl) .inside
 
 slice-aggregate-gap-at : tie.Need-slice-aggregate-gap-at
 slice-aggregate-gap-at c =
     let d : Device = c .before .before .before .before .before .before .before .before .args .d in
     let s : List ℕ = c .before .before .before .before .before .before .before .before .args .s .now in
-    (ready d s (c .before .before .before .before .before .before .check-in-order .result) (c .before .before .items-of .result .now) (c .before .count-in .result) (dataRange d) (c .before .before .before .before .before .before .check-in-order .ensures) (c .before .before .before .before .before .if1 .left) (c .before .before .items-of .ensures) (c .before .count-in .ensures) refl) .exact
+    (prepared d s (c .before .before .before .before .before .before .check-in-order .result) (c .before .before .items-of .result .now) (c .before .count-in .result) (dataRange d) (c .before .before .before .before .before .before .check-in-order .ensures) (c .before .before .before .before .before .if1 .left) (c .before .before .items-of .ensures) (c .before .count-in .ensures) refl) .exact
 
 data-range-requires : tie.Need-data-range-requires
 data-range-requires c κs = search needs
@@ -50,14 +50,14 @@ gap-at-requires : tie.Need-gap-at-requires
 gap-at-requires c κs =
     let d : Device = c .before .before .before .before .before .before .before .before .before .args .d in
     let s : List ℕ = c .before .before .before .before .before .before .before .before .before .args .s .now in
-    (ready d s (c .before .before .before .before .before .before .before .check-in-order .result) (c .before .before .before .items-of .result .now) (c .before .before .count-in .result) (c .data-range .result) (c .before .before .before .before .before .before .before .check-in-order .ensures) (c .before .before .before .before .before .before .if1 .left) (c .before .before .before .items-of .ensures) (c .before .before .count-in .ensures) (c .data-range .ensures)) .chain
+    (prepared d s (c .before .before .before .before .before .before .before .check-in-order .result) (c .before .before .before .items-of .result .now) (c .before .before .count-in .result) (c .data-range .result) (c .before .before .before .before .before .before .before .check-in-order .ensures) (c .before .before .before .before .before .before .if1 .left) (c .before .before .before .items-of .ensures) (c .before .before .count-in .ensures) (c .data-range .ensures)) .chain
 
 returns-2 : tie.Need-returns-2
 returns-2 c =
     let d : Device = c .before .before .before .before .before .before .before .before .before .before .args .d in
     let s : List ℕ = c .before .before .before .before .before .before .before .before .before .before .args .s .now in
     let k : ℕ = c .before .before .before .before .before .before .before .before .before .before .args .k in
-    let w : Ready d s (c .before .before .before .before .before .before .before .before .check-in-order .result) (c .before .before .before .before .items-of .result .now) (c .before .before .before .count-in .result) (c .before .data-range .result) = ready d s (c .before .before .before .before .before .before .before .before .check-in-order .result) (c .before .before .before .before .items-of .result .now) (c .before .before .before .count-in .result) (c .before .data-range .result) (c .before .before .before .before .before .before .before .before .check-in-order .ensures) (c .before .before .before .before .before .before .before .if1 .left) (c .before .before .before .before .items-of .ensures) (c .before .before .before .count-in .ensures) (c .before .data-range .ensures) in
+    let w : Prepared d s (c .before .before .before .before .before .before .before .before .check-in-order .result) (c .before .before .before .before .items-of .result .now) (c .before .before .before .count-in .result) (c .before .data-range .result) = prepared d s (c .before .before .before .before .before .before .before .before .check-in-order .result) (c .before .before .before .before .items-of .result .now) (c .before .before .before .count-in .result) (c .before .data-range .result) (c .before .before .before .before .before .before .before .before .check-in-order .ensures) (c .before .before .before .before .before .before .before .if1 .left) (c .before .before .before .before .items-of .ensures) (c .before .before .before .count-in .ensures) (c .before .data-range .ensures) in
     ap RunFound.At (c .gap-at .ensures ∙ ap (λ (z : List Run). runAt z k) (w .runs))
     ∙ answer-yes (RunFound.At (runAt (runsIn d s) k)) RunFound.Refused 0 (first (recordTests d s)) (sym (w .zero)) refl
 
