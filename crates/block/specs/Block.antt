@@ -9,7 +9,7 @@ use Rattle.checksum.specs.Crc.{checksum}
 use Rattle.refusal.specs.Numbers.{sliceSize, signature, blockChecksum, deviceSize, notZero, uuidByte, metadataSize, reservedSize, areaEntry}
 use Rattle.refusal.specs.Tests.{Test, _elseRefuse_, first}
 use Rattle.layout.specs.declared.Device.{Device}
-use Rattle.layout.specs.Limits.{sizeAllowed, metadataAllowed, reservedAllowed}
+use Rattle.layout.specs.Limits.{sizeAllowed, metadataAllowed, reservedAllowed, sectorBytes}
 use Rattle.block.specs.declared.Entry.{Entry}
 use Rattle.block.specs.declared.BlockFields.{BlockFields}
 use Rattle.block.specs.declared.Reading.{Reading}
@@ -76,7 +76,7 @@ limitTests p u f =
 -- the tests of a block that is read, 1 to 9
 abbrev pub readTests : List ℕ → List Test
 readTests b =
-    (eqb (length b) 512 elseRefuse sliceSize)
+    (eqb (length b) sectorBytes elseRefuse sliceSize)
     ∷ (same (window b 4 16) signatureBytes elseRefuse signature)
     ∷ (checksumRight b elseRefuse blockChecksum)
     ∷ (sizeAllowed (number b 20 8) elseRefuse deviceSize)

@@ -8,7 +8,7 @@ use Rattle.endian.specs.Bytes.{toLe, window, splice, zeros}
 use Rattle.checksum.specs.Crc.{checksum}
 use Rattle.refusal.specs.Numbers.{sliceSize, deviceSize}
 use Rattle.refusal.specs.Tests.{Test, _elseRefuse_, first}
-use Rattle.layout.specs.Limits.{sizeAllowed}
+use Rattle.layout.specs.Limits.{sizeAllowed, sectorBytes}
 use Rattle.block.specs.declared.Holding.{Holding}
 use Rattle.block.specs.declared.Entry.{Entry}
 use Rattle.block.specs.declared.Entry.the-variants.{Unused, Used}
@@ -54,7 +54,7 @@ sealed b = splice b 0 (toLe 4 (checksum (window b 4 508)))
 -- the tests of a writer: what a reader would refuse, 1, 4, 6 to 9
 abbrev pub writeTests : List ℕ → List ℕ → List ℕ → BlockFields → List Test
 writeTests out p u f =
-    (eqb (length out) 512 && (eqb (length p) 32 && eqb (length u) 32) elseRefuse sliceSize)
+    (eqb (length out) sectorBytes && (eqb (length p) 32 && eqb (length u) 32) elseRefuse sliceSize)
     ∷ (sizeAllowed (f .device .sectors) elseRefuse deviceSize)
     ∷ limitTests p u f
 

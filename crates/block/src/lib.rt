@@ -254,7 +254,7 @@ fn limit_refusal(pool: &[u8], blockdev: &[u8], f: BlockFields) -> u8
 fn read_refusal(s: &[u8]) -> u8
     ensures { λ r. ⌜ r ≡ first (readTests (now (s .entry))) ⌝ }
 {
-    let whole = s.len() == 512;
+    let whole = s.len() == layout::SECTOR_BYTES;
     if !whole {
         return refusal::SLICE_SIZE;
     }
@@ -371,7 +371,7 @@ fn seal(b: &mut [u8])
 fn write_refusal(out: &[u8], pool: &[u8], blockdev: &[u8], f: BlockFields) -> u8
     ensures { λ r. ⌜ r ≡ first (writeTests (now (out .entry)) (now (pool .entry)) (now (blockdev .entry)) f) ⌝ }
 {
-    let whole = (out.len() == 512) & ((pool.len() == 32) & (blockdev.len() == 32));
+    let whole = (out.len() == layout::SECTOR_BYTES) & ((pool.len() == 32) & (blockdev.len() == 32));
     if !whole {
         return refusal::SLICE_SIZE;
     }

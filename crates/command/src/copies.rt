@@ -19,9 +19,6 @@ pub(crate) const BYTES: usize = layout::COPY_BYTES;
 
 pub(crate) const SECTORS: usize = BYTES / layout::SECTOR_BYTES;
 
-// The smallest device, in sectors.
-pub(crate) const SMALLEST: u64 = 2097152;
-
 // What is known of an open image: its sectors, the device numbers by which its copies were found (0 sectors where no block is
 // accepted), and whether all that matters to discovery was read.
 pub(crate) struct Look {
@@ -91,16 +88,16 @@ fn wide(x: u8) -> u64 {
 
 // What a sector holds that was read with this answer; filler where it was not. `sectors` says that the filler does not matter
 // where the copies are sure.
-fn or_filler(e: u64, s: [u8; 512]) -> [u8; 512] {
+fn or_filler(e: u64, s: [u8; layout::SECTOR_BYTES]) -> [u8; layout::SECTOR_BYTES] {
     if e != image::DONE {
-        return [0xa5u8; 512];
+        return [0xa5u8; layout::SECTOR_BYTES];
     }
     s
 }
 
 // Reads sector i of a side's copy to its place, or leaves a mark.
 fn read_sector(fd: i32, side: Side, d: Device, i: usize, copy: &mut [u8], marks: &mut [u8]) {
-    let mut s = [0u8; 512];
+    let mut s = [0u8; layout::SECTOR_BYTES];
     let e = image::read(fd, sectors::sector_at(side, d, i), &mut s);
     let t = or_filler(e, s);
     endian::put(copy, place(i), &t);
@@ -113,7 +110,7 @@ fn place(i: usize) -> usize {
     if SECTORS <= i {
         return BYTES;
     }
-    i * 512
+    i * layout::SECTOR_BYTES
 }
 
 // Reads the sectors of a side's copy from number `first` up to, not including, `end`.

@@ -61,7 +61,7 @@ fn seen(e: u64, sector: u64, s: &[u8]) -> Zeros {
 
 // Looks at a sector.
 fn look_at(fd: i32, sector: u64) -> Zeros {
-    let mut s = [0u8; 512];
+    let mut s = [0u8; layout::SECTOR_BYTES];
     let e = image::read(fd, sector, &mut s);
     seen(e, sector, &s)
 }
@@ -75,7 +75,7 @@ fn look_on(fd: i32, sector: u64) -> Zeros {
 
 // The sector that a byte of a part is in.
 fn later(sector: u64, at: usize) -> u64 {
-    let k = at as u64 / 512;
+    let k = at as u64 / layout::SECTOR_BYTES as u64;
     if 18446744073709551615 - sector < k {
         return sector;
     }
@@ -118,7 +118,7 @@ fn look_through(fd: i32, first: u64, end: u64) -> Zeros {
 
 // Whether the front's block is a pool's.
 fn holds_pool(fd: i32) -> bool {
-    let mut s = [0u8; 512];
+    let mut s = [0u8; layout::SECTOR_BYTES];
     let e = image::read(fd, 1, &mut s);
     let r = block::read(&s);
     let v = r.verdict;

@@ -189,14 +189,14 @@ pub(crate) fn refuse(path: &[u8], n: u8) -> u8 {
 // A refusal by discovery: where no block is accepted in an image that is shorter than any pool, that is said.
 pub(crate) fn refuse_found(path: &[u8], look: Look, n: u8) -> u8 {
     let d = look.device;
-    if (d.sectors == 0) & (look.sectors < copies::SMALLEST) {
+    if (d.sectors == 0) & (look.sectors < layout::LEAST_SECTORS) {
         note(
             path,
             Text::new()
                 .add(b"no pool is found; the image has ")
                 .decimal(look.sectors)
                 .add(b" sectors, and a pool takes ")
-                .decimal(copies::SMALLEST)
+                .decimal(layout::LEAST_SECTORS)
                 .add(b" (1 GiB) at least"),
         );
     }
@@ -343,7 +343,7 @@ pub(crate) fn print_identity(ok: bool, front: &[u8], back: &[u8]) -> bool {
 // A text with a number of sectors as a size, to a tenth of its unit.
 pub(crate) fn add_size(t: Text, sectors: u64) -> Text {
     if sectors < 2 {
-        return t.decimal(sectors * 512).add(b" B");
+        return t.decimal(sectors * layout::SECTOR_BYTES as u64).add(b" B");
     }
     if sectors < 2048 {
         return add_units(t, sectors, 2).add(b" KiB");

@@ -21,7 +21,7 @@ fn place(sector: u64, done: usize) -> i64 {
     if 65535 < done {
         return -1;
     }
-    (sector * 512 + done as u64) as i64
+    (sector * layout::SECTOR_BYTES as u64 + done as u64) as i64
 }
 
 // How many whole sectors the image has; 0 where that cannot be told.
@@ -30,7 +30,7 @@ pub(crate) fn sectors(fd: i32) -> u64 {
     if n < 0 {
         return 0;
     }
-    n as u64 / 512
+    n as u64 / layout::SECTOR_BYTES as u64
 }
 
 // What a call that moved nothing means: the end of the image, or an error.

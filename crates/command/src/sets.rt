@@ -11,7 +11,7 @@ use text::Text;
 // Entries, the bytes of one, and the bytes of a set.
 pub(crate) const ENTRIES: usize = 2 * copies::SECTORS;
 
-pub(crate) const STRIDE: usize = 528;
+pub(crate) const STRIDE: usize = 16 + layout::SECTOR_BYTES;
 
 pub(crate) const BYTES: usize = ENTRIES * STRIDE;
 
@@ -38,7 +38,7 @@ fn offset(i: usize) -> usize {
     if copies::SECTORS <= i {
         return copies::BYTES;
     }
-    i * 512
+    i * layout::SECTOR_BYTES
 }
 
 // Puts sector i of a side's copy into entry k of the set.
@@ -46,7 +46,11 @@ fn put_entry(set: &mut [u8], k: usize, side: Side, d: Device, i: usize, copy: &[
     let at = place(k);
     endian::write_u64(set, at, sectors::sector_at(side, d, i));
     endian::write_u64(set, at + 8, copies::mark_at(marks, i));
-    endian::put(set, at + 16, endian::window(copy, offset(i), 512));
+    endian::put(
+        set,
+        at + 16,
+        endian::window(copy, offset(i), layout::SECTOR_BYTES),
+    );
 }
 
 // Puts the sectors of a side's copy into the entries from `first` on.
@@ -75,7 +79,7 @@ pub(crate) fn fill(
 
 // The bytes of an entry.
 pub(crate) fn bytes_at(set: &[u8], k: usize) -> &[u8] {
-    endian::window(set, place(k) + 16, 512)
+    endian::window(set, place(k) + 16, layout::SECTOR_BYTES)
 }
 
 // Puts the bytes of entry k to sector i of a copy.

@@ -15,9 +15,9 @@ use update::Plan;
 
 // The most stores that an update or a mend has, and the bytes of the list of them: for each store its sector's number, then
 // its 512 bytes.
-pub(crate) const MOST: u64 = 2 * (layout::RECORD_LIMIT / 512) + 2;
+pub(crate) const MOST: u64 = 2 * (layout::RECORD_LIMIT / layout::SECTOR_BYTES as u64) + 2;
 
-pub(crate) const STRIDE: usize = 520;
+pub(crate) const STRIDE: usize = 8 + layout::SECTOR_BYTES;
 
 pub(crate) const LIST: usize = MOST as usize * STRIDE;
 
@@ -63,7 +63,7 @@ fn place(i: u64) -> usize
 
 // Puts a store into the list; whether there is such a store.
 fn list_store(w: Work, f: &[u8], b: &[u8], r: &[u8], i: u64, list: &mut [u8]) -> bool {
-    let mut s = [0u8; 512];
+    let mut s = [0u8; layout::SECTOR_BYTES];
     let g = given(w, f, b, r, i, &mut s);
     let sector = match g {
         Given::At(x) => x,
@@ -132,7 +132,12 @@ pub(crate) fn flush(fd: i32, path: &[u8], due: bool) -> bool {
 fn write_store(fd: i32, path: &[u8], w: Work, i: u64, list: &[u8]) -> bool {
     let at = place(i);
     let sector = endian::read_u64(list, at);
-    if !write(fd, path, sector, endian::window(list, at + 8, 512)) {
+    if !write(
+        fd,
+        path,
+        sector,
+        endian::window(list, at + 8, layout::SECTOR_BYTES),
+    ) {
         return false;
     }
     if i == 18446744073709551615 {
@@ -185,14 +190,19 @@ fn add_block(t: Text, f: BlockFields, last: bool) -> Text {
 
 // A text with the part of a record of n bytes that a store holds, sector j of it.
 fn add_part(t: Text, n: u64, j: u64) -> Text {
-    if n <= 512 {
+    let s = layout::SECTOR_BYTES as u64;
+    if n <= s {
         return t.add(b"record, ").decimal(n).add(b" bytes");
     }
     if MOST < j {
         return t;
     }
-    let first = 512 * j;
-    let last = if n < first + 512 { n - 1 } else { first + 511 };
+    let first = s * j;
+    let last = if n < first + s {
+        n - 1
+    } else {
+        first + (s - 1)
+    };
     t.add(b"record, bytes ")
         .decimal(first)
         .add(b" to ")
@@ -250,7 +260,7 @@ fn add_store(t: Text, w: Work, i: u64, n: u64, s: &[u8]) -> Text {
 // Prints the line of a store of the list; n is the record's length.
 fn print_store(ok: bool, w: Work, i: u64, n: u64, list: &[u8]) -> bool {
     let at = place(i);
-    let bytes = endian::window(list, at + 8, 512);
+    let bytes = endian::window(list, at + 8, layout::SECTOR_BYTES);
     let t = Text::new()
         .add(b"store ")
         .decimal(i)

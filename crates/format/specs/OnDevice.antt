@@ -10,7 +10,7 @@ use Rattle.layout.specs.declared.Side.{Side}
 use Rattle.layout.specs.declared.Side.the-variants.{Front, Back}
 use Rattle.layout.specs.declared.Area.{Area}
 use Rattle.layout.specs.declared.Area.the-variants.{A, B}
-use Rattle.layout.specs.Limits.{headerSectors, headerBytes, recordLimit}
+use Rattle.layout.specs.Limits.{sectorBytes, headerSectors, headerBytes, recordLimit}
 use Rattle.layout.specs.Places.{headerSector, areaSector}
 use Rattle.copy.specs.Copy.{areaBytes}
 use Rattle.crash.specs.Crash.{Sectors, areaSectors}
@@ -27,8 +27,8 @@ has q n = ltb n (q .start + q .sectors) && leb (q .start) n
 
 -- the device that holds these runs
 unfoldable pub holding : List Run → Sectors
-holding [] n = zeros 512
-holding (q ∷ qs) n = cond (has q n) (window (q .content) (512 * (n - q .start)) 512) (holding qs n)
+holding [] n = zeros sectorBytes
+holding (q ∷ qs) n = cond (has q n) (window (q .content) (sectorBytes * (n - q .start)) sectorBytes) (holding qs n)
 
 -- a copy's header, and as much of an area as a record can fill
 abbrev pub headerRun : Side → Device → List ℕ → Run

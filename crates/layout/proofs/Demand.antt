@@ -6,4 +6,4 @@ use Rattle.layout.specs.Demand.{Sizes}
 
 pub sizes : Sizes
 unfolding recordLimit areaOffset copyBytes
-sizes = record { nanoseconds = refl; record-bytes = refl; copy-bytes = refl; area-a = refl; area-b = refl; places = refl }
+sizes = record { nanoseconds = refl; sector-bytes = refl; record-bytes = refl; copy-bytes = refl; area-a = refl; area-b = refl; places = refl }

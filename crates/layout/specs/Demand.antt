@@ -4,12 +4,13 @@ use Prim.Native.Nat.{ℕ}
 use mathlib.Core.Path.{_≡_}
 use mathlib.Core.List.{List, [], _∷_}
 use Rattle.layout.specs.declared.Area.the-variants.{A, B}
-use Rattle.layout.specs.Limits.{mostNanoseconds, recordLimit}
+use Rattle.layout.specs.Limits.{mostNanoseconds, sectorBytes, recordLimit}
 use Rattle.layout.specs.Places.{areaOffset, copyBytes, mapOf}
 use Rattle.layout.specs.Answers.{mapNumbers}
 
 pub record Sizes : Type 0 where
   pub nanoseconds : mostNanoseconds ≡ 999999999
+  pub sector-bytes : sectorBytes ≡ 512
   pub record-bytes : recordLimit ≡ 8192
   pub copy-bytes : copyBytes ≡ 20480
   pub area-a : areaOffset A ≡ 4096

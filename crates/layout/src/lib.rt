@@ -9,6 +9,12 @@ ghost use Rattle.layout.specs.Places.{blockSector, areaSector, dataStart
 
 pub const SECTOR_BYTES: usize = 512;
 
+// Added to a number of bytes, it rounds that up to whole sectors.
+pub const ROUND_UP: usize = SECTOR_BYTES - 1;
+
+// The sectors of the smallest device.
+pub const LEAST_SECTORS: u64 = 2097152;
+
 // A copy's header.
 pub const HEADER_SECTORS: u64 = 8;
 
@@ -80,7 +86,7 @@ pub enum Located {
 pub fn size_allowed(s: u64) -> bool
     ensures { λ r. ⌜ r ≡ sizeAllowed s ⌝ }
 {
-    2097152 <= s
+    LEAST_SECTORS <= s
 }
 
 // Whether L is allowed.

@@ -88,7 +88,7 @@ fn sectors_for(n: u32) -> usize
     ensures { λ r. ⌜ n ≤ 512 * r ⌝ }
     ensures { λ r. ⌜ 512 * r < n + 512 ⌝ }
 {
-    (n as usize + 511) / layout::SECTOR_BYTES
+    (n as usize + layout::ROUND_UP) / layout::SECTOR_BYTES
 }
 
 // Whether an entry names sector j of its area.

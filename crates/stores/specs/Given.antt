@@ -8,7 +8,7 @@ use Rattle.endian.specs.Bytes.{window, zeros, splice}
 use Rattle.refusal.specs.Numbers.{sliceSize, recordLength, noStore}
 use Rattle.refusal.specs.Tests.{Test, _elseRefuse_, first}
 use Rattle.layout.specs.declared.Area.{Area}
-use Rattle.layout.specs.Limits.{lengthAllowed}
+use Rattle.layout.specs.Limits.{sectorBytes, lengthAllowed}
 use Rattle.layout.specs.Places.{areaOffset}
 use Rattle.block.specs.declared.BlockFields.{BlockFields}
 use Rattle.block.specs.Block.{poolOf, blockdevOf}
@@ -22,7 +22,7 @@ use Rattle.stores.specs.Stores.{sectorsOf}
 
 -- a sector of the record and zeros after it; zeros alone where it has no room
 abbrev pub sectorIn : List ℕ → ℕ → List ℕ → List ℕ
-sectorIn r j out = splice (zeros (length out)) 0 (window r (512 * j) 512)
+sectorIn r j out = splice (zeros (length out)) 0 (window r (sectorBytes * j) sectorBytes)
 
 -- sector a + j has a number: it is at most 2^64 - 1
 abbrev pub within : ℕ → ℕ → Bool
@@ -60,7 +60,7 @@ partBytes p k c r j out =
 -- the same of any slices: 1 for another size, 15 for a length that no record has, 23 past the block
 abbrev pub partTests : ℕ → List ℕ → List ℕ → ℕ → List ℕ → List Test
 partTests k c r j out =
-    (isCopy c && eqb (length out) 512 elseRefuse sliceSize) ∷ (lengthAllowed (length r) elseRefuse recordLength) ∷ (leb j k elseRefuse noStore) ∷ []
+    (isCopy c && eqb (length out) sectorBytes elseRefuse sliceSize) ∷ (lengthAllowed (length r) elseRefuse recordLength) ∷ (leb j k elseRefuse noStore) ∷ []
 
 abbrev pub partGiven : Part → ℕ → List ℕ → List ℕ → ℕ → List ℕ → Given
 partGiven p k c r j out = cond (eqb (first (partTests k c r j out)) 0) (partAnswer p k c j out) (Given.Refused (first (partTests k c r j out)))
@@ -70,7 +70,7 @@ partLeft p k c r j out = cond (eqb (first (partTests k c r j out)) 0) (partBytes
 
 -- the slices have their sizes: two copies, and 512 bytes
 abbrev pub lentRight : List ℕ → List ℕ → List ℕ → Bool
-lentRight f b out = sized f b && eqb (length out) 512
+lentRight f b out = sized f b && eqb (length out) sectorBytes
 
 -- a record laid into a copy's area: its bytes at the area's offset, its last sector filled with zeros
 abbrev pub layTests : List ℕ → List ℕ → List Test
@@ -78,4 +78,4 @@ layTests c r = (isCopy c elseRefuse sliceSize) ∷ (lengthAllowed (length r) els
 
 unfoldable pub laid : List ℕ → Area → List ℕ → List ℕ
 laid c x r =
-    cond (eqb (first (layTests c r)) 0) (splice c (areaOffset x) (r ++ zeros (sectorsOf (length r) * 512 - length r))) c
+    cond (eqb (first (layTests c r)) 0) (splice c (areaOffset x) (r ++ zeros (sectorsOf (length r) * sectorBytes - length r))) c

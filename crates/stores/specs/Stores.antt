@@ -8,6 +8,7 @@ use Rattle.layout.specs.declared.Device.{Device}
 use Rattle.layout.specs.declared.Side.{Side}
 use Rattle.layout.specs.declared.Area.{Area}
 use Rattle.layout.specs.declared.Area.the-variants.{A, B}
+use Rattle.layout.specs.Limits.{sectorBytes}
 use Rattle.layout.specs.Places.{blockSector}
 use Rattle.block.specs.declared.Time.{Time}
 use Rattle.block.specs.declared.Holding.{Holding}
@@ -17,11 +18,11 @@ use Rattle.crash.specs.Crash.{Store, storesFrom}
 
 -- k = ceiling(length / 512)
 unfoldable pub sectorsOf : ℕ → ℕ
-sectorsOf n = (n + 511) / 512
+sectorsOf n = (n + (sectorBytes - 1)) / sectorBytes
 
 -- sector j of a record, the last one filled with zeros
 unfoldable pub sectorOf : List ℕ → ℕ → List ℕ
-sectorOf r j = window r (512 * j) 512 ++ zeros (512 - length (window r (512 * j) 512))
+sectorOf r j = window r (sectorBytes * j) sectorBytes ++ zeros (sectorBytes - length (window r (sectorBytes * j) sectorBytes))
 
 -- what the new entry says
 abbrev pub holdingFor : Time → List ℕ → Holding

@@ -27,11 +27,15 @@ pub enum Given {
 
 const LAST: u64 = 18446744073709551615;
 
+const SECTOR: u64 = layout::SECTOR_BYTES as u64;
+
+const ROUND_UP: u64 = layout::ROUND_UP as u64;
+
 // How many sectors a record of n bytes fills.
 pub fn sectors(n: u32) -> u32
     ensures { λ k. ⌜ k ≡ sectorsOf n ⌝ }
 {
-    ((n as u64 + 511) / 512) as u32
+    ((n as u64 + ROUND_UP) / SECTOR) as u32
 }
 
 // A block's numbers with one entry changed.
@@ -60,7 +64,11 @@ fn put_sector(r: &[u8], j: u32, out: &mut [u8])
     ensures { λ _. ⌜ now (out .exit) ≡ sectorIn (now (r .entry)) j (now (out .entry)) ⌝ }
 {
     endian::clear(out);
-    endian::put(out, 0, endian::window(r, 512 * (j as usize), 512));
+    endian::put(
+        out,
+        0,
+        endian::window(r, layout::SECTOR_BYTES * (j as usize), layout::SECTOR_BYTES),
+    );
 }
 
 // A block with these numbers and the UUIDs of a copy's block, into out, which goes to sector `at`. A block that the writer
@@ -147,7 +155,7 @@ pub fn lay(c: &mut [u8], x: Area, r: &[u8]) -> u8
         return refusal::RECORD_LENGTH;
     }
     let at = layout::area_offset(x);
-    let n = (r.len() + 511) / 512 * 512;
+    let n = (r.len() + layout::ROUND_UP) / layout::SECTOR_BYTES * layout::SECTOR_BYTES;
     fill(&mut c[at..at + n], r);
     refusal::NONE
 }
