@@ -250,8 +250,9 @@ fn limit_refusal(pool: &[u8], blockdev: &[u8], f: BlockFields) -> u8
     refusal::NONE
 }
 
-// The number of the first test, 1 to 9, that a block fails; 0 where it passes them all.
-fn read_refusal(s: &[u8]) -> u8
+// The number of the first test, 1 to 9, that a block with the numbers f fails; 0 where it passes them all.
+fn read_refusal(s: &[u8], f: BlockFields) -> u8
+    requires { ⌜ f ≡ fieldsOf (now s) ⌝ }
     ensures { λ r. ⌜ r ≡ first (readTests (now (s .entry))) ⌝ }
 {
     let whole = s.len() == layout::SECTOR_BYTES;
@@ -264,17 +265,14 @@ fn read_refusal(s: &[u8]) -> u8
     if !checksum_right(s) {
         return refusal::BLOCK_CHECKSUM;
     }
-    if !layout::size_allowed(endian::read_u64(s, 20)) {
+    let d = f.device;
+    if !layout::size_allowed(d.sectors) {
         return refusal::DEVICE_SIZE;
     }
     if !zero_fields(s) {
         return refusal::NOT_ZERO;
     }
-    limit_refusal(
-        endian::window(s, 32, 32),
-        endian::window(s, 64, 32),
-        fields(s),
-    )
+    limit_refusal(endian::window(s, 32, 32), endian::window(s, 64, 32), f)
 }
 
 // The 32 bytes of s.
@@ -302,12 +300,13 @@ pub fn refused(n: u8) -> Reading
 pub fn read(s: &[u8]) -> Reading
     ensures { λ r. ⌜ r ≡ reading (now (s .entry)) ⌝ }
 {
-    let n = read_refusal(s);
+    let f = fields(s);
+    let n = read_refusal(s, f);
     if n != 0 {
         return refused(n);
     }
     Reading {
-        verdict: Verdict::Accepted(fields(s)),
+        verdict: Verdict::Accepted(f),
         pool: uuid_bytes(endian::window(s, 32, 32)),
         blockdev: uuid_bytes(endian::window(s, 64, 32)),
     }

@@ -31,9 +31,6 @@ returns-3 c =
     (passed _ _ 2 _ (c .before .before .before .signature-right .ensures) (c .before .before .if2 .left) 3
     (refused _ _ 3 _ (c .before .checksum-right .ensures) (c .if3 .taken)))
 
-read-u64-requires : tie.Need-read-u64-requires
-read-u64-requires c κs = search needs
-
 size-allowed-requires : tie.Need-size-allowed-requires
 size-allowed-requires c κs = search needs
 
@@ -42,7 +39,7 @@ returns-4 c =
     passed _ _ 1 _ (refl) (c .before .before .before .before .before .before .before .if1 .left) 4
     (passed _ _ 2 _ (c .before .before .before .before .before .before .signature-right .ensures) (c .before .before .before .before .before .if2 .left) 4
     (passed _ _ 3 _ (c .before .before .before .before .checksum-right .ensures) (c .before .before .before .if3 .left) 4
-    (refused _ _ 4 _ (c .before .size-allowed .ensures ∙ ap sizeAllowed (c .before .before .read-u64 .ensures)) (c .if4 .taken))))
+    (refused _ _ 4 _ (c .before .size-allowed .ensures ∙ ap (λ (f : BlockFields). sizeAllowed (f .device .sectors)) (c .before .before .before .before .before .before .before .before .before .pre)) (c .if4 .taken))))
 
 zero-fields-requires : tie.Need-zero-fields-requires
 zero-fields-requires c κs = search needs
@@ -52,7 +49,7 @@ returns-5 c =
     passed _ _ 1 _ (refl) (c .before .before .before .before .before .before .before .before .before .if1 .left) 5
     (passed _ _ 2 _ (c .before .before .before .before .before .before .before .before .signature-right .ensures) (c .before .before .before .before .before .before .before .if2 .left) 5
     (passed _ _ 3 _ (c .before .before .before .before .before .before .checksum-right .ensures) (c .before .before .before .before .before .if3 .left) 5
-    (passed _ _ 4 _ (c .before .before .before .size-allowed .ensures ∙ ap sizeAllowed (c .before .before .before .before .read-u64 .ensures)) (c .before .before .if4 .left) 5
+    (passed _ _ 4 _ (c .before .before .before .size-allowed .ensures ∙ ap (λ (f : BlockFields). sizeAllowed (f .device .sectors)) (c .before .before .before .before .before .before .before .before .before .before .before .pre)) (c .before .before .if4 .left) 5
     (refused _ _ 5 _ (c .before .zero-fields .ensures) (c .if5 .taken)))))
 
 window-requires : tie.Need-window-requires
@@ -61,21 +58,18 @@ window-requires c κs = search needs
 window-requires-2 : tie.Need-window-requires-2
 window-requires-2 c κs = search needs
 
-fields-requires : tie.Need-fields-requires
-fields-requires c κs = search needs
-
 limit-refusal-requires : tie.Need-limit-refusal-requires
 limit-refusal-requires c κs = search needs
 
 returns-6 : tie.Need-returns-6
 returns-6 c =
-    passed _ _ 1 _ (refl) (c .before .before .before .before .before .before .before .before .before .before .before .before .before .if1 .left) _
-    (passed _ _ 2 _ (c .before .before .before .before .before .before .before .before .before .before .before .before .signature-right .ensures) (c .before .before .before .before .before .before .before .before .before .before .before .if2 .left) _
-    (passed _ _ 3 _ (c .before .before .before .before .before .before .before .before .before .before .checksum-right .ensures) (c .before .before .before .before .before .before .before .before .before .if3 .left) _
-    (passed _ _ 4 _ (c .before .before .before .before .before .before .before .size-allowed .ensures ∙ ap sizeAllowed (c .before .before .before .before .before .before .before .before .read-u64 .ensures)) (c .before .before .before .before .before .before .if4 .left) _
-    (passed _ _ 5 _ (c .before .before .before .before .before .zero-fields .ensures) (c .before .before .before .before .if5 .left) _
-    (c .limit-refusal .ensures ∙ (ap₂ (λ (p u : List ℕ). first (limitTests p u (c .before .fields .result))) (c .before .before .before .window .ensures) (c .before .before .window2 .ensures)
-    ∙ ap (λ (f : BlockFields). first (limitTests (poolOf (c .before .before .before .before .before .before .before .before .before .before .before .before .before .before .before .args .s .now)) (blockdevOf (c .before .before .before .before .before .before .before .before .before .before .before .before .before .before .before .args .s .now)) f)) (c .before .fields .ensures)))))))
+    passed _ _ 1 _ (refl) (c .before .before .before .before .before .before .before .before .before .before .before .before .if1 .left) _
+    (passed _ _ 2 _ (c .before .before .before .before .before .before .before .before .before .before .before .signature-right .ensures) (c .before .before .before .before .before .before .before .before .before .before .if2 .left) _
+    (passed _ _ 3 _ (c .before .before .before .before .before .before .before .before .before .checksum-right .ensures) (c .before .before .before .before .before .before .before .before .if3 .left) _
+    (passed _ _ 4 _ (c .before .before .before .before .before .before .size-allowed .ensures ∙ ap (λ (f : BlockFields). sizeAllowed (f .device .sectors)) (c .before .before .before .before .before .before .before .before .before .before .before .before .before .before .pre)) (c .before .before .before .before .before .if4 .left) _
+    (passed _ _ 5 _ (c .before .before .before .before .zero-fields .ensures) (c .before .before .before .if5 .left) _
+    (c .limit-refusal .ensures ∙ (ap₂ (λ (p u : List ℕ). first (limitTests p u (c .before .before .before .before .before .before .before .before .before .before .before .before .before .before .args .f))) (c .before .before .window .ensures) (c .before .window2 .ensures)
+    ∙ ap (λ (f : BlockFields). first (limitTests (poolOf (c .before .before .before .before .before .before .before .before .before .before .before .before .before .before .args .s .now)) (blockdevOf (c .before .before .before .before .before .before .before .before .before .before .before .before .before .before .args .s .now)) f)) (c .before .before .before .before .before .before .before .before .before .before .before .before .before .before .pre)))))))
 
 pub read-refusal-spec : {M : Type 1} → statement M
 read-refusal-spec =
@@ -86,13 +80,11 @@ read-refusal-spec =
     returns-2
     checksum-right-requires
     returns-3
-    read-u64-requires
     size-allowed-requires
     returns-4
     zero-fields-requires
     returns-5
     window-requires
     window-requires-2
-    fields-requires
     limit-refusal-requires
     returns-6)
