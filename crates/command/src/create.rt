@@ -75,7 +75,7 @@ fn look_on(fd: i32, sector: u64) -> Zeros {
 
 // The sector that a byte of a part is in.
 fn later(sector: u64, at: usize) -> u64 {
-    let k = at as u64 / layout::SECTOR_BYTES as u64;
+    let k = at as u64 / image::SECTOR;
     if 18446744073709551615 - sector < k {
         return sector;
     }

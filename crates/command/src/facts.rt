@@ -2,6 +2,7 @@
 // Assumes what `libc` and `os` do.
 use crate::copies;
 use crate::copies::Look;
+use crate::image;
 use crate::say::note;
 use crate::say::print;
 use crate::sentences;
@@ -343,7 +344,7 @@ pub(crate) fn print_identity(ok: bool, front: &[u8], back: &[u8]) -> bool {
 // A text with a number of sectors as a size, to a tenth of its unit.
 pub(crate) fn add_size(t: Text, sectors: u64) -> Text {
     if sectors < 2 {
-        return t.decimal(sectors * layout::SECTOR_BYTES as u64).add(b" B");
+        return t.decimal(sectors * image::SECTOR).add(b" B");
     }
     if sectors < 2048 {
         return add_units(t, sectors, 2).add(b" KiB");

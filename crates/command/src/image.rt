@@ -10,6 +10,9 @@ pub(crate) const DONE: u64 = 0;
 // The answer of a read past the image's end. No error has this number.
 pub(crate) const ENDED: u64 = 255;
 
+// The bytes of a sector.
+pub(crate) const SECTOR: u64 = layout::SECTOR_BYTES as u64;
+
 // The last sector whose bytes, and the 65,536 after its first, a file's position can name.
 const LAST: u64 = 18014398509481855;
 
@@ -21,7 +24,7 @@ fn place(sector: u64, done: usize) -> i64 {
     if 65535 < done {
         return -1;
     }
-    (sector * layout::SECTOR_BYTES as u64 + done as u64) as i64
+    (sector * SECTOR + done as u64) as i64
 }
 
 // How many whole sectors the image has; 0 where that cannot be told.
@@ -30,7 +33,7 @@ pub(crate) fn sectors(fd: i32) -> u64 {
     if n < 0 {
         return 0;
     }
-    n as u64 / layout::SECTOR_BYTES as u64
+    n as u64 / SECTOR
 }
 
 // What a call that moved nothing means: the end of the image, or an error.

@@ -15,7 +15,7 @@ use update::Plan;
 
 // The most stores that an update or a mend has, and the bytes of the list of them: for each store its sector's number, then
 // its 512 bytes.
-pub(crate) const MOST: u64 = 2 * (layout::RECORD_LIMIT / layout::SECTOR_BYTES as u64) + 2;
+pub(crate) const MOST: u64 = 2 * (layout::RECORD_LIMIT / image::SECTOR) + 2;
 
 pub(crate) const STRIDE: usize = 8 + layout::SECTOR_BYTES;
 
@@ -190,7 +190,7 @@ fn add_block(t: Text, f: BlockFields, last: bool) -> Text {
 
 // A text with the part of a record of n bytes that a store holds, sector j of it.
 fn add_part(t: Text, n: u64, j: u64) -> Text {
-    let s = layout::SECTOR_BYTES as u64;
+    let s = image::SECTOR;
     if n <= s {
         return t.add(b"record, ").decimal(n).add(b" bytes");
     }
