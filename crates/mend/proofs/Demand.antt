@@ -1,33 +1,40 @@
 -- What mending promises of the device, proved.
-use Prim.Native.Nat.{ℕ, _+_, _≤_, _<_}
-use mathlib.Core.Path.{_≡_, refl, sym, ap, subst, _∙_}
+use Prim.Native.Nat.{ℕ, suc, _+_, _≤_, _<_}
+use mathlib.Core.Path.{_≡_, refl, sym, ap, ap₂, subst, _∙_}
 use mathlib.Core.Bool.{Bool, true, false, cond}
 use mathlib.Core.Logic.{_⊎_, inl, inr}
 use mathlib.Core.List.{List, [], flatten}
 use native.Mathlib.Nat.{not-suc-le-zero}
 use native.Mathlib.Omega.{arith}
+use borrow.Author.Tests.{eq-eqb}
 use lib.ListN.{length}
 use Rattle.layout.specs.declared.Device.{Device}
 use Rattle.layout.specs.declared.Side.{Side}
 use Rattle.layout.specs.declared.Side.the-variants.{Front, Back}
 use Rattle.layout.specs.declared.Area.{Area}
 use Rattle.layout.specs.declared.Area.the-variants.{A}
-use Rattle.layout.specs.Places.{blockSector, areaSector}
+use Rattle.layout.specs.Places.{blockSector, areaSector, copyBytes}
 use Rattle.block.specs.declared.Time.{Time}
 use Rattle.block.specs.declared.Holding.{Holding}
 use Rattle.block.specs.declared.Entry.the-variants.{Unused, Used}
 use Rattle.block.specs.declared.BlockFields.{BlockFields}
+use Rattle.block.specs.declared.Reading.{Reading}
 use Rattle.block.specs.Entry.{timeOf}
 use Rattle.block.specs.Block.{poolOf, blockdevOf, fieldsOf}
+use Rattle.block.proofs.Readings.{accepted-reading}
+use Rattle.block.proofs.Demand as Block
 use Rattle.discovery.specs.declared.Finding.{Finding}
 use Rattle.discovery.specs.declared.Answer.{Answer}
 use Rattle.discovery.specs.declared.Answer.the-variants.{Found}
-use Rattle.copy.specs.Copy.{deviceIn, blockIn, otherSide, newest}
+use Rattle.copy.specs.Copy.{deviceIn, blockIn, entryIn, otherSide, newest}
+use Rattle.copy.specs.Demand.{AcceptedCopy, WholeArea, LaterEntry}
+use Rattle.copy.proofs.Demand.{copy-sized, later-newest, newest-whole, whole-newest}
 use Rattle.discovery.specs.Discovery.{findingOf, inStep, copyOn, recordBytes}
 use Rattle.discovery.specs.Newest.{timeAt}
 use Rattle.discovery.proofs.Latest.{found-same}
 use Rattle.crash.specs.Crash.{Sectors, Sound, Store, Groups, stores, storeIn, landed, allLanded, areaSectors, copyFrom}
-use Rattle.stores.specs.Stores.{sectorsOf}
+use Rattle.crash.proofs.Copies.{length-copy}
+use Rattle.stores.specs.Stores.{sectorsOf, holdingFor, withEntry}
 use Rattle.stores.specs.States.{Gives, Ready, Answered, Fits, AllFit}
 use Rattle.stores.proofs.Holding.{heldIn, recordIn, Holds}
 use Rattle.stores.proofs.Blocks.{device-kept}
@@ -37,12 +44,16 @@ use Rattle.stores.proofs.States.{stepped-found, made-ready}
 use Rattle.stores.proofs.Padding.{sectors-few, sectors-within, length-sector}
 use Rattle.stores.proofs.OneCopy.{stepped-held}
 use Rattle.stores.proofs.Places.{Sizes, sizes-accepted, area-below, block-below}
-use Rattle.mend.specs.Mend.{refilled, laterWhole, rewriting, groupsAfter, mendGroups}
-use Rattle.mend.specs.Demand.{after, Serving, Mended, Counts, Counting, Goes, Touching}
+use Rattle.mend.specs.Mend.{blockLike, emptied, refilled, blanked, laterWhole, rewriting, groupsAfter, mendGroups}
+use Rattle.mend.specs.Demand.{after, Serving, Mended, Counts, Counting, BlockFor, Rewrites, Rewriting, Goes, Touching}
 use Rattle.mend.proofs.Kept.{Kept, kept-small, held, kept, found-is, found-time, found-long}
-use Rattle.mend.proofs.Blocks.{right-empty, right-filled, right-blank, like-size}
-use Rattle.mend.proofs.Stores.{by-store, count-whole, count-blank}
+use Rattle.mend.proofs.Blocks.{Right, right-empty, right-filled, right-blank, like-reads, like-size}
+use Rattle.mend.proofs.Stores.{by-store, group-starts, count-whole, count-blank}
 use Rattle.mend.proofs.Landing.{first-at, sector-at, second-at, last-at, end-sound, other-holds, kept-whole, kept-blank}
+
+-- entries that are used and the same say the same
+used-same : (h k : Holding) → Used h ≡ Used k → h ≡ k
+used-same h k e = cc
 
 -- the copy of a side
 side-copy : (v : Device) (d : Sectors) (s : Side) → copyOn s (copyFrom Front v d) (copyFrom Back v d) ≡ copyFrom s v d
@@ -163,6 +174,63 @@ module _ (v : Device) (d : Sectors) (t : Time) (r₀ : List ℕ) (s : Answered v
             ∙ (count-blank (q .side) c (q .area) r h ∙ ap (λ (z : List ℕ). sectorsOf (length z) + 3) its-record);
       }
 
+  -- the stores, one by one
+  is-accepted : AcceptedCopy c
+  is-accepted =
+      record {
+        size = copy-sized c (eq-eqb (length c) copyBytes (length-copy (q .side) v d (s .sound)));
+        block = Block.exactly (blockIn c) .1 (fieldsOf (blockIn c)) (sym (ap (λ (z : Reading). z .verdict) (accepted-reading (blockIn c) (itself .accepted))));
+      }
+
+  its-entry : refilled (deviceIn c) (entryIn (fieldsOf (blockIn c)) (q .area)) ≡ record { device = v; a = Used (holdingFor (timeOf h) r); b = Unused }
+  its-entry =
+      let e : h ≡ holdingFor (timeOf h) r = λ i. record { seconds = h .seconds; nanoseconds = h .nanoseconds; bytes = itself .long i; checksum = itself .sum i } in
+      ap₂ refilled (s .says) (itself .entry ∙ ap Used e)
+
+  block-for : (w : Side) (g : BlockFields) (z : Store) → z ≡ record { sector = blockSector w v; content = blockLike c g } → Right c g → BlockFor v w g c z
+  block-for w g z e k =
+      subst (BlockFor v w g c) (sym e) (record { place = refl; reads = like-reads c (itself .accepted) g k })
+
+  later-torn : (y : Area) (i : Holding) → LaterEntry c y i → (WholeArea c y i → ⊥) → laterWhole c ≡ false
+  later-torn y i l n = go (laterWhole c) refl
+    where
+      go : (u : Bool) → laterWhole c ≡ u → laterWhole c ≡ false
+      go false e = e
+      go true e =
+          let w : (j : Holding) × LaterEntry c (newest (fieldsOf (blockIn c))) j × WholeArea c (newest (fieldsOf (blockIn c))) j = newest-whole c is-accepted e in
+          let o : WholeArea c y (w .0) = subst (λ (x : Area). WholeArea c x (w .0)) (later-newest c is-accepted y i l) (w .2) in
+          absurd (n (subst (WholeArea c y) (used-same (w .0) i (sym (o .used) ∙ l .used)) o))
+
+  rewrites : Rewrites v (q .side) c (timeOf h) r (rewriting (q .side) c (q .area) r)
+  rewrites =
+      let k : ℕ = sectorsOf (length r) in
+      record {
+        second = group-starts (q .side) c (q .area) r 1;
+        third = group-starts (q .side) c (q .area) r 2 ∙ omega arith;
+        fourth = group-starts (q .side) c (q .area) r 3 ∙ omega arith;
+        empty =
+            subst (λ (u : Device). BlockFor v (otherSide (q .side)) (record { device = u; a = Unused; b = Unused }) c (storeIn (rewriting (q .side) c (q .area) r) 0)) (s .says)
+            (block-for (otherSide (q .side)) (emptied (deviceIn c)) _ (first-at (q .side) v d (s .sound) (s .says) (q .area) h r itself) (right-empty c (itself .accepted)));
+        filled = sector-at (q .side) v d (s .sound) (s .says) (q .area) h r itself;
+        entry =
+            subst (λ (g : BlockFields). BlockFor v (otherSide (q .side)) g c (storeIn (rewriting (q .side) c (q .area) r) (suc (sectorsOf (length r))))) its-entry
+            (block-for (otherSide (q .side)) _ _ (second-at (q .side) v d (s .sound) (s .says) (q .area) h r itself) (right-filled c (itself .accepted) (q .area)));
+        whole = λ y i l w. count-whole (q .side) c (q .area) r (whole-newest c is-accepted y i l w);
+        torn = λ y i l n.
+            let z : laterWhole c ≡ false = later-torn y i l n in (
+              count-blank (q .side) c (q .area) r z,
+              subst (λ (x : Area). BlockFor v (q .side) (withEntry (fieldsOf (blockIn c)) x Unused) c (storeIn (rewriting (q .side) c (q .area) r) (suc (suc (sectorsOf (length r))))))
+                  (later-newest c is-accepted y i l)
+                  (block-for (q .side) (blanked (fieldsOf (blockIn c))) _ (last-at (q .side) v d (s .sound) (s .says) (q .area) h r itself z) (right-blank c (itself .accepted))),
+            );
+      }
+
+  all-rewrites : inStep f b ≡ false → Rewrites v (q .side) c t r₀ (mendGroups f b)
+  all-rewrites e =
+      subst (λ (g : Groups). Rewrites v (q .side) c t r₀ g) (sym (chosen false e))
+      (subst (λ (u : Time). Rewrites v (q .side) c u r₀ (rewriting (q .side) c (q .area) r)) (sym (found-time f b q (s .gives .other) (s .gives .answers)) ∙ its-time)
+      (subst (λ (z : List ℕ). Rewrites v (q .side) c (timeOf h) z (rewriting (q .side) c (q .area) r)) its-record rewrites))
+
   sectors : sectorsOf (q .bytes) ≡ sectorsOf (length r)
   sectors = ap sectorsOf (found-long f b q (s .gives .other) (s .gives .answers))
 
@@ -229,6 +297,9 @@ serving v d q o sd e says =
 
 pub counting : Counting
 counting v d t r s = counts v d t r s
+
+pub rewriting-order : Rewriting
+rewriting-order v d t r s = all-rewrites v d t r s
 
 pub mended : Mended
 mended v d t r s = (all-done v d t r s, all-fit v d t r s)

@@ -8,3 +8,4 @@ pub mod Landing
 pub mod Giving
 pub mod Demand
 pub mod Refusing
+pub mod Answering

@@ -1,29 +1,40 @@
--- What mending promises: `proofs/Demand.antt` proves `Serving`, `Mended`, `Counting` and `Touching`, `proofs/Giving.antt` `Giving`, `proofs/Refusing.antt` `Refusing`. The states
--- of a device are those that demand 3 speaks of: a mend serves what a cut in an update leaves, and leaves what every update may start
+-- What mending promises: `proofs/Demand.antt` proves `Serving`, `Mended`, `Counting`, `Rewriting` and `Touching`, `proofs/Giving.antt`
+-- `Giving`, `proofs/Answering.antt` `Answering`, `proofs/Refusing.antt` `Refusing`. The states of a device are those that demand 3 speaks of: a mend serves what a cut in an update leaves, and leaves what every update may start
 -- from. What a cut in a mend leaves is request [7].
 use Prim.Native.Nat.{ℕ, suc, _+_, _≤_, _<_}
 use mathlib.Core.Path.{_≡_}
-use mathlib.Core.Logic.{_⊎_}
+use mathlib.Core.Logic.{_⊎_, _↔_}
 use mathlib.Core.Bool.{true, false}
 use mathlib.Core.List.{List, []}
 use lib.ListN.{length}
 use Rattle.refusal.specs.Numbers.{noStore}
 use Rattle.layout.specs.declared.Device.{Device}
+use Rattle.layout.specs.declared.Side.{Side}
 use Rattle.layout.specs.declared.Side.the-variants.{Front, Back}
+use Rattle.layout.specs.declared.Area.{Area}
 use Rattle.layout.specs.declared.Area.the-variants.{A}
 use Rattle.layout.specs.Places.{blockSector, areaSector}
 use Rattle.block.specs.declared.Time.{Time}
-use Rattle.copy.specs.Copy.{otherSide, deviceIn}
+use Rattle.block.specs.declared.Holding.{Holding}
+use Rattle.block.specs.declared.Entry.the-variants.{Unused, Used}
+use Rattle.block.specs.declared.BlockFields.{BlockFields}
+use Rattle.block.specs.declared.Verdict.the-variants as Verdict
+use Rattle.block.specs.Block.{poolOf, blockdevOf, fieldsOf, reading}
+use Rattle.copy.specs.Copy.{blockIn, otherSide, deviceIn}
+use Rattle.copy.specs.Demand.{WholeArea, LaterEntry}
 use Rattle.discovery.specs.declared.Finding.{Finding}
 use Rattle.discovery.specs.declared.Other.{Other}
+use Rattle.discovery.specs.declared.Answer.the-variants as Answer
 use Rattle.discovery.specs.declared.Answer.the-variants.{Found}
 use Rattle.discovery.specs.Discovery.{sized, discovery, inStep, recordBytes}
 use Rattle.discovery.specs.Newest.{timeAt}
-use Rattle.crash.specs.Crash.{Sectors, Sound, Groups, stores, storeIn, groupStart, allLanded, copyFrom}
+use Rattle.crash.specs.Crash.{Sectors, Sound, Store, Groups, stores, storeIn, groupStart, allLanded, copyFrom}
 use Rattle.stores.specs.declared.Given.the-variants.{At, Refused}
-use Rattle.stores.specs.Stores.{sectorsOf}
+use Rattle.stores.specs.Stores.{sectorsOf, sectorOf, holdingFor, withEntry}
 use Rattle.stores.specs.States.{Ready, Answered, AllFit}
+use Rattle.mend.specs.declared.Rewrite.{Rewrite}
 use Rattle.mend.specs.declared.Mending.{Mending}
+use Rattle.mend.specs.declared.Mending.the-variants as Mending
 use Rattle.mend.specs.Mend.{laterWhole, mendGroups}
 use Rattle.mend.specs.Plan.{mending, storesIn, groupOf, storeAnswer, storeBytes}
 
@@ -56,6 +67,31 @@ pub record Counts (v : Device) (d : Sectors) (t : Time) (r : List ℕ) (q : Find
 abbrev pub Counting : Type 0
 Counting = (v : Device) (d : Sectors) (t : Time) (r : List ℕ) (a : Answered v d t r) → Counts v d t r (a .gives .found)
 
+-- a store that is a signature block for side w: its sector, and what reading its bytes answers: these numbers, and the UUIDs of the copy c
+pub record BlockFor (v : Device) (w : Side) (g : BlockFields) (c : List ℕ) (s : Store) : Type 0 where
+  pub place : s .sector ≡ blockSector w v
+  pub reads : reading (s .content) ≡ record { verdict = Verdict.Accepted g; pool = poolOf (blockIn c); blockdev = blockdevOf (blockIn c) }
+
+-- The groups of a mend that keeps the copy c of side w, with its present record r and time t, in their order: the other copy's block with
+-- both entries unused; the record in its area a; its block with the record's entry; and only where the kept copy's later entry is not
+-- whole, the kept block with that entry unused.
+pub record Rewrites (v : Device) (w : Side) (c : List ℕ) (t : Time) (r : List ℕ) (gs : Groups) : Type 0 where
+  pub second : groupStart gs 1 ≡ 1
+  pub third : groupStart gs 2 ≡ sectorsOf (length r) + 1
+  pub fourth : groupStart gs 3 ≡ sectorsOf (length r) + 2
+  pub empty : BlockFor v (otherSide w) (record { device = v; a = Unused; b = Unused }) c (storeIn gs 0)
+  pub filled : (j : ℕ) → j < sectorsOf (length r) → storeIn gs (suc j) ≡ record { sector = areaSector (otherSide w) A v + j; content = sectorOf r j }
+  pub entry : BlockFor v (otherSide w) (record { device = v; a = Used (holdingFor t r); b = Unused }) c (storeIn gs (suc (sectorsOf (length r))))
+  pub whole : (y : Area) (h : Holding) → LaterEntry c y h → WholeArea c y h → length (stores gs) ≡ sectorsOf (length r) + 2
+  pub torn : (y : Area) (h : Holding) → LaterEntry c y h → (WholeArea c y h → ⊥)
+      → (length (stores gs) ≡ sectorsOf (length r) + 3)
+      × BlockFor v w (withEntry (fieldsOf (blockIn c)) y Unused) c (storeIn gs (suc (suc (sectorsOf (length r)))))
+
+abbrev pub Rewriting : Type 0
+Rewriting =
+    (v : Device) (d : Sectors) (t : Time) (r : List ℕ) (a : Answered v d t r) → inStep (copyFrom Front v d) (copyFrom Back v d) ≡ false
+    → Rewrites v (a .gives .found .side) (copyFrom (a .gives .found .side) v d) t r (groupsOn v d)
+
 -- where a store of a mend that keeps the copy with the found record q goes: to the other copy's signature block, to a sector of its
 -- area a that the record fills, or, the last one, with number k + 2, to the kept block
 abbrev pub Goes : Device → Finding → Groups → ℕ → Type 0
@@ -68,6 +104,16 @@ abbrev pub Touching : Type 0
 Touching =
     (v : Device) (d : Sectors) (t : Time) (r : List ℕ) (a : Answered v d t r) (i : ℕ) → i < length (stores (groupsOn v d))
     → Goes v (a .gives .found) (groupsOn v d) i
+
+-- What `work_out` answers of any two copies: a refusal exactly where discovery refuses, with its number; nothing to store exactly where they
+-- are in step; something exactly where discovery answers and they are not.
+pub record MendAnswers (f b : List ℕ) (m : Mending) : Type 0 where
+  pub refused : (n : ℕ) → (m ≡ Mending.Refused n ↔ discovery f b ≡ Answer.Refused n)
+  pub in-step : m ≡ Mending.InStep ↔ inStep f b ≡ true
+  pub needed : ((p : Rewrite) × (m ≡ Mending.Needed p)) ↔ ((q : Finding) × (o : Other) × (discovery f b ≡ Found q o) × (inStep f b ≡ false))
+
+abbrev pub Answering : Type 0
+Answering = (f b : List ℕ) → MendAnswers f b (mending f b)
 
 -- What the calls give of a mend m is what the groups gs have: the count is the length of the list of stores, each store is in its group,
 -- each is given with its sector and its 512 bytes; past the last there is none of copies by their size, and no group.

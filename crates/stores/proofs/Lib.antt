@@ -15,3 +15,4 @@ pub mod Records
 pub mod Whole
 pub mod States
 pub mod Refusing
+pub mod Filling
