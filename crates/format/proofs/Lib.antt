@@ -4,3 +4,4 @@ pub mod Filling
 pub mod Demand
 pub mod OnDevice
 pub mod Starting
+pub mod Exactly

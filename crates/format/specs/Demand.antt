@@ -1,11 +1,13 @@
--- What holds of formatted copies. `proofs/Demand.antt` proves `Lowest`, `Formatting` and `Zero`,
--- `proofs/Starting.antt` the rest.
-use Prim.Native.Nat.{ℕ, _+_, _^_, _≤_, _<_}
+-- What holds of formatted copies. `proofs/Exactly.antt` proves `Exactly` and `Leaving`, `proofs/Demand.antt` `Lowest`, `Formatting` and
+-- `Zero`, `proofs/Starting.antt` the rest.
+use Prim.Native.Nat.{ℕ, _+_, _%_, _^_, _≤_, _<_}
 use mathlib.Core.Path.{_≡_}
+use mathlib.Core.Logic.{_↔_}
 use mathlib.Core.Bool.{true}
 use mathlib.Core.List.{List}
 use lib.Dec.{leb}
 use lib.ListN.{length, getD}
+use Rattle.endian.specs.Bytes.{Bytes}
 use Rattle.refusal.specs.Tests.{first, Fails}
 use Rattle.layout.specs.declared.Device.{Device}
 use Rattle.layout.specs.declared.Side.{Side}
@@ -14,13 +16,45 @@ use Rattle.layout.specs.Limits.{deviceTests, mostNanoseconds, sectorBytes, bloc
 use Rattle.layout.specs.Places.{areaOffset, copyBytes}
 use Rattle.block.specs.declared.Time.{Time}
 use Rattle.block.specs.declared.Verdict.the-variants as Verdict
+use Rattle.block.specs.Accepted.{HexBytes}
 use Rattle.record.specs.Demand.{RightBytes}
 use Rattle.copy.specs.Copy.{readingIn, deviceIn}
 use Rattle.discovery.specs.Discovery.{copyOn}
 use Rattle.crash.specs.Crash.{Sectors, Sound, copyFrom}
 use Rattle.stores.specs.States.{Gives, InStepOn, Ready}
-use Rattle.format.specs.Format.{formatTests, formatNumber, firstFields, formattedCopy}
+use Rattle.format.specs.Format.{formatTests, formatNumber, firstFields, formattedCopy, formatted}
 use Rattle.format.specs.OnDevice.{onDevice}
+
+-- What formatting asks for: two copies by their size, UUIDs of 32 digits, device numbers and nanoseconds within their limits, and a record
+-- that is right on that device.
+pub record Formattable (f b : List ℕ) (v : Device) (p u : List ℕ) (t : Time) (r : List ℕ) : Type 0 where
+  pub front : length f ≡ copyBytes
+  pub back : length b ≡ copyBytes
+  pub pool : length p ≡ 32
+  pub blockdev : length u ≡ 32
+  pub pool-hex : HexBytes p
+  pub blockdev-hex : HexBytes u
+  pub sectors : 2097152 ≤ v .sectors
+  pub metadata-even : (v .metadata) % 2 ≡ 0
+  pub metadata-least : 2040 ≤ v .metadata
+  pub metadata-most : v .metadata ≤ 16384
+  pub reserved : v .reserved ≤ 65536
+  pub nanoseconds : t .nanoseconds ≤ 999999999
+  pub right : RightBytes v r
+
+-- It is not refused exactly when all of that holds.
+abbrev pub Exactly : Type 0
+Exactly =
+    (f b : List ℕ) (v : Device) (p u : List ℕ) (t : Time) (r : List ℕ) → v .sectors < 2 ^ 64 → Bytes r
+    → (formatNumber f b v p u t r ≡ 0 ↔ Formattable f b v p u t r)
+
+-- What a lent copy c holds afterwards: the formatted copy where it is not refused, otherwise what was there.
+pub record Leaves (c f b : List ℕ) (v : Device) (p u : List ℕ) (t : Time) (r : List ℕ) : Type 0 where
+  pub done : formatNumber f b v p u t r ≡ 0 → formatted c f b v p u t r ≡ formattedCopy v p u t r
+  pub refused : (formatNumber f b v p u t r ≡ 0 → ⊥) → formatted c f b v p u t r ≡ c
+
+abbrev pub Leaving : Type 0
+Leaving = (c f b : List ℕ) (v : Device) (p u : List ℕ) (t : Time) (r : List ℕ) → Leaves c f b v p u t r
 
 -- A refusal is the lowest number that applies.
 abbrev pub Lowest : Type 0
