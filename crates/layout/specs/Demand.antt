@@ -32,7 +32,7 @@ pub record Allowed (d : Device) : Type 0 where
   pub metadata-most : d .metadata ≤ 16384
   pub reserved : d .reserved ≤ 65536
 
--- Device numbers are refused with none exactly when they are.
+-- The tests of device numbers give no refusal number exactly when they are within these limits.
 abbrev pub Exactly : Type 0
 Exactly = (d : Device) → (first (deviceTests d) ≡ 0 ↔ Allowed d)
 
