@@ -5,5 +5,6 @@ pub mod Exactly
 pub mod Applying
 pub mod Cuts
 pub mod RoundTrip
+pub mod Offsets
 pub mod Demand
 pub mod Times

@@ -39,7 +39,7 @@ abbrev bodyWidths : List ℕ
 bodyWidths = 16 ∷ 8 ∷ 4 ∷ 32 ∷ 32 ∷ 8 ∷ 4 ∷ 4 ∷ 4 ∷ 12 ∷ 8 ∷ 4 ∷ 4 ∷ 4 ∷ 12 ∷ 4 ∷ 4 ∷ 344 ∷ []
 
 -- the four numbers of an entry, back from it
-holding-back : (s n u c : ℕ) → holdingOf (entryOf s n u c) ≡ record { seconds = s; nanoseconds = n; bytes = u; checksum = c }
+pub holding-back : (s n u c : ℕ) → holdingOf (entryOf s n u c) ≡ record { seconds = s; nanoseconds = n; bytes = u; checksum = c }
 unfolding entryOf
 holding-back s n u c = go (eqb s 0 && (eqb n 0 && (eqb u 0 && eqb c 0))) refl
   where

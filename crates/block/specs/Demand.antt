@@ -1,23 +1,25 @@
--- Demand 2, first half, as statements about what `read` and `write` answer. `proofs/Demand.antt` proves them.
+-- Demand 2, first half, as statements about what `read` and `write` answer. `proofs/Demand.antt` proves them, `proofs/Offsets.antt`
+-- `Offsets`.
 use Prim.Native.Nat.{ℕ, _+_, _*_, _%_, _^_, _≤_, _<_}
 use mathlib.Core.Path.{_≡_}
 use mathlib.Core.Logic.{_⊎_, _↔_}
 use mathlib.Core.Bool.{true}
-use mathlib.Core.List.{List}
-use lib.ListN.{length, getD}
+use mathlib.Core.List.{List, [], _∷_}
+use lib.ListN.{length, getD, take, drop}
 use Rattle.layout.specs.Limits.{mostNanoseconds}
-use Rattle.endian.specs.Bytes.{Bytes, window}
+use Rattle.endian.specs.Bytes.{Bytes, le, window}
 use Rattle.checksum.specs.Crc as Crc
 use Rattle.refusal.specs.Tests.{first}
 use Rattle.block.specs.declared.Time.{Time}
 use Rattle.block.specs.declared.Entry.{Entry}
 use Rattle.block.specs.declared.Entry.the-variants.{Unused, Used}
 use Rattle.block.specs.declared.BlockFields.{BlockFields}
+use Rattle.block.specs.declared.Reading.{Reading}
 use Rattle.block.specs.declared.Verdict.the-variants as Verdict
 use Rattle.block.specs.Entry.{laterThan}
 use Rattle.block.specs.Block.{signatureBytes, number, poolOf, blockdevOf, entryAt, fieldsOf, reading, acceptedReading, refusedReading}
 use Rattle.block.specs.Accepted.{HexBytes, Within, Apart, Accepted}
-use Rattle.block.specs.Writing.{writeTests, written}
+use Rattle.block.specs.Writing.{holdingOf, writeTests, written}
 
 -- A signature block is accepted exactly when it obeys the published layout and the format's limits.
 abbrev pub Exactly : Type 0
@@ -25,6 +27,34 @@ Exactly =
     (b : List ℕ)
     → (Accepted b → reading b ≡ acceptedReading b)
     × ((f : BlockFields) → reading b .verdict ≡ Verdict.Accepted f → Accepted b)
+
+-- What r says of the block b, by the offsets and sizes of the table.
+pub record ByOffset (b : List ℕ) (r : Reading) : Type 0 where
+  pub signature : take 16 (drop 4 b) ≡ 33 ∷ 83 ∷ 116 ∷ 114 ∷ 97 ∷ 48 ∷ 116 ∷ 105 ∷ 115 ∷ 134 ∷ 255 ∷ 2 ∷ 94 ∷ 65 ∷ 114 ∷ 104 ∷ []
+  pub pool : r .pool ≡ take 32 (drop 32 b)
+  pub blockdev : r .blockdev ≡ take 32 (drop 64 b)
+  -- the n bytes at an offset, as a number
+  pub numbers : (at n : ℕ) → number b at n ≡ le (take n (drop at b))
+  pub fields : BlockFields
+  pub accepted : r .verdict ≡ Verdict.Accepted fields
+  -- S, L, R
+  pub sectors : fields .device .sectors ≡ number b 20 8
+  pub metadata : fields .device .metadata ≡ number b 160 4
+  pub reserved : fields .device .reserved ≡ number b 164 4
+  -- area a: seconds, nanoseconds, used bytes, CRC32; of an unused entry all zero
+  pub a-seconds : holdingOf (fields .a) .seconds ≡ number b 96 8
+  pub a-nanoseconds : holdingOf (fields .a) .nanoseconds ≡ number b 104 4
+  pub a-bytes : holdingOf (fields .a) .bytes ≡ number b 108 4
+  pub a-checksum : holdingOf (fields .a) .checksum ≡ number b 112 4
+  -- area b
+  pub b-seconds : holdingOf (fields .b) .seconds ≡ number b 128 8
+  pub b-nanoseconds : holdingOf (fields .b) .nanoseconds ≡ number b 136 4
+  pub b-bytes : holdingOf (fields .b) .bytes ≡ number b 140 4
+  pub b-checksum : holdingOf (fields .b) .checksum ≡ number b 144 4
+
+-- Each field of an accepted block is read from its place.
+abbrev pub Offsets : Type 0
+Offsets = (b : List ℕ) → Accepted b → ByOffset b (reading b)
 
 -- each byte is zero
 abbrev pub ZeroBytes : List ℕ → Type 0

@@ -27,6 +27,7 @@ use Rattle.discovery.specs.declared.Answer.the-variants.{Refused}
 use Rattle.discovery.specs.declared.Examined.{Examined}
 use Rattle.discovery.specs.Discovery.{newestOf, togetherOf, sameDevice, sameUuids, decide, sized, discovery, agree, stepped, inStepOf, inStep, examined}
 use Rattle.discovery.specs.Examine.{oneTime, isFound, stepBoth, stepWith, examineOf}
+use Rattle.discovery.specs.Demand.{Examines}
 use Rattle.discovery.proofs.Deciding.{discovery-unsized, discovery-sized, back-alone}
 
 -- records of one time that are not refused have the same bytes
@@ -90,3 +91,7 @@ examine-back r s f b a n m e k h =
     ∙ (back-alone n (s .block .verdict) (sameUuids (r .block) (s .block)) (r .present) (s .present) f b
     ∙ ap (λ (v : Verdict). decide v (s .block .verdict) (sameUuids (r .block) (s .block)) (r .present) (s .present) f b) (sym e))))
     (ap (λ (v : Verdict). stepWith v (s .block .verdict) (sameUuids (r .block) (s .block)) (r .present) (s .present) f b) (sym e))
+
+-- what is examined has both answers
+pub examines : Examines
+examines f b = record { answer = refl; step = refl }

@@ -1,6 +1,6 @@
 -- Discovery, in step and the reading of a found record, of the front copy f and the back copy b, in other words than the definitions
 -- that compute them: rows 1 and 10 to 13 of docs/FORMAT.md, 'Refusal numbers', and 'Discovery'. `proofs/Demand.antt` proves `Exactly`, `proofs/Steps.antt`
--- `InStep` and `proofs/Copied.antt` `ReadFound`.
+-- `InStep`, `proofs/Copied.antt` `ReadFound` and `proofs/Examining.antt` `Examines`.
 use Prim.Native.Nat.{ℕ, _≤_, _<_}
 use mathlib.Core.Path.{_≡_}
 use mathlib.Core.Logic.{_↔_, _⊎_}
@@ -22,7 +22,8 @@ use Rattle.discovery.specs.declared.Other.{Other}
 use Rattle.discovery.specs.declared.Other.the-variants.{Both, One}
 use Rattle.discovery.specs.declared.Answer.{Answer}
 use Rattle.discovery.specs.declared.Answer.the-variants.{Found, Refused}
-use Rattle.discovery.specs.Discovery.{discovery, inStep, copyOn, readAnswer, readBytes}
+use Rattle.discovery.specs.declared.Examined.{Examined}
+use Rattle.discovery.specs.Discovery.{discovery, inStep, examined, copyOn, readAnswer, readBytes}
 
 -- both slices have the size of a copy
 abbrev pub BothSized : List ℕ → List ℕ → Type 0
@@ -139,3 +140,11 @@ pub record Copies (f b out : List ℕ) (a : Answer) (left : List ℕ) : Type 0 w
 
 abbrev pub ReadFound : Type 0
 ReadFound = (f b out : List ℕ) → Copies f b out (readAnswer (discovery f b) (length out)) (readBytes (readAnswer (discovery f b) (length out)) f b out)
+
+-- What the examination e of the two slices has: discovery's answer, and whether they are in step.
+pub record Examination (f b : List ℕ) (e : Examined) : Type 0 where
+  pub answer : e .answer ≡ discovery f b
+  pub step : e .step ≡ inStep f b
+
+abbrev pub Examines : Type 0
+Examines = (f b : List ℕ) → Examination f b (examined f b)
