@@ -1,18 +1,19 @@
 -- When formatting is not refused, in other words, and what it leaves.
-use Prim.Native.Nat.{ℕ, _%_, _^_, _≤_, _<_}
+use Prim.Native.Nat.{ℕ, _^_, _<_}
 use mathlib.Core.Path.{_≡_, ap, _∙_}
 use mathlib.Core.Bool.{Bool, true, cond, _&&_}
 use mathlib.Core.List.{List}
 use borrow.Author.Tests.{leb-true, le-leb, eqb-true, eq-eqb, ne-eqb}
-use lib.Dec.{leb, eqb}
+use lib.Dec.{eqb, lit<}
 use lib.ListN.{length}
 use Rattle.endian.specs.Bytes.{Bytes, allPass}
 use Rattle.endian.proofs.Tests.{and-left, and-right, and-both}
 use Rattle.refusal.specs.Tests.{first, AllHold}
-use Rattle.refusal.proofs.Order.{first-all, first-after}
+use Rattle.refusal.proofs.Order.{first-all, first-after, first-zero}
 use Rattle.layout.specs.declared.Device.{Device}
 use Rattle.layout.specs.Limits.{deviceTests}
 use Rattle.layout.specs.Places.{copyBytes}
+use Rattle.layout.proofs.Demand as Layout
 use Rattle.block.specs.declared.Time.{Time}
 use Rattle.block.specs.Block.{isHex}
 use Rattle.block.proofs.Exactly.{hex-bytes, bytes-hex}
@@ -31,10 +32,9 @@ module _ (f b : List ℕ) (v : Device) (p u : List ℕ) (t : Time) (r : List ℕ
   in-words : formatNumber f b v p u t r ≡ 0 → Formattable f b v p u t r
   in-words e =
       let k : Taken f b v p u t r = taken f b v p u t r e in
-      let m : leb 2040 (v .metadata) && leb (v .metadata) 16384 ≡ true =
-      and-right (eqb ((v .metadata) % 2) 0) (leb 2040 (v .metadata) && leb (v .metadata) 16384) (k .metadata) in
+      let d : AllHold (deviceTests v) = (k .size, (k .metadata, (k .reserved, tt))) in
       let z : first (recordTests v r) ≡ 0 =
-      first-after (deviceTests v) (contentTests v r) (k .size, (k .metadata, (k .reserved, tt))) ∙ first-all (contentTests v r) (k .content) in
+      first-after (deviceTests v) (contentTests v r) d ∙ first-all (contentTests v r) (k .content) in
       record {
         front = k .front;
         back = k .back;
@@ -42,12 +42,7 @@ module _ (f b : List ℕ) (v : Device) (p u : List ℕ) (t : Time) (r : List ℕ
         blockdev = k .device;
         pool-hex = hex-bytes p (and-left (allPass isHex p) (allPass isHex u) (k .hex));
         blockdev-hex = hex-bytes u (and-right (allPass isHex p) (allPass isHex u) (k .hex));
-        sectors = leb-true 2097152 (v .sectors) (k .size);
-        metadata-even =
-            eqb-true ((v .metadata) % 2) 0 (and-left (eqb ((v .metadata) % 2) 0) (leb 2040 (v .metadata) && leb (v .metadata) 16384) (k .metadata));
-        metadata-least = leb-true 2040 (v .metadata) (and-left (leb 2040 (v .metadata)) (leb (v .metadata) 16384) m);
-        metadata-most = leb-true (v .metadata) 16384 (and-right (leb 2040 (v .metadata)) (leb (v .metadata) 16384) m);
-        reserved = leb-true (v .reserved) 65536 (k .reserved);
+        device = Layout.exactly v .0 (first-all (deviceTests v) d);
         nanoseconds = leb-true (t .nanoseconds) 999999999 (k .ns);
         right =
             record {
@@ -67,14 +62,12 @@ module _ (f b : List ℕ) (v : Device) (p u : List ℕ) (t : Time) (r : List ℕ
       and-both (eqb (length p) 32) (eqb (length u) 32) (eq-eqb (length p) 32 (h .pool)) (eq-eqb (length u) 32 (h .blockdev)) in
       let x : allPass isHex p && allPass isHex u ≡ true =
       and-both (allPass isHex p) (allPass isHex u) (bytes-hex p (h .pool-hex)) (bytes-hex u (h .blockdev-hex)) in
-      let m : eqb ((v .metadata) % 2) 0 && (leb 2040 (v .metadata) && leb (v .metadata) 16384) ≡ true =
-      and-both (eqb ((v .metadata) % 2) 0) (leb 2040 (v .metadata) && leb (v .metadata) 16384) (eq-eqb ((v .metadata) % 2) 0 (h .metadata-even))
-      (and-both (leb 2040 (v .metadata)) (leb (v .metadata) 16384) (le-leb 2040 (v .metadata) (h .metadata-least)) (le-leb (v .metadata) 16384 (h .metadata-most))) in
+      let d : AllHold (deviceTests v) = first-zero 0 (deviceTests v) (lit< tt, (lit< tt, (lit< tt, tt))) (Layout.exactly v .1 (h .device)) in
       first-all (formatTests f b v p u t r) (
         and-both (sized f b) (eqb (length p) 32 && eqb (length u) 32) s w,
         (
-          le-leb 2097152 (v .sectors) (h .sectors),
-          (x, (m, (le-leb (v .reserved) 65536 (h .reserved), (le-leb (t .nanoseconds) 999999999 (h .nanoseconds), right-content v r small (h .right))))),
+          d .0,
+          (x, (d .1 .0, (d .1 .1 .0, (le-leb (t .nanoseconds) 999999999 (h .nanoseconds), right-content v r small (h .right))))),
         ),
       )
 

@@ -1,6 +1,6 @@
 -- What holds of formatted copies. `proofs/Exactly.antt` proves `Exactly` and `Leaving`, `proofs/Demand.antt` `Lowest`, `Formatting` and
 -- `Zero`, `proofs/Starting.antt` the rest.
-use Prim.Native.Nat.{ℕ, _+_, _%_, _^_, _≤_, _<_}
+use Prim.Native.Nat.{ℕ, _+_, _^_, _≤_, _<_}
 use mathlib.Core.Path.{_≡_}
 use mathlib.Core.Logic.{_↔_}
 use mathlib.Core.Bool.{true}
@@ -14,6 +14,7 @@ use Rattle.layout.specs.declared.Side.{Side}
 use Rattle.layout.specs.declared.Area.the-variants.{A}
 use Rattle.layout.specs.Limits.{deviceTests, mostNanoseconds, sectorBytes, blockOffset}
 use Rattle.layout.specs.Places.{areaOffset, copyBytes}
+use Rattle.layout.specs.Demand.{Allowed}
 use Rattle.block.specs.declared.Time.{Time}
 use Rattle.block.specs.declared.Verdict.the-variants as Verdict
 use Rattle.block.specs.Accepted.{HexBytes}
@@ -34,11 +35,7 @@ pub record Formattable (f b : List ℕ) (v : Device) (p u : List ℕ) (t : Time)
   pub blockdev : length u ≡ 32
   pub pool-hex : HexBytes p
   pub blockdev-hex : HexBytes u
-  pub sectors : 2097152 ≤ v .sectors
-  pub metadata-even : (v .metadata) % 2 ≡ 0
-  pub metadata-least : 2040 ≤ v .metadata
-  pub metadata-most : v .metadata ≤ 16384
-  pub reserved : v .reserved ≤ 65536
+  pub device : Allowed v
   pub nanoseconds : t .nanoseconds ≤ 999999999
   pub right : RightBytes v r
 
