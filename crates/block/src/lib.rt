@@ -12,12 +12,14 @@ ghost use Rattle.block.specs.Entry.{laterThan, sameTime, timeOf, entryOf
 use layout::Device;
 
 // A time, in seconds and nanoseconds.
+#[repr(C)]
 pub struct Time {
     pub seconds: u64,
     pub nanoseconds: u32,
 }
 
 // What a used area entry says of its area: the record's time, its bytes and their checksum.
+#[repr(C)]
 pub struct Holding {
     pub seconds: u64,
     pub nanoseconds: u32,
@@ -214,7 +216,7 @@ fn entry_at(s: &[u8], at: usize) -> Entry
 }
 
 // The numbers of a block, whether it is accepted or not.
-fn fields(s: &[u8]) -> BlockFields
+pub fn fields(s: &[u8]) -> BlockFields
     ensures { λ r. ⌜ r ≡ fieldsOf (now (s .entry)) ⌝ }
 {
     let device = Device {

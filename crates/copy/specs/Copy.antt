@@ -5,7 +5,7 @@ use mathlib.Core.Bool.{Bool, true, false, cond, _&&_}
 use mathlib.Core.List.{List}
 use lib.Dec.{eqb}
 use lib.ListN.{length}
-use Rattle.endian.specs.Bytes.{window, same}
+use Rattle.endian.specs.Bytes.{window, same, zeros, splice}
 use Rattle.checksum.specs.Crc.{checksum}
 use Rattle.refusal.specs.Numbers.{sliceSize}
 use Rattle.layout.specs.Limits.{sectorBytes, blockOffset}
@@ -37,6 +37,10 @@ isCopy c = eqb (length c) copyBytes
 
 abbrev pub blockIn : List ℕ → List ℕ
 blockIn c = window c blockOffset sectorBytes
+
+-- a UUID of a block: 32 bytes, with zeros where a block is cut short
+unfoldable pub uuidFrom : List ℕ → List ℕ
+uuidFrom u = splice (zeros 32) 0 u
 
 -- the device that a copy's block says it is of
 abbrev pub deviceIn : List ℕ → Device

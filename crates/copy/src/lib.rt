@@ -6,7 +6,8 @@ ghost use Prim.Native.Nat.{_+_};
 ghost use lib.ListN.{length};
 ghost use Rattle.layout.specs.declared.Area.the-variants.{A, B};
 ghost use Rattle.layout.specs.Places.{copyBytes};
-ghost use Rattle.copy.specs.Copy.{blockIn, byArea, entryIn, otherArea, otherSide, wholeEntry, whole, newer, newest, sameArea, current, present, presentBy, wholeFor, sizedReading, copyReading, presentReadingOf};
+ghost use Rattle.block.specs.Block.{poolOf, blockdevOf, fieldsOf};
+ghost use Rattle.copy.specs.Copy.{blockIn, uuidFrom, byArea, entryIn, otherArea, otherSide, wholeEntry, whole, newer, newest, sameArea, current, present, presentBy, wholeFor, sizedReading, copyReading, presentReadingOf};
 use block::BlockFields;
 use block::Entry;
 use block::Holding;
@@ -70,6 +71,36 @@ pub fn block_in(c: &[u8]) -> &[u8]
     ensures { λ r. ⌜ now r ≡ blockIn (now (c .entry)) ⌝ }
 {
     endian::window(c, layout::BLOCK_OFFSET, layout::SECTOR_BYTES)
+}
+
+// The numbers of a copy's signature block, whether it is accepted or not.
+pub fn fields_in(c: &[u8]) -> BlockFields
+    ensures { λ r. ⌜ r ≡ fieldsOf (blockIn (now (c .entry))) ⌝ }
+{
+    block::fields(block_in(c))
+}
+
+// A UUID: the bytes of u, and zeros where there are too few of them.
+fn uuid_of(u: &[u8]) -> [u8; 32]
+    ensures { λ r. ⌜ r ≡ uuidFrom (now (u .entry)) ⌝ }
+{
+    let mut r = [0u8; 32];
+    endian::put(&mut r, 0, u);
+    r
+}
+
+// The pool's UUID in a copy's signature block, whether it is accepted or not.
+pub fn pool_in(c: &[u8]) -> [u8; 32]
+    ensures { λ r. ⌜ r ≡ uuidFrom (poolOf (blockIn (now (c .entry)))) ⌝ }
+{
+    uuid_of(endian::window(block_in(c), 32, 32))
+}
+
+// The block device's.
+pub fn blockdev_in(c: &[u8]) -> [u8; 32]
+    ensures { λ r. ⌜ r ≡ uuidFrom (blockdevOf (blockIn (now (c .entry)))) ⌝ }
+{
+    uuid_of(endian::window(block_in(c), 64, 32))
 }
 
 // Whether e is used, and d is unused or of an earlier time.

@@ -9,6 +9,8 @@ use Rattle.layout.specs.declared.CopyMap.{CopyMap}
 use Rattle.layout.specs.declared.DeviceMap.{DeviceMap}
 use Rattle.layout.specs.declared.Located.{Located}
 use Rattle.layout.specs.declared.Located.the-variants.{At, Refused}
+use Rattle.layout.specs.declared.BlocksLocated.{BlocksLocated}
+use Rattle.layout.specs.declared.BlocksLocated.the-variants as BlocksLocated
 
 -- a side and an area as numbers
 abbrev pub sideNumber : Side → ℕ
@@ -35,3 +37,12 @@ locatedNumber (Refused n) = n
 abbrev pub locatedValues : Located → List ℕ
 locatedValues (At p) = mapNumbers p
 locatedValues (Refused n) = []
+
+-- what `locate_blocks` answers
+abbrev pub blocksNumber : BlocksLocated → ℕ
+blocksNumber (BlocksLocated.At f b) = 0
+blocksNumber (BlocksLocated.Refused n) = n
+
+abbrev pub blocksValues : BlocksLocated → List ℕ
+blocksValues (BlocksLocated.At f b) = f ∷ b ∷ []
+blocksValues (BlocksLocated.Refused n) = []

@@ -13,7 +13,10 @@ use Rattle.layout.specs.declared.CopyMap.{CopyMap}
 use Rattle.layout.specs.declared.DeviceMap.{DeviceMap}
 use Rattle.layout.specs.declared.Located.{Located}
 use Rattle.layout.specs.declared.Located.the-variants.{At, Refused}
-use Rattle.layout.specs.Limits.{deviceTests, headerSectors, headerBytes, recordLimit}
+use Rattle.layout.specs.declared.BlocksLocated.{BlocksLocated}
+use Rattle.layout.specs.declared.BlocksLocated.the-variants as BlocksLocated
+use Rattle.refusal.specs.Numbers.{deviceSize}
+use Rattle.layout.specs.Limits.{sizeAllowed, deviceTests, headerSectors, headerBytes, recordLimit}
 
 -- front: header in sectors 0 to 7; back: header in the last 8 sectors
 abbrev pub headerSector : Side → Device → ℕ
@@ -74,3 +77,11 @@ locatedAt n p = cond (eqb n 0) (At p) (Refused n)
 -- what `locate` answers: the refusal number, or the places
 abbrev pub located : Device → Located
 located d = locatedAt (first (deviceTests d)) (mapOf d)
+
+-- What `locate_blocks` answers of a device of s sectors: where its signature blocks lie depends on nothing else.
+abbrev pub sizedDevice : ℕ → Device
+sizedDevice s = record { sectors = s; metadata = 0; reserved = 0 }
+
+abbrev pub blocksLocated : ℕ → BlocksLocated
+blocksLocated s =
+    cond (sizeAllowed s) (BlocksLocated.At (blockSector Front (sizedDevice s)) (blockSector Back (sizedDevice s))) (BlocksLocated.Refused deviceSize)

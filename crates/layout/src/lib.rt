@@ -5,7 +5,7 @@ ghost use mathlib.Core.Path.{_≡_};
 ghost use Prim.Native.Nat.{_-_};
 ghost use Rattle.refusal.specs.Tests.{first};
 ghost use Rattle.layout.specs.Limits.{sizeAllowed, metadataAllowed, reservedAllowed, lengthAllowed, deviceTests};
-ghost use Rattle.layout.specs.Places.{blockSector, areaSector, dataStart, dataEnd, areaOffset, copyBytes, located};
+ghost use Rattle.layout.specs.Places.{blockSector, areaSector, dataStart, dataEnd, areaOffset, copyBytes, located, blocksLocated};
 
 pub const SECTOR_BYTES: usize = 512;
 
@@ -38,6 +38,7 @@ pub const DUMP_BYTES: usize = 2 * COPY_BYTES;
 pub const MOST_NANOSECONDS: u32 = 999999999;
 
 // The device's numbers, as the signature block has them.
+#[repr(C)]
 pub struct Device {
     // S, in sectors.
     pub sectors: u64,
@@ -60,6 +61,7 @@ pub enum Area {
 }
 
 // First sectors of a copy's parts.
+#[repr(C)]
 pub struct CopyMap {
     pub header: u64,
     pub block: u64,
@@ -69,6 +71,7 @@ pub struct CopyMap {
 }
 
 // Both copies, and the data range: from start up to, not including, end.
+#[repr(C)]
 pub struct DeviceMap {
     pub front: CopyMap,
     pub back: CopyMap,
@@ -79,6 +82,12 @@ pub struct DeviceMap {
 // What `locate` answers.
 pub enum Located {
     At(DeviceMap),
+    Refused(u8),
+}
+
+// What `locate_blocks` answers: the sectors of the front's signature block and of the back's.
+pub enum BlocksLocated {
+    At(u64, u64),
     Refused(u8),
 }
 
@@ -223,4 +232,19 @@ pub fn locate(d: Device) -> Located
         start: data_start(d),
         end: data_end(d),
     })
+}
+
+// Where the two signature blocks lie on a device of S sectors, or 4: what is known before any block has been read.
+pub fn locate_blocks(sectors: u64) -> BlocksLocated
+    ensures { λ r. ⌜ r ≡ blocksLocated sectors ⌝ }
+{
+    if !size_allowed(sectors) {
+        return BlocksLocated::Refused(refusal::DEVICE_SIZE);
+    }
+    let d = Device {
+        sectors,
+        metadata: 0,
+        reserved: 0,
+    };
+    BlocksLocated::At(block_sector(Side::Front, d), block_sector(Side::Back, d))
 }

@@ -2,6 +2,7 @@
 // constant, its name in specs/Numbers.antt, its line in specs/Words.antt and its arm below.
 ghost use mathlib.Core.Path.{_≡_};
 ghost use Rattle.refusal.specs.Words.{laid, wordsOf};
+ghost use Rattle.refusal.specs.Refusals.{plain};
 
 pub const NONE: u8 = 0;
 
@@ -51,10 +52,30 @@ pub const NO_SEGMENT: u8 = 22;
 
 pub const NO_STORE: u8 = 23;
 
+// A refusal: its number, 0 for none, and what stands beside it, which is zero for every number that has nothing to say there.
+#[repr(C)]
+pub struct Refusal {
+    pub number: u8,
+    pub first: u64,
+    pub second: u64,
+}
+
+// A number with nothing beside it.
+pub fn plain(number: u8) -> Refusal
+    ensures { λ r. ⌜ r ≡ plain number ⌝ }
+{
+    Refusal {
+        number,
+        first: 0,
+        second: 0,
+    }
+}
+
 // The most bytes that the words of a number have.
 pub const WORDS_BYTES: usize = 80;
 
 // Words in ASCII: the first `used` of the bytes; the rest are zero.
+#[repr(C)]
 pub struct Words {
     pub bytes: [u8; WORDS_BYTES],
     pub used: usize,

@@ -6,6 +6,7 @@ ghost use lib.Dec.{ltb};
 ghost use Rattle.segments.specs.Segments.{holds, meets, inRange};
 
 // A segment: its kind's number, its first sector, and its length in sectors.
+#[repr(C)]
 pub struct Segment {
     pub kind: u16,
     pub start: u64,

@@ -141,3 +141,7 @@ module _ (f b out : List ℕ) (m : ℕ) (e : m ≡ copyBytes) where
 
   pub sizes-right : not ((eqb (length f) m && eqb (length b) m) && eqb (length out) 512) ≡ false → lentRight f b out ≡ true
   sizes-right = test-holds ((eqb (length f) m && eqb (length b) m) && eqb (length out) 512) (lentRight f b out) sizes
+
+-- the same of room for n bytes
+pub plan-sizes : (f b : List ℕ) (n m : ℕ) → m ≡ copyBytes → ((eqb (length f) m && eqb (length b) m) && eqb n 512) ≡ (sized f b && eqb n 512)
+plan-sizes f b n m e = ap (λ (k : ℕ). (eqb (length f) k && eqb (length b) k) && eqb n 512) e

@@ -68,6 +68,16 @@ partGiven p k c r j out = cond (eqb (first (partTests k c r j out)) 0) (partAnsw
 abbrev pub partLeft : Part → ℕ → List ℕ → List ℕ → ℕ → List ℕ → List ℕ
 partLeft p k c r j out = cond (eqb (first (partTests k c r j out)) 0) (partBytes p k c r j out) out
 
+-- The tests of store i of a plan for a record of n bytes with k stores: two copies and room for 512 bytes; the record that is lent or kept
+-- has a length m that a record may have, and it is the plan's; the store is one of them.
+abbrev pub planTests : List ℕ → List ℕ → ℕ → ℕ → ℕ → ℕ → ℕ → List Test
+planTests f b room m n i k =
+    (sized f b && eqb room sectorBytes elseRefuse sliceSize)
+    ∷ (lengthAllowed m elseRefuse recordLength)
+    ∷ (eqb m n elseRefuse sliceSize)
+    ∷ (ltb i k elseRefuse noStore)
+    ∷ []
+
 -- the slices have their sizes: two copies, and 512 bytes
 abbrev pub lentRight : List ℕ → List ℕ → List ℕ → Bool
 lentRight f b out = sized f b && eqb (length out) sectorBytes

@@ -5,7 +5,7 @@ ghost use lib.ListN.{length};
 ghost use Rattle.endian.specs.Bytes.{zeros, splice};
 ghost use Rattle.refusal.specs.Tests.{first};
 ghost use Rattle.stores.specs.Stores.{sectorsOf, holdingFor, withEntry};
-ghost use Rattle.stores.specs.Given.{sectorIn, blockAnswer, blockBytes, blockGiven, blockLeft, partAnswer, partBytes, partGiven, partLeft, layTests, laid};
+ghost use Rattle.stores.specs.Given.{planTests, sectorIn, blockAnswer, blockBytes, blockGiven, blockLeft, partAnswer, partBytes, partGiven, partLeft, layTests, laid};
 use block::BlockFields;
 use block::Entry;
 use block::Holding;
@@ -57,6 +57,31 @@ pub fn with_entry(f: BlockFields, x: Area, e: Entry) -> BlockFields
             b: e,
         },
     }
+}
+
+// The tests of store i of a plan for a record of n bytes with k stores, before those of what it writes: 1 unless f and b are copies by
+// their size and room for 512 bytes is lent, 15 where the record that is lent or kept has a length m that no record has, 1 where m is not
+// the plan's n, 23 past the last store.
+pub fn check_store(f: &[u8], b: &[u8], room: usize, m: u64, n: u32, i: u64, k: u64) -> u8
+    ensures { λ r. ⌜ r ≡ first (planTests (now (f .entry)) (now (b .entry)) room m n i k) ⌝ }
+{
+    let c = layout::copy_bytes();
+    let sized = ((f.len() == c) & (b.len() == c)) & (room == layout::SECTOR_BYTES);
+    if !sized {
+        return refusal::SLICE_SIZE;
+    }
+    if !layout::length_allowed(m) {
+        return refusal::RECORD_LENGTH;
+    }
+    let planned = m == n as u64;
+    if !planned {
+        return refusal::SLICE_SIZE;
+    }
+    let there = i < k;
+    if !there {
+        return refusal::NO_STORE;
+    }
+    refusal::NONE
 }
 
 // Sector j of a record and zeros after it; zeros alone where it has no room.
