@@ -1,21 +1,109 @@
 /*
  * Amseokbin: finds, checks, updates, formats and mends the pool metadata of a drive in the Stratis 0.6 layout.
  *
- * Link with libcapi.a. It needs no operating system: it calls nothing but the compiler's memory functions, keeps no state,
- * and allocates nothing. Every call is proved to end, for any bytes and numbers, and to stay within the memory it is lent.
- * No call takes more than 16 KiB of stack; tests/stack.c measures that.
+ * Link with libamseokbin.a, which is for x86-64. It needs no operating system: it calls nothing but the compiler's memory functions,
+ * keeps no state, and allocates nothing. Every call is proved to end, for any bytes and numbers, to stay within the memory it is lent,
+ * and to answer what docs/PROMISES.md says. No call takes more than 16 KiB of stack; tests/stack.c measures that.
  *
- * A slice is a pointer and a length. A pointer is never null unless its length is 0, and slices that a call may change overlap
- * nothing else that it is lent. These two rules are the caller's; everything else is tested.
+ * What no call can test, and the caller owes:
+ * - A slice is a pointer and a length. The memory is there; a pointer is null only where its length is 0; slices that a call may change
+ *   overlap nothing else that it is lent.
+ * - A plan, the copies and the record that it is asked with belong together: the copies are those that the plan was made of, or the
+ *   same with its earlier stores applied. Any plan is answered, also one that no call made; its stores are then of no use.
+ * - The two copies are the front and the back of one device, read from where amseokbin_places puts them.
+ * Everything else is tested, and has a number.
  *
- * Answers. Most calls answer a refusal number: 0 where the call did what it says, else 1 to 23 (amseokbin_refusal below).
- * A refused call changes nothing that it was lent. Where a call has more to say it writes it into lent memory: numbers into an
- * array of 64-bit numbers, whose length must be the one named here (otherwise 1), bytes into a slice, free runs into a table of
- * them.
+ * Answers. A call that can refuse answers a struct whose first field is the refusal, or the refusal alone: number 0 where the call did
+ * what it says, else 1 to 23 (enum amseokbin_number). Then every other field is zero, and nothing that was lent is changed. A slice of
+ * another size than the one named here gives 1, before all other numbers; too little room for an answer gives 1 after all others.
  *
- * A copy is 20,480 bytes: the 8 sectors of a header, the first 16 sectors of area a, the first 16 of area b, read from the
- * places that amseokbin_places gives. A sector is 512 bytes. A record has 1 to 8,192 bytes. UUIDs are 32 bytes of ASCII hex.
- * Device numbers: sectors of the device, of the two metadata areas of a copy together, of the reserved space (S, L, R).
+ * A worked example; the tests build and run it as it stands here. It makes a pool in two copies in memory, books 1,000 sectors, stores
+ * the new record and finds it again. A device of your own takes the place of the two functions at the top.
+ *
+ * begin example
+ *     #include <stdio.h>
+ *     #include <string.h>
+ *     #include "amseokbin.h"
+ *
+ *     static void write_sector(uint64_t sector, const uint8_t *bytes) { (void)sector; (void)bytes; }
+ *     static void flush(void) {}
+ *
+ *     static uint8_t front[AMSEOKBIN_COPY], back[AMSEOKBIN_COPY], bytes[AMSEOKBIN_SECTOR];
+ *     static uint8_t record[AMSEOKBIN_RECORD], changed[AMSEOKBIN_RECORD];
+ *     static const char pool[] = "0123456789abcdef0123456789abcdef", blockdev[] = "fedcba9876543210fedcba9876543210";
+ *
+ *     static int refused(const char *call, struct amseokbin_refusal r)
+ *     {
+ *         struct amseokbin_words w = amseokbin_refusal_words(r.number);
+ *         if (r.number != AMSEOKBIN_OK)
+ *             printf("%s: refused %d: %.*s\n", call, r.number, (int)w.used, (const char *)w.bytes);
+ *         return r.number != AMSEOKBIN_OK;
+ *     }
+ *
+ *     int main(void)
+ *     {
+ *         const struct amseokbin_device device = {2097152, 2040, 0};
+ *         const struct amseokbin_time made = {1000000000, 0}, booked = {1000000001, 0};
+ *         uint64_t i;
+ *
+ *         // A record with no segments, in blocks of 128 sectors, and both copies with it.
+ *         if (refused("begin", amseokbin_record_begin(record, sizeof record, 128)))
+ *             return 1;
+ *         if (refused("format", amseokbin_format(front, sizeof front, back, sizeof back, device,
+ *                                                (const uint8_t *)pool, AMSEOKBIN_UUID, (const uint8_t *)blockdev, AMSEOKBIN_UUID,
+ *                                                made, record, AMSEOKBIN_HEAD)))
+ *             return 1;
+ *         for (i = 0; i < amseokbin_format_count(); i++) {
+ *             struct amseokbin_store_answer s = amseokbin_format_store(device, front, sizeof front, back, sizeof back, i, bytes, sizeof bytes);
+ *             if (refused("format store", s.refusal))
+ *                 return 1;
+ *             write_sector(s.sector, bytes);
+ *             if (s.flush)
+ *                 flush();
+ *         }
+ *
+ *         // The record with one more segment: the first 1,000 free sectors, for thin data.
+ *         struct amseokbin_allocation_answer a =
+ *             amseokbin_allocate(device, record, AMSEOKBIN_HEAD, AMSEOKBIN_THIN_DATA, 1000, changed, sizeof changed);
+ *         if (refused("allocate", a.refusal))
+ *             return 1;
+ *
+ *         // The update: all stores in their order, a flush where one is due, each applied to the copies in memory too.
+ *         struct amseokbin_update_plan_answer p =
+ *             amseokbin_update_plan(front, sizeof front, back, sizeof back, booked, changed, a.length);
+ *         if (refused("plan", p.refusal))
+ *             return 1;
+ *         for (i = 0; i < amseokbin_update_count(p.plan); i++) {
+ *             struct amseokbin_store_answer s = amseokbin_update_store(p.plan, front, sizeof front, back, sizeof back, changed, a.length,
+ *                                                                      i, bytes, sizeof bytes);
+ *             if (refused("store", s.refusal))
+ *                 return 1;
+ *             write_sector(s.sector, bytes);
+ *             if (s.flush)
+ *                 flush();
+ *             if (refused("apply", amseokbin_apply(device, s.sector, bytes, sizeof bytes, front, sizeof front, back, sizeof back)))
+ *                 return 1;
+ *         }
+ *
+ *         // What is found now.
+ *         struct amseokbin_found_answer f =
+ *             amseokbin_read_found(front, sizeof front, back, sizeof back, record, sizeof record);
+ *         if (refused("discover", f.refusal))
+ *             return 1;
+ *         printf("segment at %llu, record of %u bytes, time %llu, pool %.32s\n", (unsigned long long)a.start, (unsigned)f.bytes,
+ *                (unsigned long long)f.time.seconds, (const char *)f.block.pool);
+ *         return memcmp(record, changed, a.length) != 0;
+ *     }
+ * end example
+ *
+ * How to begin on a drive. S, L and R stand in a signature block, which has to be found first. Give the drive's own size to
+ * amseokbin_locate_blocks; read the front's sector and hand it to amseokbin_block_read. Where it is accepted its device numbers give
+ * all places by amseokbin_places. Where it is refused read the back's sector in the same way. Where both are refused there is no pool, or
+ * the drive was enlarged and its back copy lies at the old end. Then read both copies, and amseokbin_discover.
+ *
+ * A copy in memory is 20,480 bytes: the 8 sectors of the header from `header` on, the first 16 sectors of area a from `a` on, the first
+ * 16 of area b from `b` on. The signature block lies at AMSEOKBIN_BLOCK_OFFSET in it, the areas at AMSEOKBIN_AREA_A_OFFSET and
+ * AMSEOKBIN_AREA_B_OFFSET. A sector that cannot be read may hold any bytes: a copy that then is not accepted is set aside.
  */
 #ifndef AMSEOKBIN_H
 #define AMSEOKBIN_H
@@ -28,18 +116,50 @@
 extern "C" {
 #endif
 
-#define AMSEOKBIN_COPY 20480u
+/* The version of this header: major, minor. amseokbin_version gives the archive's; they have to be the same. */
+#define AMSEOKBIN_VERSION_MAJOR 0
+#define AMSEOKBIN_VERSION_MINOR 2
+#define AMSEOKBIN_VERSION (AMSEOKBIN_VERSION_MAJOR * 65536u + AMSEOKBIN_VERSION_MINOR)
+
+/* ---- Sizes and limits ---------------------------------------------------------------------------------------------------- */
+
+/* In bytes. */
 #define AMSEOKBIN_SECTOR 512u
-#define AMSEOKBIN_RECORD 8192u
-#define AMSEOKBIN_UUID 32u
+#define AMSEOKBIN_COPY 20480u
+#define AMSEOKBIN_BLOCK_OFFSET 512u
+#define AMSEOKBIN_AREA_A_OFFSET 4096u
+#define AMSEOKBIN_AREA_B_OFFSET 12288u
+#define AMSEOKBIN_UUID 32u    /* ASCII hex, 0 to 9 and a to f */
+#define AMSEOKBIN_RECORD 8192u /* the most of a record */
+#define AMSEOKBIN_HEAD 8u     /* a record with no segments */
+#define AMSEOKBIN_SEGMENT 20u /* each segment adds */
 #define AMSEOKBIN_WORDS 80u
 
+/* In sectors. L is even. */
+#define AMSEOKBIN_LEAST_SECTORS 2097152u
+#define AMSEOKBIN_LEAST_METADATA 2040u
+#define AMSEOKBIN_MOST_METADATA 16384u
+#define AMSEOKBIN_MOST_RESERVED 65536u
+/* The data block size is a multiple of the least. */
+#define AMSEOKBIN_LEAST_BLOCK_SIZE 128u
+#define AMSEOKBIN_MOST_BLOCK_SIZE 2097152u
+
+/* Numbers. */
+#define AMSEOKBIN_MOST_NANOSECONDS 999999999u
+#define AMSEOKBIN_MOST_SEGMENTS 409u
+#define AMSEOKBIN_MOST_RUNS 410u            /* a table of so many runs has room for all */
+#define AMSEOKBIN_SEGMENT_TABLE 1227u       /* a table of so many numbers has room for all segments */
+#define AMSEOKBIN_MOST_UPDATE_STORES 34u
+#define AMSEOKBIN_MOST_MEND_STORES 19u
+#define AMSEOKBIN_FORMAT_STORES 80u
+#define AMSEOKBIN_NO_GROUP 4u               /* the group past the last store */
+
 /* Refusal numbers. */
-enum amseokbin_refusal {
+enum amseokbin_number {
     AMSEOKBIN_OK = 0,
     AMSEOKBIN_SLICE_SIZE = 1,     /* a lent slice has the wrong size, or is too small for the answer */
     AMSEOKBIN_SIGNATURE = 2,      /* the 16 signature bytes differ */
-    AMSEOKBIN_BLOCK_CRC = 3,      /* the block's CRC differs */
+    AMSEOKBIN_BLOCK_CHECKSUM = 3, /* the block's CRC differs */
     AMSEOKBIN_DEVICE_SIZE = 4,    /* S too small */
     AMSEOKBIN_NOT_ZERO = 5,       /* flags or a zero field not zero */
     AMSEOKBIN_UUID_BYTE = 6,      /* a UUID byte not allowed */
@@ -57,22 +177,104 @@ enum amseokbin_refusal {
     AMSEOKBIN_SEGMENT_PLACE = 18, /* a segment empty or not wholly in the data range; or 0 sectors asked for */
     AMSEOKBIN_SEGMENT_CLASH = 19, /* two segments share a sector */
     AMSEOKBIN_NO_ROOM = 20,       /* no free run is long enough */
-    AMSEOKBIN_RECORD_FULL = 21,   /* the record already holds the most segments, 409 */
+    AMSEOKBIN_RECORD_FULL = 21,   /* the record already holds the most segments, AMSEOKBIN_MOST_SEGMENTS */
     AMSEOKBIN_NO_SEGMENT = 22,    /* no segment has that position */
     AMSEOKBIN_NO_STORE = 23       /* no store has that number */
 };
 
+/* Where a field is said to be a side, an area, a present record or a kind. In a field or an argument that the caller makes every number
+ * but 0 is the back, or area b. */
 enum amseokbin_side { AMSEOKBIN_FRONT = 0, AMSEOKBIN_BACK = 1 };
 enum amseokbin_area { AMSEOKBIN_AREA_A = 0, AMSEOKBIN_AREA_B = 1 };
+enum amseokbin_present { AMSEOKBIN_PRESENT_NONE = 0, AMSEOKBIN_PRESENT_A = 1, AMSEOKBIN_PRESENT_B = 2 };
+enum amseokbin_kind {
+    AMSEOKBIN_THIN_METADATA = 1,
+    AMSEOKBIN_THIN_DATA = 2,
+    AMSEOKBIN_SPARE = 3,
+    AMSEOKBIN_METADATA_VOLUME = 4
+};
 
-/* ---- Refusals ---------------------------------------------------------------------------------------------------------- */
+/* ---- What the layout has ------------------------------------------------------------------------------------------------- */
 
-/* What a refusal number says, in ASCII: the words beside it above, without a limit's value; 0 and numbers that are not known have
- * words too. They go to the start of a buffer, with no zero behind them; bytes past them stay, and AMSEOKBIN_WORDS bytes are room for
- * all. How many they are, to an array of one. 1 for another array first; 1 for too little room, last. */
-uint8_t amseokbin_refusal_words(uint8_t number, uint8_t *words, size_t words_length, uint64_t *used, size_t used_length);
+/* A refusal: its number, and what stands beside it, which no number has yet: both zero. */
+struct amseokbin_refusal {
+    uint8_t number;
+    uint64_t first;
+    uint64_t second;
+};
 
-/* ---- Checksum ---------------------------------------------------------------------------------------------------------- */
+/* Device numbers: sectors of the device (S), of the two metadata areas of a copy together (L), of the reserved space (R). */
+struct amseokbin_device {
+    uint64_t sectors;
+    uint32_t metadata;
+    uint32_t reserved;
+};
+
+struct amseokbin_time {
+    uint64_t seconds;
+    uint32_t nanoseconds;
+};
+
+/* An area entry: the time of the area's record, its length in bytes and their checksum. Unused where all four are zero. */
+struct amseokbin_entry {
+    uint64_t seconds;
+    uint32_t nanoseconds;
+    uint32_t bytes;
+    uint32_t checksum;
+};
+
+/* A signature block: device numbers, the entries of areas a and b, the UUIDs of the pool and of the block device. */
+struct amseokbin_block {
+    struct amseokbin_device device;
+    struct amseokbin_entry a;
+    struct amseokbin_entry b;
+    uint8_t pool[AMSEOKBIN_UUID];
+    uint8_t blockdev[AMSEOKBIN_UUID];
+};
+
+/* First sectors of a copy's parts. */
+struct amseokbin_copy_map {
+    uint64_t header;
+    uint64_t block;
+    uint64_t a;
+    uint64_t b;
+    uint64_t reserved;
+};
+
+/* Those of both copies, and the data range: from start up to, not including, end. */
+struct amseokbin_device_map {
+    struct amseokbin_copy_map front;
+    struct amseokbin_copy_map back;
+    uint64_t start;
+    uint64_t end;
+};
+
+/* A segment: its kind, its first sector, its length in sectors. */
+struct amseokbin_segment {
+    uint16_t kind;
+    uint64_t start;
+    uint64_t sectors;
+};
+
+/* A free run: its first sector, its length in sectors. */
+struct amseokbin_run {
+    uint64_t start;
+    uint64_t sectors;
+};
+
+/* ---- Refusals, checksum, times ------------------------------------------------------------------------------------------- */
+
+/* The version of the archive, as AMSEOKBIN_VERSION has it. */
+uint32_t amseokbin_version(void);
+
+/* Words in ASCII: the first `used` of the bytes; the rest, at least one, are zero. */
+struct amseokbin_words {
+    uint8_t bytes[AMSEOKBIN_WORDS];
+    size_t used;
+};
+
+/* What a refusal number says: the words beside it above, without a limit's value. 0 and numbers that are not known have words too. */
+struct amseokbin_words amseokbin_refusal_words(uint8_t number);
 
 /* The layout's CRC32 of a slice. */
 uint32_t amseokbin_checksum(const uint8_t *bytes, size_t length);
@@ -80,191 +282,299 @@ uint32_t amseokbin_checksum(const uint8_t *bytes, size_t length);
 /* The CRC32 of bytes whose CRC32 is `before`, with these after them; `before` is 0 for none. */
 uint32_t amseokbin_checksum_continued(uint32_t before, const uint8_t *bytes, size_t length);
 
-/* ---- Signature block --------------------------------------------------------------------------------------------------- */
+/* Whether a time is later than another: by seconds, then nanoseconds. */
+bool amseokbin_later(struct amseokbin_time time, struct amseokbin_time than);
 
-/* The numbers of a block, in this order. An entry that is unused has zero in all four. */
-enum amseokbin_block_number {
-    AMSEOKBIN_B_SECTORS, AMSEOKBIN_B_METADATA, AMSEOKBIN_B_RESERVED,
-    AMSEOKBIN_B_A_SECONDS, AMSEOKBIN_B_A_NANOSECONDS, AMSEOKBIN_B_A_BYTES, AMSEOKBIN_B_A_CRC,
-    AMSEOKBIN_B_B_SECONDS, AMSEOKBIN_B_B_NANOSECONDS, AMSEOKBIN_B_B_BYTES, AMSEOKBIN_B_B_CRC,
-    AMSEOKBIN_BLOCK_NUMBERS /* 11 */
+/* ---- Places -------------------------------------------------------------------------------------------------------------- */
+
+struct amseokbin_blocks_answer {
+    struct amseokbin_refusal refusal;
+    uint64_t front;
+    uint64_t back;
 };
 
-/* Reads a block of 512 bytes: its numbers, its pool's UUID and its device's. 1 to 9. */
-uint8_t amseokbin_block_read(const uint8_t *block, size_t block_length, uint64_t *numbers, size_t numbers_length,
-                             uint8_t *pool, size_t pool_length, uint8_t *device, size_t device_length);
+/* The sectors of the two signature blocks of a drive with so many sectors. 4. */
+struct amseokbin_blocks_answer amseokbin_locate_blocks(uint64_t sectors);
+
+struct amseokbin_places_answer {
+    struct amseokbin_refusal refusal;
+    struct amseokbin_device_map map;
+};
+
+/* Where a device's copies and its data range lie. 4, 7, 8. */
+struct amseokbin_places_answer amseokbin_places(struct amseokbin_device device);
+
+/* ---- Signature block, one copy ------------------------------------------------------------------------------------------- */
+
+struct amseokbin_block_answer {
+    struct amseokbin_refusal refusal;
+    struct amseokbin_block block;
+};
+
+/* Reads a block of 512 bytes. 1 to 9. */
+struct amseokbin_block_answer amseokbin_block_read(const uint8_t *bytes, size_t bytes_length);
 
 /* Writes a block of 512 bytes. 1, 4, 6 to 9. */
-uint8_t amseokbin_block_write(uint64_t sectors, uint32_t metadata, uint32_t reserved,
-                              uint64_t a_seconds, uint32_t a_nanoseconds, uint32_t a_bytes, uint32_t a_crc,
-                              uint64_t b_seconds, uint32_t b_nanoseconds, uint32_t b_bytes, uint32_t b_crc,
-                              const uint8_t *pool, size_t pool_length, const uint8_t *device, size_t device_length,
-                              uint8_t *block, size_t block_length);
+struct amseokbin_refusal amseokbin_block_write(struct amseokbin_block block, uint8_t *bytes, size_t bytes_length);
 
-/* ---- Places ------------------------------------------------------------------------------------------------------------ */
-
-/* The sectors where things lie, in this order. The data range ends before its last number. */
-enum amseokbin_place {
-    AMSEOKBIN_P_FRONT_HEADER, AMSEOKBIN_P_FRONT_BLOCK, AMSEOKBIN_P_FRONT_A, AMSEOKBIN_P_FRONT_B, AMSEOKBIN_P_FRONT_RESERVED,
-    AMSEOKBIN_P_BACK_HEADER, AMSEOKBIN_P_BACK_BLOCK, AMSEOKBIN_P_BACK_A, AMSEOKBIN_P_BACK_B, AMSEOKBIN_P_BACK_RESERVED,
-    AMSEOKBIN_P_DATA_START, AMSEOKBIN_P_DATA_END,
-    AMSEOKBIN_PLACES /* 12 */
+/* A copy: its block, whether area a is whole and whether area b is, and its present record: the whole area with the later time, an
+ * amseokbin_present. */
+struct amseokbin_copy_answer {
+    struct amseokbin_refusal refusal;
+    struct amseokbin_block block;
+    bool a_whole;
+    bool b_whole;
+    uint8_t present;
 };
 
-/* Where a device's copies and its data range lie. 1, 4, 7, 8. */
-uint8_t amseokbin_places(uint64_t sectors, uint32_t metadata, uint32_t reserved, uint64_t *places, size_t places_length);
+/* Reads one copy. 1 to 9. */
+struct amseokbin_copy_answer amseokbin_copy_read(const uint8_t *copy, size_t copy_length);
 
-/* ---- One copy ---------------------------------------------------------------------------------------------------------- */
+/* ---- Discovery ----------------------------------------------------------------------------------------------------------- */
 
-/* The numbers of a copy: those of its block, then whether area a is whole and whether area b is, 1 or 0, and its present record. */
-enum amseokbin_copy_number {
-    AMSEOKBIN_C_A_WHOLE = AMSEOKBIN_BLOCK_NUMBERS, AMSEOKBIN_C_B_WHOLE, AMSEOKBIN_C_PRESENT,
-    AMSEOKBIN_COPY_NUMBERS /* 14 */
-};
-
-/* The whole area with the later time, or none. */
-enum amseokbin_present { AMSEOKBIN_PRESENT_NONE = 0, AMSEOKBIN_PRESENT_A = 1, AMSEOKBIN_PRESENT_B = 2 };
-
-/* Reads one copy: its numbers, its pool's UUID and its device's. 1 to 9. */
-uint8_t amseokbin_copy_read(const uint8_t *copy, size_t copy_length, uint64_t *numbers, size_t numbers_length,
-                            uint8_t *pool, size_t pool_length, uint8_t *device, size_t device_length);
-
-/* ---- Discovery --------------------------------------------------------------------------------------------------------- */
-
-/* What was found, in this order. `other` is 0 where both copies were accepted, else the other copy's refusal number. */
-enum amseokbin_found {
-    AMSEOKBIN_F_SIDE, AMSEOKBIN_F_AREA, AMSEOKBIN_F_BYTES, AMSEOKBIN_F_SECONDS, AMSEOKBIN_F_NANOSECONDS, AMSEOKBIN_F_OTHER,
-    AMSEOKBIN_FOUND /* 6 */
+/* A found record: its side and area, its length and time; `other` is 0 where both copies were accepted, else the other copy's refusal
+ * number; and the block of the copy that has it. */
+struct amseokbin_found_answer {
+    struct amseokbin_refusal refusal;
+    uint8_t side;
+    uint8_t area;
+    uint8_t other;
+    uint32_t bytes;
+    struct amseokbin_time time;
+    struct amseokbin_block block;
 };
 
 /* Finds the newest whole record of two copies. 1, 10 to 13. */
-uint8_t amseokbin_discover(const uint8_t *front, size_t front_length, const uint8_t *back, size_t back_length,
-                           uint64_t *found, size_t found_length);
+struct amseokbin_found_answer amseokbin_discover(const uint8_t *front, size_t front_length, const uint8_t *back, size_t back_length);
 
-/* The same, and copies the record to the start of a buffer; bytes past its length stay. 1 for too little room comes last. */
-uint8_t amseokbin_read_found(const uint8_t *front, size_t front_length, const uint8_t *back, size_t back_length,
-                             uint8_t *record, size_t record_length, uint64_t *found, size_t found_length);
+/* The same, and copies the record to the start of a buffer; bytes past its length stay. AMSEOKBIN_RECORD bytes are room for all.
+ * 1, 10 to 13, and 1 for too little room, last. */
+struct amseokbin_found_answer amseokbin_read_found(const uint8_t *front, size_t front_length, const uint8_t *back, size_t back_length,
+                                                   uint8_t *record, size_t record_length);
 
-/* Whether the two copies are in step, 1 or 0 (an array of one number). 1 for another array first, then 1 for a slice that has not the
- * size of a copy; copies that are refused are not in step. */
-uint8_t amseokbin_in_step(const uint8_t *front, size_t front_length, const uint8_t *back, size_t back_length,
-                          uint64_t *step, size_t step_length);
+struct amseokbin_step_answer {
+    struct amseokbin_refusal refusal;
+    bool in_step;
+};
 
-/* ---- Updates ----------------------------------------------------------------------------------------------------------- */
+/* Whether two copies are in step; those that discovery refuses are not. 1. */
+struct amseokbin_step_answer amseokbin_in_step(const uint8_t *front, size_t front_length, const uint8_t *back, size_t back_length);
 
-/*
- * An update is worked out once, into a plan of AMSEOKBIN_UPDATE_PLAN bytes that the caller keeps. Its stores are then asked for by
- * number, 0 up to the count, with the copies and the record that the plan was made of, as they were. They are in four groups:
- * front area, front block, back area, back block; the device must be flushed after the last store of each group.
- */
-#define AMSEOKBIN_UPDATE_PLAN 148u
-
-/* 1, 10 to 13, 16, 9, 14, 15, 17, 18, 19, the first that applies; 0 where the update is not refused. */
-uint8_t amseokbin_update_check(const uint8_t *front, size_t front_length, const uint8_t *back, size_t back_length,
-                               uint64_t seconds, uint32_t nanoseconds, const uint8_t *record, size_t record_length);
-
-/* Works an update out. The same numbers; 1 also for a plan of another size. */
-uint8_t amseokbin_update_plan(const uint8_t *front, size_t front_length, const uint8_t *back, size_t back_length,
-                              uint64_t seconds, uint32_t nanoseconds, const uint8_t *record, size_t record_length,
-                              uint8_t *plan, size_t plan_length);
-
-/* How many stores a plan has; 0 for a slice that has not the size of a plan. */
-uint64_t amseokbin_update_count(const uint8_t *plan, size_t plan_length);
-
-/* The group of a store, 0 to 3; 4 past the last store. */
-uint8_t amseokbin_update_group(const uint8_t *plan, size_t plan_length, uint64_t number);
-
-/* A store: its 512 bytes, and the device sector that they go to (an array of one number). 1; 15 for the record's length; 23 past
- * the last store. A plan that no plan call made can also give a number of amseokbin_block_write. */
-uint8_t amseokbin_update_store(const uint8_t *plan, size_t plan_length, const uint8_t *front, size_t front_length,
-                               const uint8_t *back, size_t back_length, const uint8_t *record, size_t record_length,
-                               uint64_t number, uint8_t *bytes, size_t bytes_length, uint64_t *sector, size_t sector_length);
-
-/* Lays a record into area a of a copy in memory, or into area b, its last sector filled with zeros. 1, 15. */
-uint8_t amseokbin_lay(uint8_t *copy, size_t copy_length, bool area_b, const uint8_t *record, size_t record_length);
-
-/* ---- Formatting -------------------------------------------------------------------------------------------------------- */
-
-/* Fills both copies: area a holds the record, everything not named is zero. 1, 4, 6 to 9, 15, 17 to 19. */
-uint8_t amseokbin_format(uint8_t *front, size_t front_length, uint8_t *back, size_t back_length,
-                         uint64_t sectors, uint32_t metadata, uint32_t reserved, const uint8_t *pool, size_t pool_length,
-                         const uint8_t *device, size_t device_length, uint64_t seconds, uint32_t nanoseconds,
-                         const uint8_t *record, size_t record_length);
-
-/* ---- Mending ----------------------------------------------------------------------------------------------------------- */
+/* ---- Stores -------------------------------------------------------------------------------------------------------------- */
 
 /*
- * As for updates. A plan of copies that are in step has no stores. The groups: the other block with both entries unused, the
- * record, the other block with its entry, and perhaps a last store to the kept block.
+ * Updates, mends and formatting answer stores: a device sector, and the 512 bytes that go there. They are asked for by number, from 0 up
+ * to the count, and have to be written in that order, with a flush of the device after each whose `flush` is set; that is the last of
+ * its group. A power cut may then come anywhere: docs/PROMISES.md says what it leaves.
  */
-#define AMSEOKBIN_MEND_PLAN 204u
+struct amseokbin_store_answer {
+    struct amseokbin_refusal refusal;
+    uint64_t sector;
+    bool flush;
+};
+
+/* Applies a store to the two copies in memory: they are then what reading the device again after that store gives. A sector that lies
+ * in neither copy changes nothing. After an update, without this or reading again, the next plan would store over the record that was just
+ * written. 1, 4, 7, 8. */
+struct amseokbin_refusal amseokbin_apply(struct amseokbin_device device, uint64_t sector, const uint8_t *bytes, size_t bytes_length,
+                                         uint8_t *front, size_t front_length, uint8_t *back, size_t back_length);
+
+/* Lays a record into an area of a copy in memory, its last sector filled with zeros. 1, 15. */
+struct amseokbin_refusal amseokbin_lay(uint8_t *copy, size_t copy_length, uint8_t area, const uint8_t *record, size_t record_length);
+
+/* ---- Updates ------------------------------------------------------------------------------------------------------------- */
+
+/*
+ * An update is worked out once, into a plan that the caller keeps. Its stores are then asked for with the copies that it was made of, as
+ * they were or with its earlier stores applied, and with its record. They are in four groups: 0 front area, 1 front block, 2 back area,
+ * 3 back block.
+ */
+
+/* What the new entry says, and the area of each copy that the record goes to. */
+struct amseokbin_update_plan {
+    struct amseokbin_entry entry;
+    uint8_t front;
+    uint8_t back;
+};
+
+struct amseokbin_update_plan_answer {
+    struct amseokbin_refusal refusal;
+    struct amseokbin_update_plan plan;
+};
+
+/* Whether an update is refused: 1, 10 to 13, 16, 9 (nanoseconds), 14, 15, 17, 18, 19, the first that applies. */
+struct amseokbin_refusal amseokbin_update_check(const uint8_t *front, size_t front_length, const uint8_t *back, size_t back_length,
+                                                struct amseokbin_time time, const uint8_t *record, size_t record_length);
+
+/* Works an update out. The same numbers. */
+struct amseokbin_update_plan_answer amseokbin_update_plan(const uint8_t *front, size_t front_length,
+                                                          const uint8_t *back, size_t back_length, struct amseokbin_time time,
+                                                          const uint8_t *record, size_t record_length);
+
+/* How many stores a plan has. */
+uint64_t amseokbin_update_count(struct amseokbin_update_plan plan);
+
+/* The group of a store, 0 to 3; AMSEOKBIN_NO_GROUP past the last store. */
+uint8_t amseokbin_update_group(struct amseokbin_update_plan plan, uint64_t number);
+
+/* A store. 1; 15 for a length that no record has; 1 for a record whose length is not the plan's; 23 past the last store. With a plan that no
+ * call made, or other copies, also 4, 6 to 9 of a block that cannot be written, and 23 for a sector past 2^64 - 1. */
+struct amseokbin_store_answer amseokbin_update_store(struct amseokbin_update_plan plan, const uint8_t *front, size_t front_length,
+                                                     const uint8_t *back, size_t back_length,
+                                                     const uint8_t *record, size_t record_length,
+                                                     uint64_t number, uint8_t *bytes, size_t bytes_length);
+
+/* ---- Formatting ---------------------------------------------------------------------------------------------------------- */
+
+/* Fills both copies in memory: area a holds the record, everything not named is zero. 1, 4, 6 to 9 (9 for nanoseconds), 15, 17 to 19. */
+struct amseokbin_refusal amseokbin_format(uint8_t *front, size_t front_length, uint8_t *back, size_t back_length,
+                                          struct amseokbin_device device, const uint8_t *pool, size_t pool_length,
+                                          const uint8_t *blockdev, size_t blockdev_length, struct amseokbin_time time,
+                                          const uint8_t *record, size_t record_length);
+
+/* The stores that write two whole copies to a device, in four groups: 0 the back's areas, 1 the back's header, 2 the front's areas, 3 the
+ * front's header. Formatting carries no promise about cuts. */
+uint64_t amseokbin_format_count(void);
+
+/* The group of a store, 0 to 3; AMSEOKBIN_NO_GROUP past the last store. */
+uint8_t amseokbin_format_group(uint64_t number);
+
+/* A store. 1, 4, 7, 8; 23 past the last store. */
+struct amseokbin_store_answer amseokbin_format_store(struct amseokbin_device device, const uint8_t *front, size_t front_length,
+                                                     const uint8_t *back, size_t back_length,
+                                                     uint64_t number, uint8_t *bytes, size_t bytes_length);
+
+/* ---- Mending ------------------------------------------------------------------------------------------------------------- */
+
+/*
+ * As for updates. The groups: 0 the other block with both entries unused, 1 the record, 2 the other block with its entry, 3 perhaps a last
+ * store to the kept block.
+ */
+
+/* Whether there is anything to store; the side whose copy is kept, the area of that copy with the record, whether there is a last store, and
+ * the record's length. All zero for copies that are in step. Every number but 0 is yes. */
+struct amseokbin_mend_plan {
+    uint32_t bytes;
+    uint8_t needed;
+    uint8_t kept;
+    uint8_t area;
+    uint8_t last;
+};
+
+struct amseokbin_mend_plan_answer {
+    struct amseokbin_refusal refusal;
+    struct amseokbin_mend_plan plan;
+};
 
 /* Works a mend out. 1, 10 to 13. */
-uint8_t amseokbin_mend_plan(const uint8_t *front, size_t front_length, const uint8_t *back, size_t back_length,
-                            uint8_t *plan, size_t plan_length);
-uint64_t amseokbin_mend_count(const uint8_t *plan, size_t plan_length);
-uint8_t amseokbin_mend_group(const uint8_t *plan, size_t plan_length, uint64_t number);
-uint8_t amseokbin_mend_store(const uint8_t *plan, size_t plan_length, const uint8_t *front, size_t front_length,
-                             const uint8_t *back, size_t back_length, uint64_t number, uint8_t *bytes, size_t bytes_length,
-                             uint64_t *sector, size_t sector_length);
+struct amseokbin_mend_plan_answer amseokbin_mend_plan(const uint8_t *front, size_t front_length,
+                                                      const uint8_t *back, size_t back_length);
 
-/* ---- Records ----------------------------------------------------------------------------------------------------------- */
+/* How many stores a plan has: none for copies that are in step. */
+uint64_t amseokbin_mend_count(struct amseokbin_mend_plan plan);
 
-/* Checks a record on a device. 4, 7, 8, 15, 17 to 19. */
-uint8_t amseokbin_record_check(uint64_t sectors, uint32_t metadata, uint32_t reserved, const uint8_t *record, size_t record_length);
+/* The group of a store, 0 to 3; AMSEOKBIN_NO_GROUP past the last store. */
+uint8_t amseokbin_mend_group(struct amseokbin_mend_plan plan, uint64_t number);
 
-/* What an accepted record says (an array of two numbers): its data block size in sectors, its number of segments. 1 first. */
-uint8_t amseokbin_record_head(uint64_t sectors, uint32_t metadata, uint32_t reserved, const uint8_t *record, size_t record_length,
-                              uint64_t *head, size_t head_length);
+/* A store. 1; 23 past the last store. With a plan that no call made, or other copies, also 15 and 1 for the length of the kept record, 4, 6
+ * to 9 of a block that cannot be written, and 23 for a sector past 2^64 - 1. */
+struct amseokbin_store_answer amseokbin_mend_store(struct amseokbin_mend_plan plan, const uint8_t *front, size_t front_length,
+                                                   const uint8_t *back, size_t back_length,
+                                                   uint64_t number, uint8_t *bytes, size_t bytes_length);
 
-/* The segment at a position, counted from 0 (an array of three): kind, start, length in sectors. 1 first; 22 last. */
-uint8_t amseokbin_record_segment(uint64_t sectors, uint32_t metadata, uint32_t reserved, const uint8_t *record, size_t record_length,
-                                 uint64_t position, uint64_t *segment, size_t segment_length);
+/* ---- Records ------------------------------------------------------------------------------------------------------------- */
 
-/* The segments from a position on, as many as a table has room for, three numbers for each: kind, start, length in sectors; how
- * many were handed on, to an array of one: 0 where none is left, also for a position past the last. Numbers past them stay. The
- * record is checked once for all of them; a walk goes on at the position plus that count, until it is 0. 1 for another count array
- * first; 1 where some are left and there is room for none, fewer than 3 numbers, last. */
-uint8_t amseokbin_record_segments(uint64_t sectors, uint32_t metadata, uint32_t reserved, const uint8_t *record, size_t record_length,
-                                  uint64_t position, uint64_t *table, size_t table_length, uint64_t *count, size_t count_length);
+/* Checks a record on a device. 4, 7, 8, 15, 17 to 19; all calls below that take a device and a record give these first. */
+struct amseokbin_refusal amseokbin_record_check(struct amseokbin_device device, const uint8_t *record, size_t record_length);
 
-/* Begins a record with its data block size, in the first 8 bytes of a buffer. 1 for too little room, then 17 for a size not
+/* The data block size in sectors, and the number of segments. */
+struct amseokbin_head_answer {
+    struct amseokbin_refusal refusal;
+    uint32_t block_size;
+    uint64_t segments;
+};
+
+struct amseokbin_head_answer amseokbin_record_head(struct amseokbin_device device, const uint8_t *record, size_t record_length);
+
+struct amseokbin_segment_answer {
+    struct amseokbin_refusal refusal;
+    struct amseokbin_segment segment;
+};
+
+/* The segment at a position, counted from 0. 22 last. */
+struct amseokbin_segment_answer amseokbin_record_segment(struct amseokbin_device device, const uint8_t *record, size_t record_length,
+                                                         uint64_t position);
+
+struct amseokbin_count_answer {
+    struct amseokbin_refusal refusal;
+    uint64_t count;
+};
+
+/* The segments from a position on, as many as a table has room for, three numbers for each: kind, start, length in sectors; how many were
+ * handed on: 0 where none is left, also for a position past the last. Numbers past them stay. The record is checked once for all of them; a walk
+ * goes on at the position plus that count, until it is 0. 1 where some are left and there is room for none, fewer than 3 numbers, last. */
+struct amseokbin_count_answer amseokbin_record_segments(struct amseokbin_device device, const uint8_t *record, size_t record_length,
+                                                        uint64_t position, uint64_t *table, size_t table_length);
+
+/* Begins a record with its data block size, in the first AMSEOKBIN_HEAD bytes of a buffer. 1 for too little room, then 17 for a size not
  * allowed. */
-uint8_t amseokbin_record_begin(uint8_t *record, size_t record_length, uint32_t block_size);
+struct amseokbin_refusal amseokbin_record_begin(uint8_t *record, size_t record_length, uint32_t block_size);
 
-/* ---- Free room --------------------------------------------------------------------------------------------------------- */
+/* A record's length in bytes. */
+struct amseokbin_length_answer {
+    struct amseokbin_refusal refusal;
+    uint64_t length;
+};
 
-/* These check device numbers and record first: 4, 7, 8, 15, 17 to 19. */
+/* Puts a segment at a position of a record that was begun in a buffer; the length is that of the record that ends with it. The segment
+ * may be anything: amseokbin_record_check tests the whole record. 17 for a buffer that does not begin with a head, 1 for too little room, last. */
+struct amseokbin_length_answer amseokbin_record_put(uint8_t *record, size_t record_length, uint64_t position,
+                                                    struct amseokbin_segment segment);
 
-/* Free sectors (an array of one number). 1 first. */
-uint8_t amseokbin_free_total(uint64_t sectors, uint32_t metadata, uint32_t reserved, const uint8_t *record, size_t record_length,
-                             uint64_t *total, size_t total_length);
+/* ---- Free room ----------------------------------------------------------------------------------------------------------- */
 
-/* The free runs, ascending, each as its start and its length in sectors, to a table of twice as many numbers as it has room for
- * runs; how many there are, to an array of one. Entries past them stay. 1 for another count array first; 1 for too little room, last. */
-uint8_t amseokbin_free_runs(uint64_t sectors, uint32_t metadata, uint32_t reserved, const uint8_t *record, size_t record_length,
-                            uint64_t *table, size_t table_length, uint64_t *count, size_t count_length);
-
-/* A free run: its first sector, and its length in sectors. */
-struct amseokbin_run {
-    uint64_t start;
+struct amseokbin_total_answer {
+    struct amseokbin_refusal refusal;
     uint64_t sectors;
 };
 
-/* The same to a table of runs; `entries` is how many it has room for. */
-uint8_t amseokbin_free_run_table(uint64_t sectors, uint32_t metadata, uint32_t reserved, const uint8_t *record, size_t record_length,
-                                 struct amseokbin_run *table, size_t entries, uint64_t *count, size_t count_length);
+/* Free sectors. */
+struct amseokbin_total_answer amseokbin_free_total(struct amseokbin_device device, const uint8_t *record, size_t record_length);
 
-/* Appends a segment of that kind and length, in the free run of lowest start that is long enough. The new record goes to a
- * buffer; its first sector and the new record's length, to an array of two. 1 for another array first, then the record's
- * numbers, 17, 18, 21, 20, and 1 for too little room, last. */
-uint8_t amseokbin_allocate(uint64_t sectors, uint32_t metadata, uint32_t reserved, const uint8_t *record, size_t record_length,
-                           uint16_t kind, uint64_t length, uint8_t *changed, size_t changed_length,
-                           uint64_t *answer, size_t answer_length);
+/* The free runs, ascending, to a table with room for so many runs; how many there are. Entries past them stay. 1 for too little room, last. */
+struct amseokbin_count_answer amseokbin_free_runs(struct amseokbin_device device, const uint8_t *record, size_t record_length,
+                                                  struct amseokbin_run *table, size_t entries);
 
-/* Removes the segment at a position. The new record goes to a buffer, its length to an array of one. 22, then 1 last. */
-uint8_t amseokbin_release(uint64_t sectors, uint32_t metadata, uint32_t reserved, const uint8_t *record, size_t record_length,
-                          uint64_t position, uint8_t *changed, size_t changed_length, uint64_t *answer, size_t answer_length);
+/* How many free runs there are. */
+struct amseokbin_count_answer amseokbin_run_count(struct amseokbin_device device, const uint8_t *record, size_t record_length);
+
+struct amseokbin_run_answer {
+    struct amseokbin_refusal refusal;
+    struct amseokbin_run run;
+};
+
+/* The free run with a number, counted from 0 and ascending; a run of no sectors at 0 where there is none. */
+struct amseokbin_run_answer amseokbin_run_at(struct amseokbin_device device, const uint8_t *record, size_t record_length, uint64_t number);
+
+/* The free run of lowest start that has so many sectors or more. Then 18, 20. */
+struct amseokbin_run_answer amseokbin_first_fit(struct amseokbin_device device, const uint8_t *record, size_t record_length,
+                                                uint64_t sectors);
+
+/* A new segment's first sector, and the new record's length in bytes. */
+struct amseokbin_allocation_answer {
+    struct amseokbin_refusal refusal;
+    uint64_t start;
+    uint64_t length;
+};
+
+/* Appends a segment of a kind and so many sectors, in the free run of lowest start that is long enough. The new record goes to a buffer; bytes past it
+ * stay. Then 17, 18, 21, 20, and 1 for too little room, last. */
+struct amseokbin_allocation_answer amseokbin_allocate(struct amseokbin_device device, const uint8_t *record, size_t record_length,
+                                                      uint16_t kind, uint64_t sectors, uint8_t *changed, size_t changed_length);
+
+/* Removes the segment at a position. The new record goes to a buffer; bytes past it stay. Then 22, and 1 for too little room, last. */
+struct amseokbin_length_answer amseokbin_release(struct amseokbin_device device, const uint8_t *record, size_t record_length,
+                                                 uint64_t position, uint8_t *changed, size_t changed_length);
 
 #ifdef __cplusplus
 }
