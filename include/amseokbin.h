@@ -69,7 +69,7 @@
  *             return 1;
  *
  *         // The update: all stores in their order, a flush where one is due, each applied to the copies in memory too.
- *         struct amseokbin_update_plan_answer p =
+ *         struct amseokbin_update_answer p =
  *             amseokbin_update_plan(front, sizeof front, back, sizeof back, booked, changed, a.length);
  *         if (refused("plan", p.refusal))
  *             return 1;
@@ -391,15 +391,15 @@ struct amseokbin_refusal amseokbin_lay(uint8_t *copy, size_t copy_length, uint8_
  */
 
 /* What the new entry says, and the area of each copy that the record goes to. */
-struct amseokbin_update_plan {
+struct amseokbin_update {
     struct amseokbin_entry entry;
     uint8_t front;
     uint8_t back;
 };
 
-struct amseokbin_update_plan_answer {
+struct amseokbin_update_answer {
     struct amseokbin_refusal refusal;
-    struct amseokbin_update_plan plan;
+    struct amseokbin_update plan;
 };
 
 /* Whether an update is refused: 1, 10 to 13, 16, 9 (nanoseconds), 14, 15, 17, 18, 19, the first that applies. */
@@ -407,19 +407,19 @@ struct amseokbin_refusal amseokbin_update_check(const uint8_t *front, size_t fro
                                                 struct amseokbin_time time, const uint8_t *record, size_t record_length);
 
 /* Works an update out. The same numbers. */
-struct amseokbin_update_plan_answer amseokbin_update_plan(const uint8_t *front, size_t front_length,
+struct amseokbin_update_answer amseokbin_update_plan(const uint8_t *front, size_t front_length,
                                                           const uint8_t *back, size_t back_length, struct amseokbin_time time,
                                                           const uint8_t *record, size_t record_length);
 
 /* How many stores a plan has. */
-uint64_t amseokbin_update_count(struct amseokbin_update_plan plan);
+uint64_t amseokbin_update_count(struct amseokbin_update plan);
 
 /* The group of a store, 0 to 3; AMSEOKBIN_NO_GROUP past the last store. */
-uint8_t amseokbin_update_group(struct amseokbin_update_plan plan, uint64_t number);
+uint8_t amseokbin_update_group(struct amseokbin_update plan, uint64_t number);
 
 /* A store. 1; 15 for a length that no record has; 1 for a record whose length is not the plan's; 23 past the last store. With a plan that no
  * call made, or other copies, also 4, 6 to 9 of a block that cannot be written, and 23 for a sector past 2^64 - 1. */
-struct amseokbin_store_answer amseokbin_update_store(struct amseokbin_update_plan plan, const uint8_t *front, size_t front_length,
+struct amseokbin_store_answer amseokbin_update_store(struct amseokbin_update plan, const uint8_t *front, size_t front_length,
                                                      const uint8_t *back, size_t back_length,
                                                      const uint8_t *record, size_t record_length,
                                                      uint64_t number, uint8_t *bytes, size_t bytes_length);
@@ -453,7 +453,7 @@ struct amseokbin_store_answer amseokbin_format_store(struct amseokbin_device dev
 
 /* Whether there is anything to store; the side whose copy is kept, the area of that copy with the record, whether there is a last store, and
  * the record's length. All zero for copies that are in step. Every number but 0 is yes. */
-struct amseokbin_mend_plan {
+struct amseokbin_mend {
     uint32_t bytes;
     uint8_t needed;
     uint8_t kept;
@@ -461,24 +461,24 @@ struct amseokbin_mend_plan {
     uint8_t last;
 };
 
-struct amseokbin_mend_plan_answer {
+struct amseokbin_mend_answer {
     struct amseokbin_refusal refusal;
-    struct amseokbin_mend_plan plan;
+    struct amseokbin_mend plan;
 };
 
 /* Works a mend out. 1, 10 to 13. */
-struct amseokbin_mend_plan_answer amseokbin_mend_plan(const uint8_t *front, size_t front_length,
+struct amseokbin_mend_answer amseokbin_mend_plan(const uint8_t *front, size_t front_length,
                                                       const uint8_t *back, size_t back_length);
 
 /* How many stores a plan has: none for copies that are in step. */
-uint64_t amseokbin_mend_count(struct amseokbin_mend_plan plan);
+uint64_t amseokbin_mend_count(struct amseokbin_mend plan);
 
 /* The group of a store, 0 to 3; AMSEOKBIN_NO_GROUP past the last store. */
-uint8_t amseokbin_mend_group(struct amseokbin_mend_plan plan, uint64_t number);
+uint8_t amseokbin_mend_group(struct amseokbin_mend plan, uint64_t number);
 
 /* A store. 1; 23 past the last store. With a plan that no call made, or other copies, also 15 and 1 for the length of the kept record, 4, 6
  * to 9 of a block that cannot be written, and 23 for a sector past 2^64 - 1. */
-struct amseokbin_store_answer amseokbin_mend_store(struct amseokbin_mend_plan plan, const uint8_t *front, size_t front_length,
+struct amseokbin_store_answer amseokbin_mend_store(struct amseokbin_mend plan, const uint8_t *front, size_t front_length,
                                                    const uint8_t *back, size_t back_length,
                                                    uint64_t number, uint8_t *bytes, size_t bytes_length);
 
