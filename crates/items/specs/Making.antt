@@ -9,6 +9,8 @@ use Rattle.refusal.specs.Tests.{Test, _elseRefuse_, first}
 use Rattle.endian.specs.Bytes.{toLe, splice, fits}
 use Rattle.segments.specs.declared.Segment.{Segment}
 use Rattle.items.specs.declared.Head.{Head}
+use Rattle.items.specs.declared.Put.{Put}
+use Rattle.items.specs.declared.Put.the-variants as Put
 use Rattle.items.specs.Head.{headOf, headBytes, headSize, headAllowed, itemBytes}
 
 -- length 20, kind, start, length
@@ -46,3 +48,23 @@ beginTests out h = (fits out 0 (headSize h) elseRefuse sliceSize) ∷ (headAllow
 
 abbrev pub begun : List ℕ → Head → List ℕ
 begun out h = unless (first (beginTests out h)) (splice out 0 (headBytes h)) out
+
+-- A segment put at position i of a record that was begun in out: 17 where there is no head within its limits, then 1 for too little room. The
+-- answer is the length of the record that ends with it.
+abbrev pub putTests : List ℕ → ℕ → List Test
+putTests out i = (headAllowed (headOf out) elseRefuse recordForm) ∷ (fits out (place out i) itemBytes elseRefuse sliceSize) ∷ []
+
+abbrev pub putAnswer : List ℕ → ℕ → Put
+putAnswer out i = cond (eqb (first (putTests out i)) 0) (Put.Length (place out i + itemBytes)) (Put.Refused (first (putTests out i)))
+
+abbrev pub putLeft : List ℕ → ℕ → Segment → List ℕ
+putLeft out i g = unless (first (putTests out i)) (splice out (place out i) (segmentBytes g)) out
+
+-- the refusal number, and the value
+abbrev pub putNumber : Put → ℕ
+putNumber (Put.Length n) = 0
+putNumber (Put.Refused n) = n
+
+abbrev pub putValues : Put → List ℕ
+putValues (Put.Length n) = n ∷ []
+putValues (Put.Refused n) = []

@@ -13,7 +13,7 @@ ghost use Rattle.segments.specs.Segments.{nth};
 ghost use Rattle.items.specs.declared.Head.the-variants.{Plain};
 ghost use Rattle.items.specs.Head.{itemOf, isSegment, headOf, headSize, headBytes, blockSize, blockSizeAllowed, headAllowed, headRight, allows, rangeFor, itemBytes, mostSegments};
 ghost use Rattle.items.specs.Items.{itemsOf, segmentOf, segmentsIn, segments, itemRight, framed, wellFormed};
-ghost use Rattle.items.specs.Making.{segmentBytes, place, beginTests, begun};
+ghost use Rattle.items.specs.Making.{segmentBytes, place, beginTests, begun, putAnswer, putLeft};
 
 // Bytes of a segment's item.
 pub const ITEM_BYTES: usize = 20;
@@ -38,6 +38,12 @@ pub enum Item {
 pub enum Head {
     Plain(u32),
     Unknown,
+}
+
+// What `put_at` answers: a record's length in bytes.
+pub enum Put {
+    Length(usize),
+    Refused(u8),
 }
 
 // What an item of this kind is.
@@ -331,4 +337,21 @@ pub fn put_segment(out: &mut [u8], at: usize, g: Segment) -> u8
     endian::write_u64(out, at + 4, g.start);
     endian::write_u64(out, at + 12, g.sectors);
     refusal::NONE
+}
+
+// Puts a segment at position i of a record that was begun in out; the record that ends with it then has so many bytes. 17 where out does
+// not begin with a head within its limits, 1, last, where there is no room; then out stays.
+pub fn put_at(out: &mut [u8], i: usize, g: Segment) -> Put
+    ensures { λ r. ⌜ r ≡ putAnswer (now (out .entry)) i ⌝ }
+    ensures { λ _. ⌜ now (out .exit) ≡ putLeft (now (out .entry)) i g ⌝ }
+{
+    if !head_allowed(head_of(out)) {
+        return Put::Refused(refusal::RECORD_FORM);
+    }
+    let at = place_in(out, i);
+    let n = put_segment(out, at, g);
+    if n != 0 {
+        return Put::Refused(n);
+    }
+    Put::Length(at + ITEM_BYTES)
 }

@@ -1,0 +1,5 @@
+-- What the contracts of `amseokbin` cite, and what its calls give.
+pub mod Answers
+pub mod Copies
+pub mod Records
+pub mod Room

@@ -1,0 +1,136 @@
+// Records, as C has them.
+ghost use mathlib.Core.Path.{_≡_};
+ghost use lib.ListN.{length};
+ghost use Rattle.refusal.specs.Tests.{first};
+ghost use Rattle.refusal.specs.Refusals.{plain};
+ghost use Rattle.items.specs.declared.Head.the-variants.{Plain};
+ghost use Rattle.items.specs.Making.{beginTests, begun, putAnswer, putLeft};
+ghost use Rattle.record.specs.Accept.{recordTests};
+ghost use Rattle.record.specs.Answers.{segmentAnswer, segmentsAnswer, segmentsLeft};
+ghost use Rattle.amseokbin.specs.Records as Told;
+use crate::CountAnswer;
+use crate::HeadAnswer;
+use crate::LengthAnswer;
+use crate::SegmentAnswer;
+use items::Head;
+use items::Put;
+use layout::Device;
+use record::Counted;
+use record::Found;
+use refusal::Refusal;
+use segments::Segment;
+
+// Checks a record on a device.
+#[no_mangle]
+pub extern "C" fn amseokbin_record_check(device: Device, content: &[u8]) -> Refusal
+    ensures { λ r. ⌜ r ≡ plain (first (recordTests device (now (content .entry)))) ⌝ }
+{
+    refusal::plain(record::check(device, content))
+}
+
+// What an accepted record says: its data block size, its number of segments.
+#[no_mangle]
+pub extern "C" fn amseokbin_record_head(device: Device, content: &[u8]) -> HeadAnswer
+    ensures { λ r. ⌜ r ≡ Told.headAnswer device (now (content .entry)) ⌝ }
+{
+    let n = record::check(device, content);
+    if n != 0 {
+        return HeadAnswer {
+            refusal: refusal::plain(n),
+            size: 0,
+            segments: 0,
+        };
+    }
+    HeadAnswer {
+        refusal: refusal::plain(0),
+        size: items::block_size(items::head_of(content)),
+        segments: items::count_of(content) as u64,
+    }
+}
+
+// A segment, as C has it.
+fn tell_segment(a: Found) -> SegmentAnswer
+    ensures { λ r. ⌜ r ≡ Told.segmentAnswer a ⌝ }
+{
+    match a {
+        Found::At(segment) => SegmentAnswer {
+            refusal: refusal::plain(0),
+            segment,
+        },
+        Found::Refused(n) => SegmentAnswer {
+            refusal: refusal::plain(n),
+            segment: Segment {
+                kind: 0,
+                start: 0,
+                sectors: 0,
+            },
+        },
+    }
+}
+
+// The segment at a position, counted from 0.
+#[no_mangle]
+pub extern "C" fn amseokbin_record_segment(device: Device, content: &[u8], position: u64) -> SegmentAnswer
+    ensures { λ r. ⌜ r ≡ Told.segmentAnswer (segmentAnswer device (now (content .entry)) position) ⌝ }
+{
+    tell_segment(record::read_segment(device, content, position as usize))
+}
+
+// How many segments were handed on, as C has it.
+fn tell_segments(a: Counted) -> CountAnswer
+    ensures { λ r. ⌜ r ≡ Told.countedAnswer a ⌝ }
+{
+    match a {
+        Counted::Segments(k) => CountAnswer {
+            refusal: refusal::plain(0),
+            count: k as u64,
+        },
+        Counted::Refused(n) => CountAnswer {
+            refusal: refusal::plain(n),
+            count: 0,
+        },
+    }
+}
+
+// The segments from a position on, as many as a table has room for: kind, start, length in sectors for each.
+#[no_mangle]
+pub extern "C" fn amseokbin_record_segments(device: Device, content: &[u8], position: u64, table: &mut [u64]) -> CountAnswer
+    ensures { λ r. ⌜ r ≡ Told.countedAnswer (segmentsAnswer device (now (content .entry)) position (length (now (table .entry)))) ⌝ }
+    ensures { λ _. ⌜ now (table .exit) ≡ segmentsLeft device (now (content .entry)) position (now (table .entry)) ⌝ }
+{
+    tell_segments(record::read_segments(device, content, position as usize, table))
+}
+
+// Begins a record with its data block size.
+#[no_mangle]
+pub extern "C" fn amseokbin_record_begin(content: &mut [u8], size: u32) -> Refusal
+    ensures { λ r. ⌜ r ≡ plain (first (beginTests (now (content .entry)) (Plain size))) ⌝ }
+    ensures { λ _. ⌜ now (content .exit) ≡ begun (now (content .entry)) (Plain size) ⌝ }
+{
+    refusal::plain(items::begin(content, Head::Plain(size)))
+}
+
+// A record's length, as C has it.
+fn tell_put(a: Put) -> LengthAnswer
+    ensures { λ r. ⌜ r ≡ Told.putAnswer a ⌝ }
+{
+    match a {
+        Put::Length(n) => LengthAnswer {
+            refusal: refusal::plain(0),
+            length: n as u64,
+        },
+        Put::Refused(n) => LengthAnswer {
+            refusal: refusal::plain(n),
+            length: 0,
+        },
+    }
+}
+
+// Puts a segment at a position of a record that was begun in a buffer.
+#[no_mangle]
+pub extern "C" fn amseokbin_record_put(content: &mut [u8], position: u64, segment: Segment) -> LengthAnswer
+    ensures { λ r. ⌜ r ≡ Told.putAnswer (putAnswer (now (content .entry)) position) ⌝ }
+    ensures { λ _. ⌜ now (content .exit) ≡ putLeft (now (content .entry)) position segment ⌝ }
+{
+    tell_put(items::put_at(content, position as usize, segment))
+}
