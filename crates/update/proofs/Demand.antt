@@ -1,13 +1,13 @@
 -- Demand 3, proved: one claim over every start, update and cut.
 use Prim.Native.Nat.{ℕ, zero, suc, _+_, _-_, _*_, _^_, _≤_, _<_}
 use mathlib.Core.Path.{_≡_, refl, sym, ap, subst, _∙_}
-use mathlib.Core.Bool.{true, true≢false}
-use mathlib.Core.Logic.{_⊎_, inl, inr}
+use mathlib.Core.Bool.{true, not, true≢false}
+use mathlib.Core.Logic.{_⊎_, inl, inr, _↔_}
 use mathlib.Core.List.{List, []}
 use native.Mathlib.Decide.{ℕ-discrete}
 use native.Mathlib.Nat.{le-refl}
 use native.Mathlib.Omega.{arith}
-use borrow.Author.Tests.{le-leb, lt-ltb, le-ltb, eq-eqb}
+use borrow.Author.Tests.{le-leb, lt-ltb, le-ltb, eq-eqb, ne-eqb}
 use lib.Dec.{eqb, ltb}
 use lib.ListN.{length}
 use Rattle.endian.specs.Bytes.{same}
@@ -44,6 +44,7 @@ use Rattle.discovery.specs.declared.Answer.{Answer}
 use Rattle.discovery.specs.Discovery.{sameDevice, sized, inStep}
 use Rattle.discovery.proofs.Latest.{found-same}
 use Rattle.crash.specs.Crash.{Sectors, Sound, Store, Cut, Groups, stores, storeIn, groupStart, landed, CutIn, areaSectors, copyFrom}
+use Rattle.crash.proofs.Landing.{landed-size}
 use Rattle.crash.proofs.Copies.{limit-small}
 use Rattle.stores.specs.declared.Part.{Part}
 use Rattle.stores.specs.declared.Given.{Given}
@@ -53,7 +54,7 @@ use Rattle.stores.specs.Given.{partGiven, partLeft, lentRight}
 use Rattle.stores.specs.States.{Gives, Ready, Answered, Excused, Fits}
 use Rattle.stores.proofs.Holding.{heldIn, recordIn, Holds, newest-changed}
 use Rattle.stores.proofs.Discovering.{alone-found, later-found}
-use Rattle.stores.proofs.Padding.{sectors-few, sectors-within, length-sector}
+use Rattle.stores.proofs.Padding.{sectors-few, sectors-least, sectors-within, length-sector}
 use Rattle.stores.proofs.OneSide as OneSide
 use Rattle.stores.proofs.Blocks.{number-fits, device-kept}
 use Rattle.stores.proofs.InStep.{Stepped, refused-differs, verdict-facts, same-device-test}
@@ -66,11 +67,12 @@ use Rattle.stores.proofs.States.{is-copy, stepped-found, stepped-present, made-
 use Rattle.update.specs.declared.Plan.{Plan}
 use Rattle.update.specs.declared.Planned.the-variants as Planned
 use Rattle.update.specs.Update.{testsAfter, numberAfter, updateNumber, spare, newBlock}
-use Rattle.update.specs.Plan.{storesIn, groupOf, partOn, storeTests, storeAnswer, storeBytes}
-use Rattle.update.specs.Demand.{Start, Outcome, groupsOn, planOn, Demand3, areaGroup, blockGroup, Places, Placing, Giving}
+use Rattle.update.specs.Plan.{storesIn, groupOf, flushAfter, partOn, storeTests, storeAnswer, storeBytes}
+use Rattle.update.specs.Demand.{Start, Outcome, groupsOn, planOn, copyAfter, Demand3, areaGroup, blockGroup, Places, Placing, Giving}
 use Rattle.update.proofs.NewBlock.{new-reads, new-writes, new-written}
 use Rattle.update.proofs.NewHeld.{new-held}
-use Rattle.update.proofs.Choosing.{in-none, store-refused, front-store, back-store}
+use Rattle.update.proofs.Choosing as Choosing
+use Rattle.update.proofs.Choosing.{in-none, flush-past, flush-at, store-refused, front-store, back-store}
 use Rattle.update.proofs.Stores.{starting, begin, count, by-side, side, group-starts, grouped, groups-four}
 
 module _ (v : Device) (d : Sectors) (u : Time) (q : List ℕ) (t : Time) (r : List ℕ) (s : Start v d u q t r) where
@@ -558,15 +560,72 @@ module _ (v : Device) (d : Sectors) (u : Time) (q : List ℕ) (t : Time) (r : Li
         (λ z. omega arith) in
         (sym (x .0), sym (x .1))
 
-  all-given : (out : List ℕ) (room : length out ≡ 512) (i : ℕ) → i < all → GivenAt (copy Front) (copy Back) (stepped .sizes) out room i
-  all-given out room = by-side k (GivenAt (copy Front) (copy Back) (stepped .sizes) out room) (λ w j h. on w j h)
-    where
-      on : (w : Side) (j : ℕ) → j ≤ k → GivenAt (copy Front) (copy Back) (stepped .sizes) out room (begin k w + j)
-      on Front j h = front-given (copy Front) (copy Back) (stepped .sizes) out room refl j h
-      on Back j h = back-given (copy Front) (copy Back) (stepped .sizes) out room refl j h
+  -- the device after the first j stores, and its copies: a side's block stands as it was until its own store, the last of the side
+  module _ (j : ℕ) (most : j ≤ all) where
+    abbrev after : Sectors
+    after = landed (storeIn groups) j d
+
+    after-sound : Sound after
+    after-sound = record { size = landed-size (storeIn groups) d (sd .size) j (λ i l. fits i (omega arith) .size) }
+
+    after-sized : sized (copyFrom Front v after) (copyFrom Back v after) ≡ true
+    after-sized = sized-copies v after after after-sound after-sound
+
+    after-block : (w : Side) → j ≤ begin k w + k → blockIn (copyFrom w v after) ≡ blockIn (copy w)
+    after-block w l = at-block w after after-sound ∙ (OneSide.block-kept (laid w) d j l ∙ sym (at-block w d sd))
+
+    all-given : (out : List ℕ) (room : length out ≡ 512) (i : ℕ) → i < all → j ≤ i → GivenAt (copyFrom Front v after) (copyFrom Back v after) after-sized out room i
+    all-given out room = by-side k (λ (i : ℕ). j ≤ i → GivenAt (copyFrom Front v after) (copyFrom Back v after) after-sized out room i) on
+      where
+        on : (w : Side) (i : ℕ) → i ≤ k → j ≤ begin k w + i → GivenAt (copyFrom Front v after) (copyFrom Back v after) after-sized out room (begin k w + i)
+        on Front i h l = front-given (copyFrom Front v after) (copyFrom Back v after) after-sized out room (after-block Front (omega arith)) i h
+        on Back i h l = back-given (copyFrom Front v after) (copyFrom Back v after) after-sized out room (after-block Back (omega arith)) i h
 
   no-group : (i : ℕ) → all ≤ i → groupOf plan i ≡ 4
   no-group i l = sym (in-none plan i k refl (omega arith) (omega arith) (omega arith) _ refl (omega arith))
+
+  -- where a flush belongs
+  some : 1 ≤ k
+  some = sectors-least (length r) (length-facts (length r) its-length .0)
+
+  ends-within : (g : ℕ) → g < 4 → starting k (suc g) ≤ all
+  ends-within zero h = omega arith
+  ends-within (suc zero) h = omega arith
+  ends-within (suc (suc zero)) h = omega arith
+  ends-within (suc (suc (suc zero))) h = omega arith
+  ends-within (suc (suc (suc (suc g)))) h = absurd (let o : _≡_ {A = ℕ} 0 1 = omega arith in omega arith)
+
+  -- the store after a group's last is in another
+  next-group : (g i : ℕ) → g < 4 → i ≡ starting k (suc g) → suc g ≡ groupOf plan i
+  next-group zero i h e = Choosing.in-front-block plan i k refl (omega arith) (omega arith)
+  next-group (suc zero) i h e = let o : 1 ≤ k = some in Choosing.in-back-area plan i k refl (omega arith) (omega arith) (omega arith)
+  next-group (suc (suc zero)) i h e = Choosing.in-back-block plan i k refl (omega arith) (omega arith) (omega arith) _ refl (omega arith)
+  next-group (suc (suc (suc zero))) i h e = in-none plan i k refl (omega arith) (omega arith) (omega arith) _ refl (omega arith)
+  next-group (suc (suc (suc (suc g)))) i h e = absurd (let o : _≡_ {A = ℕ} 0 1 = omega arith in omega arith)
+
+  module _ (g i : ℕ) (h : g < 4) (a : groupStart groups g ≤ i) (b : i < groupStart groups (suc g)) where
+    here : g ≡ groupOf plan i
+    here = grouped (copy Front) (copy Back) t r plan refl g i h a b
+
+    flush-by : (m : ℕ) → m ≡ groupOf plan (suc i) → not (eqb g m) ≡ flushAfter plan i
+    flush-by m e =
+        let p : groupStart groups (suc g) ≡ starting k (suc g) = starts-at (suc g) in
+        let q : starting k (suc g) ≤ all = ends-within g h in
+        let l : i < storesIn plan = omega arith in
+        flush-at plan i (storesIn plan) refl l g m here (e ∙ ap (groupOf plan) (let o : suc i ≡ i + 1 = omega arith in o))
+
+    flushes : flushAfter plan i ≡ true ↔ suc i ≡ groupStart groups (suc g)
+    flushes = (
+      λ f. elim (ℕ-discrete (suc i) (groupStart groups (suc g))) [
+        | yes e ↦ e
+        | no e ↦
+            absurd
+            (true≢false
+            (sym f
+            ∙ (sym (flush-by g (grouped (copy Front) (copy Back) t r plan refl g (suc i) h (omega arith) (omega arith))) ∙ ap not (eq-eqb g g refl))))
+      ],
+      λ e. sym (flush-by (suc g) (next-group g (suc i) h (e ∙ starts-at (suc g)))) ∙ ap not (ne-eqb g (suc g) (λ z. omega arith)),
+    )
 
   -- its number is 0
   number : updateNumber (copy Front) (copy Back) t r ≡ 0
@@ -584,6 +643,11 @@ demand3 v d u q t r s = (
   (groups-four (copyFrom Front v d) (copyFrom Back v d) t r, λ e g c x. outcome v d u q t r s e g c x),
 )
 
+-- before the first store the copies are as they were
+pub copy-before : (v : Device) (d : Sectors) (t : Time) (r : List ℕ) (w : Side) → copyAfter v d t r 0 w ≡ copyFrom w v d
+unfolding landed
+copy-before v d t r w = refl
+
 pub placing : Placing
 placing v d u q t r s = places v d u q t r s
 
@@ -598,6 +662,13 @@ giving v d u q t r s =
       two-k-two = refl;
       grouped = λ g i h a b. sym (grouped (copyFrom Front v d) (copyFrom Back v d) t r (planOn v d t r) refl g i h a b);
       no-group = λ i l. no-group v d u q t r s i (subst (λ (n : ℕ). n ≤ i) (stores-count v d u q t r s) l);
-      store = λ i out l room. all-given v d u q t r s out room i (subst (λ (n : ℕ). i < n) (stores-count v d u q t r s) l);
-      no-store = λ i out l room. none-given v d u q t r s (copyFrom Front v d) (copyFrom Back v d) (stepped v d u q t r s .sizes) out room i (subst (λ (n : ℕ). n ≤ i) (stores-count v d u q t r s) l);
+      flush = λ g i h a b. flushes v d u q t r s g i h a b;
+      no-flush = λ i l. sym (flush-past (planOn v d t r) i (storesIn (planOn v d t r)) refl (let c : length (stores (groupsOn v d t r)) ≡ sectorsOf (length r) + 1 + sectorsOf (length r) + 1 = stores-count v d u q t r s in omega arith));
+      store = λ j i out h l room.
+          let n : i < sectorsOf (length r) + 1 + sectorsOf (length r) + 1 = subst (λ (n : ℕ). i < n) (stores-count v d u q t r s) l in
+          all-given v d u q t r s j (omega arith) out room i n h;
+      no-store = λ j i out h l room.
+          let m : j ≤ sectorsOf (length r) + 1 + sectorsOf (length r) + 1 = subst (λ (n : ℕ). j ≤ n) (stores-count v d u q t r s) h in
+          none-given v d u q t r s (copyAfter v d t r j Front) (copyAfter v d t r j Back) (after-sized v d u q t r s j m) out room i
+          (subst (λ (n : ℕ). n ≤ i) (stores-count v d u q t r s) l);
     }
