@@ -63,7 +63,7 @@ use Rattle.stores.proofs.Choosing.{lent-right, block-given, area-given, part-gi
 use Rattle.stores.proofs.Facts.{other-differs, renamed, sized-copies, split, stands-as}
 use Rattle.stores.proofs.Agreeing.{found-front}
 use Rattle.stores.proofs.Places.{Sizes, sizes-accepted, near, area-near, area-below, block-below, block-apart, areas-apart}
-use Rattle.stores.proofs.States.{is-copy, stepped-found, stepped-present, made-ready, made-answered, ready-stepped, ready-time, ready-record}
+use Rattle.stores.proofs.States.{stepped-found, stepped-present, made-ready, made-answered, ready-stepped, ready-time, ready-record}
 use Rattle.update.specs.declared.Plan.{Plan}
 use Rattle.update.specs.declared.Planned.the-variants as Planned
 use Rattle.update.specs.Update.{testsAfter, numberAfter, updateNumber, spare, newBlock}
@@ -471,12 +471,12 @@ module _ (v : Device) (d : Sectors) (u : Time) (q : List ℕ) (t : Time) (r : Li
   part w = record { area = areaSector w (spare (copy w)) v; block = blockSector w v; fields = newFields w }
 
   -- A side's copy c in which the block still stands: what a plan's store gives depends on nothing else of it.
-  module _ (w : Side) (c : List ℕ) (sized : isCopy c ≡ true) (same-block : blockIn c ≡ blockIn (copy w)) (out : List ℕ) (room : length out ≡ 512) where
+  module _ (w : Side) (c : List ℕ) (right-size : isCopy c ≡ true) (same-block : blockIn c ≡ blockIn (copy w)) (out : List ℕ) (room : length out ≡ 512) where
     its-part : partOn w (spare (copy w)) (holdingFor t r) c ≡ part w
-    its-part = ap (partWith w) same-block ∙ ap (λ (z : Device). record { area = areaSector w (spare (copy w)) z; block = blockSector w z; fields = newFields w }) (old-device w)
+    its-part = ap with-block same-block ∙ ap (λ (z : Device). record { area = areaSector w (spare (copy w)) z; block = blockSector w z; fields = newFields w }) (old-device w)
       where
-        partWith : Side → List ℕ → Part
-        partWith w b =
+        with-block : List ℕ → Part
+        with-block b =
             record {
               area = areaSector w (spare (copy w)) (deviceOf b);
               block = blockSector w (deviceOf b);
@@ -490,12 +490,12 @@ module _ (v : Device) (d : Sectors) (u : Time) (q : List ℕ) (t : Time) (r : Li
         let a : areaSector w (spare (copy w)) v + j < v .sectors = area-below v its-sizes w (spare (copy w)) j (omega arith) in
         let b : v .sectors < 256 ^ 8 = sectors-fit in
         let h : areaSector w (spare (copy w)) v ≤ 18446744073709551615 - j = omega arith in
-        area-given (part w) k c r j out sized room its-length (omega arith) l h
+        area-given (part w) k c r j out right-size room its-length (omega arith) l h
 
     given-block : (partGiven (part w) k c r k out ≡ Given.At (blockSector w v)) × (partLeft (part w) k c r k out ≡ newBlock (copy w) t r)
     given-block =
-        part-given (part w) k c r k out sized room its-length (le-refl k) (le-refl k) (blockSector w v) (newBlock (copy w) t r)
-        (block-given (blockSector w v) (newFields w) c out (newBlock (copy w) t r) sized
+        part-given (part w) k c r k out right-size room its-length (le-refl k) (le-refl k) (blockSector w v) (newBlock (copy w) t r)
+        (block-given (blockSector w v) (newFields w) c out (newBlock (copy w) t r) right-size
         (ap (λ (b : List ℕ). first (writeTests out (poolOf b) (blockdevOf b) (newFields w))) same-block
         ∙ new-writes (copy w) (stepped .accepted w) (heldIn (copy w)) (its-used w) t r (s .fits) its-time its-length (its-later w) out room)
         (ap (λ (b : List ℕ). written out (poolOf b) (blockdevOf b) (newFields w)) same-block
@@ -516,9 +516,9 @@ module _ (v : Device) (d : Sectors) (u : Time) (q : List ℕ) (t : Time) (r : Li
           )
         ]
 
-  -- two copies, of which those of a side's stores have its block as it was
+  -- what the plan's stores give with two copies, where that of the store's side has its block as it was
   module _ (f b : List ℕ) (lent : sized f b ≡ true) (out : List ℕ) (room : length out ≡ 512) where
-    -- the number of a store's tests
+    -- no test refuses a store that is there
     passes : (i : ℕ) → i < storesIn plan → 0 ≡ first (storeTests plan f b r i out)
     passes i l =
         sym (first-all (storeTests plan f b r i out) (lent-right f b out lent room, (its-length, (eq-eqb (length r) (length r) refl, (lt-ltb i (storesIn plan) l, tt)))))

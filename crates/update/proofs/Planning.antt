@@ -37,7 +37,7 @@ use Rattle.discovery.specs.Discovery.{findingOf, aloneOf, newestOf, togetherOf,
 use Rattle.discovery.specs.Newest.{timeAt}
 use Rattle.discovery.proofs.Latest.{found-same, found-other}
 use Rattle.stores.specs.declared.Part.{Part}
-use Rattle.stores.specs.Stores.{holdingFor, withEntry}
+use Rattle.stores.specs.Stores.{withEntry}
 use Rattle.stores.proofs.Holding.{heldIn}
 use Rattle.stores.proofs.InStep.{Stepped, in-step-facts}
 use Rattle.stores.proofs.States.{stepped-found}
