@@ -184,10 +184,10 @@ fn part_on(w: Side, x: Area, h: Holding, c: &[u8]) -> Part
     }
 }
 
-// The store of a plan with number i, counted from 0: its 512 bytes into out, its sector as the answer. The record is that which the
-// plan was made of, and so are the copies, as they were or with earlier stores of the plan applied to them. 1 for a slice of another
-// size and for a record of another length than the plan's, 15 for a length that no record has, 23 past the last store and for a
-// sector past 2^64 - 1 of copies that say so; a block that the writer refuses gives its number. Then out stays.
+// The store of a plan with number i, counted from 0: its 512 bytes into out, its sector as the answer. The record is the one that the
+// plan was made of; the copies are those, as they were or with the plan's earlier stores in them. 1 for a slice of another size, 15 for
+// a length that no record has, 1 for a length that is not the plan's, 23 past the last store and where a copy's own numbers place it
+// past sector 2^64 - 1; a block that the writer refuses gives its number. Then out stays.
 pub fn store(p: Plan, f: &[u8], b: &[u8], r: &[u8], i: u64, out: &mut [u8]) -> Given
     ensures { λ g. ⌜ g ≡ storeAnswer p (now (f .entry)) (now (b .entry)) (now (r .entry)) i (now (out .entry)) ⌝ }
     ensures { λ _. ⌜ now (out .exit) ≡ storeBytes p (now (f .entry)) (now (b .entry)) (now (r .entry)) i (now (out .entry)) ⌝ }
