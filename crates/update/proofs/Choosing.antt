@@ -1,87 +1,101 @@
 -- Which case of the answers applies, from what the code has tested.
-use Prim.Native.Nat.{ℕ, _+_, _-_, _*_, _≤_, _<_}
-use mathlib.Core.Path.{_≡_, refl, sym, ap, _∙_}
-use mathlib.Core.Bool.{Bool, true, false, cond}
-use mathlib.Core.List.{List, []}
+use Prim.Native.Nat.{ℕ, suc, _+_, _-_, _*_, _≤_, _<_}
+use mathlib.Core.Path.{_≡_, sym, ap, ap₂, _∙_}
+use mathlib.Core.Bool.{Bool, true, false, cond, not, _&&_}
+use mathlib.Core.List.{List}
 use native.Mathlib.Omega.{arith}
 use borrow.Author.Tests.{lt-ltb, le-ltb, le-leb, lt-leb}
-use lib.Dec.{leb, ltb}
+use lib.Dec.{eqb, leb, ltb}
 use lib.ListN.{length}
 use Rattle.refusal.specs.Tests.{first}
-use Rattle.refusal.proofs.Order.{first-pass, first-fail, first-all, answer-no, answer-yes}
-use Rattle.layout.specs.Limits.{lengthAllowed}
-use Rattle.update.specs.declared.Plan.{Plan}
+use Rattle.refusal.proofs.Order.{answer-no, answer-yes}
+use Rattle.layout.specs.declared.Side.the-variants.{Front, Back}
+use Rattle.stores.specs.declared.Part.{Part}
 use Rattle.stores.specs.declared.Given.{Given}
 use Rattle.stores.specs.declared.Given.the-variants as Given
-use Rattle.update.specs.Plan.{storesIn, groupOf, storeTests, sidesAnswer, sidesBytes, storeAnswer, storeBytes}
-use Rattle.stores.specs.Given.{partGiven, partLeft, lentRight}
+use Rattle.stores.specs.Given.{planTests, partGiven, partLeft}
+use Rattle.update.specs.declared.Plan.{Plan}
+use Rattle.update.specs.Plan.{sectorsIn, storesIn, groupOf, flushAfter, partOn, storeTests, sidesAnswer, sidesBytes, storeAnswer, storeBytes}
 
-module _ (p : Plan) (i : ℕ) where
-  pub in-front-area : i < p .sectors → 0 ≡ groupOf p i
-  in-front-area h = rw (lt-ltb i (p .sectors) h)
+-- the group of store i of a record that fills k sectors
+abbrev groupIn : ℕ → ℕ → ℕ
+groupIn k i = cond (ltb i k) 0 (cond (leb i k) 1 (cond (leb i (2 * k)) 2 (cond (ltb i (2 * k + 2)) 3 4)))
 
-  module _ (a : p .sectors ≤ i) where
-    pub in-front-block : i ≤ p .sectors → 1 ≡ groupOf p i
-    in-front-block h = rw (le-ltb i (p .sectors) a, le-leb i (p .sectors) h)
+module _ (p : Plan) (i k : ℕ) (e : k ≡ sectorsIn p) where
+  its-group : (g : ℕ) → g ≡ groupIn k i → g ≡ groupOf p i
+  its-group g h = h ∙ ap (λ (n : ℕ). groupIn n i) e
 
-    module _ (b : p .sectors < i) where
-      pub in-back-area : i ≤ 2 * (p .sectors) → 2 ≡ groupOf p i
-      in-back-area h = rw (le-ltb i (p .sectors) a, lt-leb i (p .sectors) b, le-leb i (2 * (p .sectors)) h)
+  pub in-front-area : i < k → 0 ≡ groupOf p i
+  in-front-area h = its-group 0 (rw (lt-ltb i k h))
 
-      module _ (c : 2 * (p .sectors) < i) (n : ℕ) (e : n ≡ storesIn p) where
+  module _ (a : k ≤ i) where
+    pub in-front-block : i ≤ k → 1 ≡ groupOf p i
+    in-front-block h = its-group 1 (rw (le-ltb i k a, le-leb i k h))
+
+    module _ (b : k < i) where
+      pub in-back-area : i ≤ 2 * k → 2 ≡ groupOf p i
+      in-back-area h = its-group 2 (rw (le-ltb i k a, lt-leb i k b, le-leb i (2 * k) h))
+
+      module _ (c : 2 * k < i) (n : ℕ) (en : n ≡ storesIn p) where
+        its-count : n ≡ 2 * k + 2
+        its-count = en ∙ sym (ap (λ (m : ℕ). 2 * m + 2) e)
+
         pub in-back-block : i < n → 3 ≡ groupOf p i
         in-back-block h =
-            rw (le-ltb i (p .sectors) a, lt-leb i (p .sectors) b, lt-leb i (2 * (p .sectors)) c, sym (ap (ltb i) e), lt-ltb i n h)
+            let m : n ≡ 2 * k + 2 = its-count in
+            its-group 3 (rw (le-ltb i k a, lt-leb i k b, lt-leb i (2 * k) c, lt-ltb i (2 * k + 2) (omega arith)))
 
         pub in-none : n ≤ i → 4 ≡ groupOf p i
         in-none h =
-            rw (le-ltb i (p .sectors) a, lt-leb i (p .sectors) b, lt-leb i (2 * (p .sectors)) c, sym (ap (ltb i) e), le-ltb i n h)
+            let m : n ≡ 2 * k + 2 = its-count in
+            its-group 4 (rw (le-ltb i k a, lt-leb i k b, lt-leb i (2 * k) c, le-ltb i (2 * k + 2) (omega arith)))
 
-module _ (p : Plan) (f b r : List ℕ) (i : ℕ) (out : List ℕ) where
-  store-refused : (n : ℕ) → first (storeTests p f b r i out) ≡ n → (n ≡ 0 → ⊥)
-      → (Given.Refused n ≡ storeAnswer p f b r i out) × (out ≡ storeBytes p f b r i out)
-  store-refused n e z = (
-    answer-no (sidesAnswer p f b r i out) Given.Refused n (first (storeTests p f b r i out)) (sym e) z,
-    answer-no (sidesBytes p f b r i out) (λ (k : ℕ). out) n (first (storeTests p f b r i out)) (sym e) z,
+-- a flush after a store that is there, by its group and the next one's, and after none
+module _ (p : Plan) (i n : ℕ) (e : n ≡ storesIn p) where
+  pub flush-past : n ≤ i → false ≡ flushAfter p i
+  flush-past h = ap (λ (b : Bool). b && not (eqb (groupOf p i) (groupOf p (suc i)))) (sym (sym (ap (ltb i) e) ∙ le-ltb i n h))
+
+  pub flush-at : i < n → (g m : ℕ) → g ≡ groupOf p i → m ≡ groupOf p (i + 1) → not (eqb g m) ≡ flushAfter p i
+  flush-at h g m eg em =
+      ap₂ (λ (x y : ℕ). not (eqb x y)) eg (em ∙ ap (groupOf p) (let o : i + 1 ≡ suc i = omega arith in o))
+      ∙ ap (λ (b : Bool). b && not (eqb (groupOf p i) (groupOf p (suc i)))) (sym (sym (ap (ltb i) e) ∙ lt-ltb i n h))
+
+-- a store, where n is the number of its tests with the count s that the code has worked out
+module _ (p : Plan) (f b r : List ℕ) (i : ℕ) (out : List ℕ) (s : ℕ) (es : s ≡ storesIn p) (n : ℕ)
+    (e : n ≡ first (planTests f b (length out) (length r) (p .entry .bytes) i s)) where
+  its-number : n ≡ first (storeTests p f b r i out)
+  its-number = e ∙ ap (λ (z : ℕ). first (planTests f b (length out) (length r) (p .entry .bytes) i z)) es
+
+  pub store-refused : (n ≡ 0 → ⊥) → (Given.Refused n ≡ storeAnswer p f b r i out) × (out ≡ storeBytes p f b r i out)
+  store-refused z = (
+    answer-no (sidesAnswer p f b r i out) Given.Refused n (first (storeTests p f b r i out)) its-number z,
+    answer-no (sidesBytes p f b r i out) (λ (k : ℕ). out) n (first (storeTests p f b r i out)) its-number z,
   )
 
-  pub wrong-size : lentRight f b out ≡ false → (Given.Refused 1 ≡ storeAnswer p f b r i out) × (out ≡ storeBytes p f b r i out)
-  wrong-size h = store-refused 1 (first-fail (lentRight f b out) 1 _ h) (λ z. omega arith)
+  -- by whether it is the front's, with the sectors k that the code has worked out
+  abbrev answerOf : Bool → ℕ → Given
+  answerOf c k = cond c (partGiven (partOn Front (p .front) (p .entry) f) k f r i out) (partGiven (partOn Back (p .back) (p .entry) b) k b r (i - (k + 1)) out)
 
-  module _ (s : lentRight f b out ≡ true) where
-    pub wrong-length : lengthAllowed (length r) ≡ false → (Given.Refused 15 ≡ storeAnswer p f b r i out) × (out ≡ storeBytes p f b r i out)
-    wrong-length h = store-refused 15 (first-pass (lentRight f b out) 1 _ s ∙ first-fail (lengthAllowed (length r)) 15 _ h) (λ z. omega arith)
+  abbrev bytesOf : Bool → ℕ → List ℕ
+  bytesOf c k = cond c (partLeft (partOn Front (p .front) (p .entry) f) k f r i out) (partLeft (partOn Back (p .back) (p .entry) b) k b r (i - (k + 1)) out)
 
-    module _ (a : lengthAllowed (length r) ≡ true) (n : ℕ) (e : n ≡ storesIn p) where
-      pub no-store : n ≤ i → (Given.Refused 23 ≡ storeAnswer p f b r i out) × (out ≡ storeBytes p f b r i out)
-      no-store h =
-          store-refused 23
-          (first-pass (lentRight f b out) 1 _ s
-          ∙ (first-pass (lengthAllowed (length r)) 15 _ a ∙ first-fail (ltb i (storesIn p)) 23 [] (sym (ap (ltb i) e) ∙ le-ltb i n h)))
-          (λ z. omega arith)
+  module _ (z : n ≡ 0) (k : ℕ) (ek : k ≡ sectorsIn p) (g : Given) (w : List ℕ) where
+    half-store : (c : Bool) → leb i k ≡ c → g ≡ answerOf c k → w ≡ bytesOf c k → (g ≡ storeAnswer p f b r i out) × (w ≡ storeBytes p f b r i out)
+    half-store c h x y = (
+      x
+          ∙ (ap (λ (u : Bool). answerOf u k) (sym h)
+          ∙ (ap (λ (m : ℕ). answerOf (leb i m) m) ek ∙ answer-yes (sidesAnswer p f b r i out) Given.Refused n (first (storeTests p f b r i out)) its-number z)),
+      y
+          ∙ (ap (λ (u : Bool). bytesOf u k) (sym h)
+          ∙ (ap (λ (m : ℕ). bytesOf (leb i m) m) ek ∙ answer-yes (sidesBytes p f b r i out) (λ (m : ℕ). out) n (first (storeTests p f b r i out)) its-number z)),
+    )
 
-      module _ (l : i < n) (g : Given) (w : List ℕ) where
-        none : first (storeTests p f b r i out) ≡ 0
-        none = first-all (storeTests p f b r i out) (s, (a, (sym (ap (ltb i) e) ∙ lt-ltb i n l, tt)))
+    pub front-store : i ≤ k → (q : Part) → q ≡ partOn Front (p .front) (p .entry) f → g ≡ partGiven q k f r i out → w ≡ partLeft q k f r i out
+        → (g ≡ storeAnswer p f b r i out) × (w ≡ storeBytes p f b r i out)
+    front-store h q eq x y =
+        half-store true (le-leb i k h) (x ∙ ap (λ (u : Part). partGiven u k f r i out) eq) (y ∙ ap (λ (u : Part). partLeft u k f r i out) eq)
 
-        half-store : (v : Bool) → leb i (p .sectors) ≡ v
-            → g ≡ cond v (partGiven (p .front) (p .sectors) f r i out) (partGiven (p .back) (p .sectors) b r (i - (p .sectors + 1)) out)
-            → w ≡ cond v (partLeft (p .front) (p .sectors) f r i out) (partLeft (p .back) (p .sectors) b r (i - (p .sectors + 1)) out)
-            → (g ≡ storeAnswer p f b r i out) × (w ≡ storeBytes p f b r i out)
-        half-store v h x y = (
-          x
-              ∙ (ap (λ (u : Bool). cond u (partGiven (p .front) (p .sectors) f r i out) (partGiven (p .back) (p .sectors) b r (i - (p .sectors + 1)) out)) (sym h)
-              ∙ answer-yes (sidesAnswer p f b r i out) Given.Refused 0 (first (storeTests p f b r i out)) (sym none) refl),
-          y
-              ∙ (ap (λ (u : Bool). cond u (partLeft (p .front) (p .sectors) f r i out) (partLeft (p .back) (p .sectors) b r (i - (p .sectors + 1)) out)) (sym h)
-              ∙ answer-yes (sidesBytes p f b r i out) (λ (k : ℕ). out) 0 (first (storeTests p f b r i out)) (sym none) refl),
-        )
-
-        pub front-store : i ≤ p .sectors → g ≡ partGiven (p .front) (p .sectors) f r i out → w ≡ partLeft (p .front) (p .sectors) f r i out
-            → (g ≡ storeAnswer p f b r i out) × (w ≡ storeBytes p f b r i out)
-        front-store h x y = half-store true (le-leb i (p .sectors) h) x y
-
-        pub back-store : p .sectors < i → g ≡ partGiven (p .back) (p .sectors) b r (i - (p .sectors + 1)) out
-            → w ≡ partLeft (p .back) (p .sectors) b r (i - (p .sectors + 1)) out
-            → (g ≡ storeAnswer p f b r i out) × (w ≡ storeBytes p f b r i out)
-        back-store h x y = half-store false (lt-leb i (p .sectors) h) x y
+    pub back-store : k < i → (q : Part) → q ≡ partOn Back (p .back) (p .entry) b → g ≡ partGiven q k b r (i - (k + 1)) out → w ≡ partLeft q k b r (i - (k + 1)) out
+        → (g ≡ storeAnswer p f b r i out) × (w ≡ storeBytes p f b r i out)
+    back-store h q eq x y =
+        half-store false (lt-leb i k h) (x ∙ ap (λ (u : Part). partGiven u k b r (i - (k + 1)) out) eq) (y ∙ ap (λ (u : Part). partLeft u k b r (i - (k + 1)) out) eq)

@@ -1,18 +1,20 @@
 -- Demand 3, proved: one claim over every start, update and cut.
 use Prim.Native.Nat.{ℕ, zero, suc, _+_, _-_, _*_, _^_, _≤_, _<_}
 use mathlib.Core.Path.{_≡_, refl, sym, ap, subst, _∙_}
-use mathlib.Core.Bool.{true, true≢false}
-use mathlib.Core.Logic.{_⊎_, inl, inr}
-use mathlib.Core.List.{List}
+use mathlib.Core.Bool.{true, not, true≢false}
+use mathlib.Core.Logic.{_⊎_, inl, inr, _↔_}
+use mathlib.Core.List.{List, []}
 use native.Mathlib.Decide.{ℕ-discrete}
 use native.Mathlib.Nat.{le-refl}
 use native.Mathlib.Omega.{arith}
-use borrow.Author.Tests.{le-leb}
+use borrow.Author.Tests.{le-leb, lt-ltb, le-ltb, eq-eqb, ne-eqb}
+use lib.Dec.{eqb, ltb}
 use lib.ListN.{length}
 use Rattle.endian.specs.Bytes.{same}
+use Rattle.endian.proofs.Tests.{and-left, and-right}
 use Rattle.refusal.specs.Numbers.{noStore}
-use Rattle.refusal.specs.Tests.{AllHold}
-use Rattle.refusal.proofs.Order.{first-all, answer-yes}
+use Rattle.refusal.specs.Tests.{first, AllHold}
+use Rattle.refusal.proofs.Order.{first-pass, first-fail, first-all, answer-yes}
 use Rattle.layout.specs.declared.Device.{Device}
 use Rattle.layout.specs.declared.Side.{Side}
 use Rattle.layout.specs.declared.Side.the-variants.{Front, Back}
@@ -27,7 +29,8 @@ use Rattle.block.specs.declared.BlockFields.{BlockFields}
 use Rattle.block.specs.declared.Reading.{Reading}
 use Rattle.block.specs.declared.Verdict.the-variants as Verdict
 use Rattle.block.specs.Entry.{laterThan, timeOf}
-use Rattle.block.specs.Block.{poolOf, blockdevOf, fieldsOf, reading}
+use Rattle.block.specs.Block.{deviceOf, poolOf, blockdevOf, fieldsOf, reading}
+use Rattle.block.specs.Writing.{writeTests, written}
 use Rattle.block.specs.Accepted.{Accepted}
 use Rattle.block.proofs.Readings.{accepted-length}
 use Rattle.block.proofs.Exactly.{obeys}
@@ -38,9 +41,10 @@ use Rattle.copy.specs.declared.Present.the-variants.{At}
 use Rattle.copy.specs.Copy.{isCopy, deviceIn, blockIn, entryIn, otherArea, newest, readingIn}
 use Rattle.discovery.specs.declared.Finding.{Finding}
 use Rattle.discovery.specs.declared.Answer.{Answer}
-use Rattle.discovery.specs.Discovery.{sameDevice, inStep}
+use Rattle.discovery.specs.Discovery.{sameDevice, sized, inStep}
 use Rattle.discovery.proofs.Latest.{found-same}
 use Rattle.crash.specs.Crash.{Sectors, Sound, Store, Cut, Groups, stores, storeIn, groupStart, landed, CutIn, areaSectors, copyFrom}
+use Rattle.crash.proofs.Landing.{landed-size}
 use Rattle.crash.proofs.Copies.{limit-small}
 use Rattle.stores.specs.declared.Part.{Part}
 use Rattle.stores.specs.declared.Given.{Given}
@@ -50,7 +54,7 @@ use Rattle.stores.specs.Given.{partGiven, partLeft, lentRight}
 use Rattle.stores.specs.States.{Gives, Ready, Answered, Excused, Fits}
 use Rattle.stores.proofs.Holding.{heldIn, recordIn, Holds, newest-changed}
 use Rattle.stores.proofs.Discovering.{alone-found, later-found}
-use Rattle.stores.proofs.Padding.{sectors-few, sectors-within, length-sector}
+use Rattle.stores.proofs.Padding.{sectors-few, sectors-least, sectors-within, length-sector}
 use Rattle.stores.proofs.OneSide as OneSide
 use Rattle.stores.proofs.Blocks.{number-fits, device-kept}
 use Rattle.stores.proofs.InStep.{Stepped, refused-differs, verdict-facts, same-device-test}
@@ -59,15 +63,16 @@ use Rattle.stores.proofs.Choosing.{lent-right, block-given, area-given, part-gi
 use Rattle.stores.proofs.Facts.{other-differs, renamed, sized-copies, split, stands-as}
 use Rattle.stores.proofs.Agreeing.{found-front}
 use Rattle.stores.proofs.Places.{Sizes, sizes-accepted, near, area-near, area-below, block-below, block-apart, areas-apart}
-use Rattle.stores.proofs.States.{is-copy, stepped-found, stepped-present, made-ready, made-answered, ready-stepped, ready-time, ready-record}
+use Rattle.stores.proofs.States.{stepped-found, stepped-present, made-ready, made-answered, ready-stepped, ready-time, ready-record}
 use Rattle.update.specs.declared.Plan.{Plan}
 use Rattle.update.specs.declared.Planned.the-variants as Planned
 use Rattle.update.specs.Update.{testsAfter, numberAfter, updateNumber, spare, newBlock}
-use Rattle.update.specs.Plan.{partFor, storesIn, groupOf, storeAnswer, storeBytes}
-use Rattle.update.specs.Demand.{Start, Outcome, groupsOn, planOn, Demand3, areaGroup, blockGroup, Places, Placing, Giving}
+use Rattle.update.specs.Plan.{storesIn, groupOf, flushAfter, partOn, storeTests, storeAnswer, storeBytes}
+use Rattle.update.specs.Demand.{Start, Outcome, groupsOn, planOn, copyAfter, Demand3, areaGroup, blockGroup, Places, Placing, Giving}
 use Rattle.update.proofs.NewBlock.{new-reads, new-writes, new-written}
 use Rattle.update.proofs.NewHeld.{new-held}
-use Rattle.update.proofs.Choosing.{in-none, front-store, back-store, no-store}
+use Rattle.update.proofs.Choosing as Choosing
+use Rattle.update.proofs.Choosing.{in-none, flush-past, flush-at, store-refused, front-store, back-store}
 use Rattle.update.proofs.Stores.{starting, begin, count, by-side, side, group-starts, grouped, groups-four}
 
 module _ (v : Device) (d : Sectors) (u : Time) (q : List ℕ) (t : Time) (r : List ℕ) (s : Start v d u q t r) where
@@ -462,34 +467,44 @@ module _ (v : Device) (d : Sectors) (u : Time) (q : List ℕ) (t : Time) (r : Li
   abbrev plan : Plan
   plan = planOn v d t r
 
-  abbrev part : Side → Device → Part
-  part w z = partFor w z (fields w) (holdingFor t r)
+  abbrev part : Side → Part
+  part w = record { area = areaSector w (spare (copy w)) v; block = blockSector w v; fields = newFields w }
 
-  copy-at : (w : Side) → isCopy (copy w) ≡ true
-  copy-at w = is-copy w v d sd
+  -- A side's copy c in which the block still stands: what a plan's store gives depends on nothing else of it.
+  module _ (w : Side) (c : List ℕ) (right-size : isCopy c ≡ true) (same-block : blockIn c ≡ blockIn (copy w)) (out : List ℕ) (room : length out ≡ 512) where
+    its-part : partOn w (spare (copy w)) (holdingFor t r) c ≡ part w
+    its-part = ap with-block same-block ∙ ap (λ (z : Device). record { area = areaSector w (spare (copy w)) z; block = blockSector w z; fields = newFields w }) (old-device w)
+      where
+        with-block : List ℕ → Part
+        with-block b =
+            record {
+              area = areaSector w (spare (copy w)) (deviceOf b);
+              block = blockSector w (deviceOf b);
+              fields = withEntry (fieldsOf b) (spare (copy w)) (Used (holdingFor t r));
+            }
 
-  module _ (w : Side) (out : List ℕ) (room : length out ≡ 512) where
     given-area : (j : ℕ) → j < k
-        → (partGiven (part w v) k (copy w) r j out ≡ Given.At (areaSector w (spare (copy w)) v + j))
-        × (partLeft (part w v) k (copy w) r j out ≡ sectorOf r j)
+        → (partGiven (part w) k c r j out ≡ Given.At (areaSector w (spare (copy w)) v + j)) × (partLeft (part w) k c r j out ≡ sectorOf r j)
     given-area j l =
         let m : k ≤ 1020 = tiny in
         let a : areaSector w (spare (copy w)) v + j < v .sectors = area-below v its-sizes w (spare (copy w)) j (omega arith) in
         let b : v .sectors < 256 ^ 8 = sectors-fit in
         let h : areaSector w (spare (copy w)) v ≤ 18446744073709551615 - j = omega arith in
-        area-given (part w v) k (copy w) r j out (copy-at w) room its-length (omega arith) l h
+        area-given (part w) k c r j out right-size room its-length (omega arith) l h
 
-    given-block : (partGiven (part w v) k (copy w) r k out ≡ Given.At (blockSector w v)) × (partLeft (part w v) k (copy w) r k out ≡ newBlock (copy w) t r)
+    given-block : (partGiven (part w) k c r k out ≡ Given.At (blockSector w v)) × (partLeft (part w) k c r k out ≡ newBlock (copy w) t r)
     given-block =
-        part-given (part w v) k (copy w) r k out (copy-at w) room its-length (le-refl k) (le-refl k) (blockSector w v) (newBlock (copy w) t r)
-        (block-given (blockSector w v) (newFields w) (copy w) out (newBlock (copy w) t r) (copy-at w)
-        (new-writes (copy w) (stepped .accepted w) (heldIn (copy w)) (its-used w) t r (s .fits) its-time its-length (its-later w) out room)
-        (new-written (copy w) (stepped .accepted w) (heldIn (copy w)) (its-used w) t r (s .fits) its-time its-length (its-later w) out room))
+        part-given (part w) k c r k out right-size room its-length (le-refl k) (le-refl k) (blockSector w v) (newBlock (copy w) t r)
+        (block-given (blockSector w v) (newFields w) c out (newBlock (copy w) t r) right-size
+        (ap (λ (b : List ℕ). first (writeTests out (poolOf b) (blockdevOf b) (newFields w))) same-block
+        ∙ new-writes (copy w) (stepped .accepted w) (heldIn (copy w)) (its-used w) t r (s .fits) its-time its-length (its-later w) out room)
+        (ap (λ (b : List ℕ). written out (poolOf b) (blockdevOf b) (newFields w)) same-block
+        ∙ new-written (copy w) (stepped .accepted w) (heldIn (copy w)) (its-used w) t r (s .fits) its-time its-length (its-later w) out room))
 
     -- store j of a side is the store that the update has at its number
     given-store : (j : ℕ) → j ≤ k
-        → (partGiven (part w v) k (copy w) r j out ≡ Given.At (storeIn groups (begin k w + j) .sector))
-        × (partLeft (part w v) k (copy w) r j out ≡ storeIn groups (begin k w + j) .content)
+        → (partGiven (part w) k c r j out ≡ Given.At (storeIn groups (begin k w + j) .sector))
+        × (partLeft (part w) k c r j out ≡ storeIn groups (begin k w + j) .content)
     given-store j l =
         elim (ℕ-discrete j k) [
           | yes e ↦
@@ -501,56 +516,116 @@ module _ (v : Device) (d : Sectors) (u : Time) (q : List ℕ) (t : Time) (r : Li
           )
         ]
 
-    -- with the places as the front copy says them
-    given-at : (j : ℕ) → j ≤ k
-        → (partGiven (part w (deviceIn (copy Front))) k (copy w) r j out ≡ Given.At (storeIn groups (begin k w + j) .sector))
-        × (partLeft (part w (deviceIn (copy Front))) k (copy w) r j out ≡ storeIn groups (begin k w + j) .content)
-    given-at j l = (
-      ap (λ (u : Device). partGiven (part w u) k (copy w) r j out) says ∙ given-store j l .0,
-      ap (λ (u : Device). partLeft (part w u) k (copy w) r j out) says ∙ given-store j l .1,
-    )
-
-  module _ (out : List ℕ) (room : length out ≡ 512) where
-    lent : lentRight (copy Front) (copy Back) out ≡ true
-    lent = lent-right (copy Front) (copy Back) out (stepped .sizes) room
-
-    -- the plan gives it at that number
-    plan-gives : (w : Side) (j : ℕ) → j ≤ k
-        → (partGiven (part w (deviceIn (copy Front))) k (copy w) r j out ≡ storeAnswer plan (copy Front) (copy Back) r (begin k w + j) out)
-        × (partLeft (part w (deviceIn (copy Front))) k (copy w) r j out ≡ storeBytes plan (copy Front) (copy Back) r (begin k w + j) out)
-    plan-gives Front j l =
-        let n : j ≡ 0 + j = omega arith in
-        let z : 0 + j < storesIn plan = omega arith in
-        front-store plan (copy Front) (copy Back) r (0 + j) out lent its-length _ refl z _ _ (omega arith)
-        (ap (λ (i : ℕ). partGiven (part Front (deviceIn (copy Front))) k (copy Front) r i out) n)
-        (ap (λ (i : ℕ). partLeft (part Front (deviceIn (copy Front))) k (copy Front) r i out) n)
-    plan-gives Back j l =
-        let n : j ≡ k + 1 + j - (k + 1) = omega arith in
-        let z : k + 1 + j < storesIn plan = omega arith in
-        back-store plan (copy Front) (copy Back) r (k + 1 + j) out lent its-length _ refl z _ _ (omega arith)
-        (ap (λ (i : ℕ). partGiven (part Back (deviceIn (copy Front))) k (copy Back) r i out) n)
-        (ap (λ (i : ℕ). partLeft (part Back (deviceIn (copy Front))) k (copy Back) r i out) n)
+  -- what the plan's stores give with two copies, where that of the store's side has its block as it was
+  module _ (f b : List ℕ) (lent : sized f b ≡ true) (out : List ℕ) (room : length out ≡ 512) where
+    -- no test refuses a store that is there
+    passes : (i : ℕ) → i < storesIn plan → 0 ≡ first (storeTests plan f b r i out)
+    passes i l =
+        sym (first-all (storeTests plan f b r i out) (lent-right f b out lent room, (its-length, (eq-eqb (length r) (length r) refl, (lt-ltb i (storesIn plan) l, tt)))))
 
     abbrev GivenAt : ℕ → Type 0
-    GivenAt i =
-        (storeAnswer plan (copy Front) (copy Back) r i out ≡ Given.At (storeIn groups i .sector))
-        × (storeBytes plan (copy Front) (copy Back) r i out ≡ storeIn groups i .content)
+    GivenAt i = (storeAnswer plan f b r i out ≡ Given.At (storeIn groups i .sector)) × (storeBytes plan f b r i out ≡ storeIn groups i .content)
 
-    all-given : (i : ℕ) → i < all → GivenAt i
-    all-given =
-        by-side k GivenAt (λ w j h. (sym (plan-gives w j h .0) ∙ given-at w out room j h .0, sym (plan-gives w j h .1) ∙ given-at w out room j h .1))
+    front-given : blockIn f ≡ blockIn (copy Front) → (j : ℕ) → j ≤ k → GivenAt (begin k Front + j)
+    front-given e j l =
+        let n : j ≡ 0 + j = omega arith in
+        let g : (partGiven (part Front) k f r j out ≡ Given.At (storeIn groups (0 + j) .sector)) × (partLeft (part Front) k f r j out ≡ storeIn groups (0 + j) .content) =
+        given-store Front f (and-left (isCopy f) (isCopy b) lent) e out room j l in
+        let x : (partGiven (part Front) k f r j out ≡ storeAnswer plan f b r (0 + j) out) × (partLeft (part Front) k f r j out ≡ storeBytes plan f b r (0 + j) out) =
+        front-store plan f b r (0 + j) out (storesIn plan) refl 0 (passes (0 + j) (omega arith)) refl k refl _ _ (omega arith)
+        (part Front) (sym (its-part Front f (and-left (isCopy f) (isCopy b) lent) e out room))
+        (ap (λ (i : ℕ). partGiven (part Front) k f r i out) n) (ap (λ (i : ℕ). partLeft (part Front) k f r i out) n) in
+        (sym (x .0) ∙ g .0, sym (x .1) ∙ g .1)
+
+    back-given : blockIn b ≡ blockIn (copy Back) → (j : ℕ) → j ≤ k → GivenAt (begin k Back + j)
+    back-given e j l =
+        let n : j ≡ k + 1 + j - (k + 1) = omega arith in
+        let g : (partGiven (part Back) k b r j out ≡ Given.At (storeIn groups (k + 1 + j) .sector)) × (partLeft (part Back) k b r j out ≡ storeIn groups (k + 1 + j) .content) =
+        given-store Back b (and-right (isCopy f) (isCopy b) lent) e out room j l in
+        let x : (partGiven (part Back) k b r j out ≡ storeAnswer plan f b r (k + 1 + j) out) × (partLeft (part Back) k b r j out ≡ storeBytes plan f b r (k + 1 + j) out) =
+        back-store plan f b r (k + 1 + j) out (storesIn plan) refl 0 (passes (k + 1 + j) (omega arith)) refl k refl _ _ (omega arith)
+        (part Back) (sym (its-part Back b (and-right (isCopy f) (isCopy b) lent) e out room))
+        (ap (λ (i : ℕ). partGiven (part Back) k b r i out) n) (ap (λ (i : ℕ). partLeft (part Back) k b r i out) n) in
+        (sym (x .0) ∙ g .0, sym (x .1) ∙ g .1)
 
     -- past the last
-    none-given : (i : ℕ) → all ≤ i
-        → (storeAnswer plan (copy Front) (copy Back) r i out ≡ Given.Refused noStore) × (storeBytes plan (copy Front) (copy Back) r i out ≡ out)
+    none-given : (i : ℕ) → all ≤ i → (storeAnswer plan f b r i out ≡ Given.Refused noStore) × (storeBytes plan f b r i out ≡ out)
     none-given i l =
         let n : 2 * k + 2 ≤ i = omega arith in
-        let x : (Given.Refused noStore ≡ storeAnswer plan (copy Front) (copy Back) r i out) × (out ≡ storeBytes plan (copy Front) (copy Back) r i out) =
-        no-store plan (copy Front) (copy Back) r i out lent its-length _ refl n in
+        let x : (Given.Refused noStore ≡ storeAnswer plan f b r i out) × (out ≡ storeBytes plan f b r i out) =
+        store-refused plan f b r i out (storesIn plan) refl noStore
+        (sym (first-pass (lentRight f b out) 1 _ (lent-right f b out lent room)
+        ∙ (first-pass (lengthAllowed (length r)) 15 _ its-length
+        ∙ (first-pass (eqb (length r) (length r)) 1 _ (eq-eqb (length r) (length r) refl) ∙ first-fail (ltb i (storesIn plan)) 23 [] (le-ltb i (storesIn plan) n)))))
+        (λ z. omega arith) in
         (sym (x .0), sym (x .1))
 
+  -- the device after the first j stores, and its copies: a side's block stands as it was until its own store, the last of the side
+  module _ (j : ℕ) (most : j ≤ all) where
+    abbrev after : Sectors
+    after = landed (storeIn groups) j d
+
+    after-sound : Sound after
+    after-sound = record { size = landed-size (storeIn groups) d (sd .size) j (λ i l. fits i (omega arith) .size) }
+
+    after-sized : sized (copyFrom Front v after) (copyFrom Back v after) ≡ true
+    after-sized = sized-copies v after after after-sound after-sound
+
+    after-block : (w : Side) → j ≤ begin k w + k → blockIn (copyFrom w v after) ≡ blockIn (copy w)
+    after-block w l = at-block w after after-sound ∙ (OneSide.block-kept (laid w) d j l ∙ sym (at-block w d sd))
+
+    all-given : (out : List ℕ) (room : length out ≡ 512) (i : ℕ) → i < all → j ≤ i → GivenAt (copyFrom Front v after) (copyFrom Back v after) after-sized out room i
+    all-given out room = by-side k (λ (i : ℕ). j ≤ i → GivenAt (copyFrom Front v after) (copyFrom Back v after) after-sized out room i) on
+      where
+        on : (w : Side) (i : ℕ) → i ≤ k → j ≤ begin k w + i → GivenAt (copyFrom Front v after) (copyFrom Back v after) after-sized out room (begin k w + i)
+        on Front i h l = front-given (copyFrom Front v after) (copyFrom Back v after) after-sized out room (after-block Front (omega arith)) i h
+        on Back i h l = back-given (copyFrom Front v after) (copyFrom Back v after) after-sized out room (after-block Back (omega arith)) i h
+
   no-group : (i : ℕ) → all ≤ i → groupOf plan i ≡ 4
-  no-group i l = sym (in-none plan i (omega arith) (omega arith) (omega arith) _ refl (omega arith))
+  no-group i l = sym (in-none plan i k refl (omega arith) (omega arith) (omega arith) _ refl (omega arith))
+
+  -- where a flush belongs
+  some : 1 ≤ k
+  some = sectors-least (length r) (length-facts (length r) its-length .0)
+
+  ends-within : (g : ℕ) → g < 4 → starting k (suc g) ≤ all
+  ends-within zero h = omega arith
+  ends-within (suc zero) h = omega arith
+  ends-within (suc (suc zero)) h = omega arith
+  ends-within (suc (suc (suc zero))) h = omega arith
+  ends-within (suc (suc (suc (suc g)))) h = absurd (let o : _≡_ {A = ℕ} 0 1 = omega arith in omega arith)
+
+  -- the store after a group's last is in another
+  next-group : (g i : ℕ) → g < 4 → i ≡ starting k (suc g) → suc g ≡ groupOf plan i
+  next-group zero i h e = Choosing.in-front-block plan i k refl (omega arith) (omega arith)
+  next-group (suc zero) i h e = let o : 1 ≤ k = some in Choosing.in-back-area plan i k refl (omega arith) (omega arith) (omega arith)
+  next-group (suc (suc zero)) i h e = Choosing.in-back-block plan i k refl (omega arith) (omega arith) (omega arith) _ refl (omega arith)
+  next-group (suc (suc (suc zero))) i h e = in-none plan i k refl (omega arith) (omega arith) (omega arith) _ refl (omega arith)
+  next-group (suc (suc (suc (suc g)))) i h e = absurd (let o : _≡_ {A = ℕ} 0 1 = omega arith in omega arith)
+
+  module _ (g i : ℕ) (h : g < 4) (a : groupStart groups g ≤ i) (b : i < groupStart groups (suc g)) where
+    here : g ≡ groupOf plan i
+    here = grouped (copy Front) (copy Back) t r plan refl g i h a b
+
+    flush-by : (m : ℕ) → m ≡ groupOf plan (suc i) → not (eqb g m) ≡ flushAfter plan i
+    flush-by m e =
+        let p : groupStart groups (suc g) ≡ starting k (suc g) = starts-at (suc g) in
+        let q : starting k (suc g) ≤ all = ends-within g h in
+        let l : i < storesIn plan = omega arith in
+        flush-at plan i (storesIn plan) refl l g m here (e ∙ ap (groupOf plan) (let o : suc i ≡ i + 1 = omega arith in o))
+
+    flushes : flushAfter plan i ≡ true ↔ suc i ≡ groupStart groups (suc g)
+    flushes = (
+      λ f. elim (ℕ-discrete (suc i) (groupStart groups (suc g))) [
+        | yes e ↦ e
+        | no e ↦
+            absurd
+            (true≢false
+            (sym f
+            ∙ (sym (flush-by g (grouped (copy Front) (copy Back) t r plan refl g (suc i) h (omega arith) (omega arith))) ∙ ap not (eq-eqb g g refl))))
+      ],
+      λ e. sym (flush-by (suc g) (next-group g (suc i) h (e ∙ starts-at (suc g)))) ∙ ap not (ne-eqb g (suc g) (λ z. omega arith)),
+    )
 
   -- its number is 0
   number : updateNumber (copy Front) (copy Back) t r ≡ 0
@@ -568,6 +643,11 @@ demand3 v d u q t r s = (
   (groups-four (copyFrom Front v d) (copyFrom Back v d) t r, λ e g c x. outcome v d u q t r s e g c x),
 )
 
+-- before the first store the copies are as they were
+pub copy-before : (v : Device) (d : Sectors) (t : Time) (r : List ℕ) (w : Side) → copyAfter v d t r 0 w ≡ copyFrom w v d
+unfolding landed
+copy-before v d t r w = refl
+
 pub placing : Placing
 placing v d u q t r s = places v d u q t r s
 
@@ -582,6 +662,13 @@ giving v d u q t r s =
       two-k-two = refl;
       grouped = λ g i h a b. sym (grouped (copyFrom Front v d) (copyFrom Back v d) t r (planOn v d t r) refl g i h a b);
       no-group = λ i l. no-group v d u q t r s i (subst (λ (n : ℕ). n ≤ i) (stores-count v d u q t r s) l);
-      store = λ i out l room. all-given v d u q t r s out room i (subst (λ (n : ℕ). i < n) (stores-count v d u q t r s) l);
-      no-store = λ i out l room. none-given v d u q t r s out room i (subst (λ (n : ℕ). n ≤ i) (stores-count v d u q t r s) l);
+      flush = λ g i h a b. flushes v d u q t r s g i h a b;
+      no-flush = λ i l. sym (flush-past (planOn v d t r) i (storesIn (planOn v d t r)) refl (let c : length (stores (groupsOn v d t r)) ≡ sectorsOf (length r) + 1 + sectorsOf (length r) + 1 = stores-count v d u q t r s in omega arith));
+      store = λ j i out h l room.
+          let n : i < sectorsOf (length r) + 1 + sectorsOf (length r) + 1 = subst (λ (n : ℕ). i < n) (stores-count v d u q t r s) l in
+          all-given v d u q t r s j (omega arith) out room i n h;
+      no-store = λ j i out h l room.
+          let m : j ≤ sectorsOf (length r) + 1 + sectorsOf (length r) + 1 = subst (λ (n : ℕ). j ≤ n) (stores-count v d u q t r s) h in
+          none-given v d u q t r s (copyAfter v d t r j Front) (copyAfter v d t r j Back) (after-sized v d u q t r s j m) out room i
+          (subst (λ (n : ℕ). n ≤ i) (stores-count v d u q t r s) l);
     }

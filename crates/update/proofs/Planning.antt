@@ -27,7 +27,7 @@ use Rattle.block.specs.Entry.{laterThan, sameTime, timeOf}
 use Rattle.block.specs.Block.{fieldsOf}
 use Rattle.copy.specs.declared.Present.{Present}
 use Rattle.copy.specs.declared.Present.the-variants.{Nothing, At}
-use Rattle.copy.specs.Copy.{blockIn, areaBytes, otherArea, newest, copyReading}
+use Rattle.copy.specs.Copy.{deviceIn, blockIn, areaBytes, otherArea, newest, copyReading}
 use Rattle.discovery.specs.declared.Finding.{Finding}
 use Rattle.discovery.specs.declared.Other.{Other}
 use Rattle.discovery.specs.declared.Other.the-variants.{Both, One}
@@ -37,7 +37,7 @@ use Rattle.discovery.specs.Discovery.{findingOf, aloneOf, newestOf, togetherOf,
 use Rattle.discovery.specs.Newest.{timeAt}
 use Rattle.discovery.proofs.Latest.{found-same, found-other}
 use Rattle.stores.specs.declared.Part.{Part}
-use Rattle.stores.specs.Stores.{sectorsOf, holdingFor, withEntry}
+use Rattle.stores.specs.Stores.{withEntry}
 use Rattle.stores.proofs.Holding.{heldIn}
 use Rattle.stores.proofs.InStep.{Stepped, in-step-facts}
 use Rattle.stores.proofs.States.{stepped-found}
@@ -45,17 +45,17 @@ use Rattle.update.specs.declared.Plan.{Plan}
 use Rattle.update.specs.declared.Planned.{Planned}
 use Rattle.update.specs.declared.Planned.the-variants as Planned
 use Rattle.update.specs.Update.{testsAfter, updateTests, numberAfter, updateNumber}
-use Rattle.update.specs.Plan.{partFor, planFor, planOf, planWith, planFound, planned}
+use Rattle.update.specs.Plan.{planFor, planOf, planWith, planFound, planned, partOn}
 
 -- one side, step by step
-pub part-made : (w : Side) (d : Device) (x : BlockFields) (h : Holding) (n y : Area) (g : BlockFields) (a m : ℕ)
-    → n ≡ newest x → y ≡ otherArea n → g ≡ withEntry x y (Used h) → a ≡ areaSector w y d → m ≡ blockSector w d
-    → _≡_ {A = Part} (record { area = a; block = m; fields = g }) (partFor w d x h)
-part-made w d x h n y g a m en ey eg ea em =
-    let fy : y ≡ otherArea (newest x) = ey ∙ ap otherArea en in
-    let fa : a ≡ areaSector w (otherArea (newest x)) d = ea ∙ ap (λ (z : Area). areaSector w z d) fy in
-    let fg : g ≡ withEntry x (otherArea (newest x)) (Used h) = eg ∙ ap (λ (z : Area). withEntry x z (Used h)) fy in
-    λ i. record { area = fa i; block = em i; fields = fg i }
+pub part-made : (w : Side) (x : Area) (h : Holding) (c : List ℕ) (g u : BlockFields) (a m : ℕ)
+    → g ≡ fieldsOf (blockIn c) → u ≡ withEntry g x (Used h) → a ≡ areaSector w x (g .device) → m ≡ blockSector w (g .device)
+    → _≡_ {A = Part} (record { area = a; block = m; fields = u }) (partOn w x h c)
+part-made w x h c g u a m eg eu ea em =
+    let fu : u ≡ withEntry (fieldsOf (blockIn c)) x (Used h) = eu ∙ ap (λ (z : BlockFields). withEntry z x (Used h)) eg in
+    let fa : a ≡ areaSector w x (deviceIn c) = ea ∙ ap (λ (z : BlockFields). areaSector w x (z .device)) eg in
+    let fm : m ≡ blockSector w (deviceIn c) = em ∙ ap (λ (z : BlockFields). blockSector w (z .device)) eg in
+    λ i. record { area = fa i; block = fm i; fields = fu i }
 
 -- discovery never refuses with 0
 abbrev Nonzero : Answer → Type 0
@@ -147,16 +147,17 @@ module _ (f b : List ℕ) (t : Time) (r : List ℕ) where
           sym (stepped-found both s) ∙ e in
           ap₂ (λ (g : Finding) (h : Other). planWith (g .fields) h t r) (sym (found-same q o _ _ p)) (sym (found-other q o _ _ p))
 
-pub plan-made : (x y : BlockFields) (t : Time) (r : List ℕ) (q k : ℕ) → q ≡ Crc.checksum r → k ≡ sectorsOf (length r) → (p w : Part)
-    → p ≡ partFor Front (x .device) x (record { seconds = t .seconds; nanoseconds = t .nanoseconds; bytes = length r; checksum = q })
-    → w ≡ partFor Back (x .device) y (record { seconds = t .seconds; nanoseconds = t .nanoseconds; bytes = length r; checksum = q })
-    → _≡_ {A = Plan} (record { sectors = k; front = p; back = w }) (planFor x y t r)
-plan-made x y t r q k eq ek p w ep ew =
-    let h : _≡_ {A = Holding} (record { seconds = t .seconds; nanoseconds = t .nanoseconds; bytes = length r; checksum = q }) (holdingFor t r) =
-    λ i. record { seconds = t .seconds; nanoseconds = t .nanoseconds; bytes = length r; checksum = eq i } in
-    let fp : p ≡ partFor Front (x .device) x (holdingFor t r) = ep ∙ ap (partFor Front (x .device) x) h in
-    let fw : w ≡ partFor Back (x .device) y (holdingFor t r) = ew ∙ ap (partFor Back (x .device) y) h in
-    λ i. record { sectors = ek i; front = fp i; back = fw i }
+pub plan-made : (x y : BlockFields) (t : Time) (r : List ℕ) (q : ℕ) → q ≡ Crc.checksum r → (m n a c : Area)
+    → m ≡ newest x → a ≡ otherArea m → n ≡ newest y → c ≡ otherArea n
+    → _≡_ {A = Plan} (record {
+      entry = record { seconds = t .seconds; nanoseconds = t .nanoseconds; bytes = length r; checksum = q };
+      front = a;
+      back = c;
+    }) (planFor x y t r)
+plan-made x y t r q eq m n a c em ea en ec =
+    let fa : a ≡ otherArea (newest x) = ea ∙ ap otherArea em in
+    let fc : c ≡ otherArea (newest y) = ec ∙ ap otherArea en in
+    λ i. record { entry = record { seconds = t .seconds; nanoseconds = t .nanoseconds; bytes = length r; checksum = eq i }; front = fa i; back = fc i }
 
 -- the plan of a found record, test by test
 module _ (q : Finding) (o : Other) (step : Bool) (t : Time) (r : List ℕ) (n : ℕ) (old : Time) (eo : old ≡ timeAt q)

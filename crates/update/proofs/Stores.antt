@@ -17,7 +17,7 @@ use Rattle.copy.specs.Copy.{deviceIn}
 use Rattle.stores.specs.Stores.{sectorsOf, sectorOf, recordStores, blockStore}
 use Rattle.update.specs.Update.{spare, newBlock, sideGroups, updateGroups}
 use Rattle.update.specs.declared.Plan.{Plan}
-use Rattle.update.specs.Plan.{groupOf}
+use Rattle.update.specs.Plan.{sectorsIn, groupOf}
 use Rattle.update.proofs.Choosing.{in-front-area, in-front-block, in-back-area, in-back-block}
 use Rattle.stores.proofs.Padding.{length-sector}
 use Rattle.stores.proofs.Records.{length-record, at-record}
@@ -59,15 +59,16 @@ module _ (f b : List ℕ) (t : Time) (r : List ℕ) where
   group-starts g = starts (updateGroups f b t r) g ∙ ap (λ (ns : List ℕ). total (take g ns)) group-lengths
 
   -- what a plan of as many sectors says of a group's stores
-  pub grouped : (p : Plan) → p .sectors ≡ sectorsOf (length r) → (g i : ℕ) → g < 4 → groupStart (updateGroups f b t r) g ≤ i
+  pub grouped : (p : Plan) → sectorsOf (length r) ≡ sectorsIn p → (g i : ℕ) → g < 4 → groupStart (updateGroups f b t r) g ≤ i
       → i < groupStart (updateGroups f b t r) (suc g) → g ≡ groupOf p i
   grouped p e g i h a b = go g h (subst (λ (n : ℕ). n ≤ i) (group-starts g) a) (subst (λ (n : ℕ). i < n) (group-starts (suc g)) b)
     where
       go : (g : ℕ) → g < 4 → starting (sectorsOf (length r)) g ≤ i → i < starting (sectorsOf (length r)) (suc g) → g ≡ groupOf p i
-      go zero h a b = in-front-area p i (omega arith)
-      go (suc zero) h a b = in-front-block p i (omega arith) (omega arith)
-      go (suc (suc zero)) h a b = in-back-area p i (omega arith) (omega arith) (omega arith)
-      go (suc (suc (suc zero))) h a b = in-back-block p i (omega arith) (omega arith) (omega arith) (2 * (p .sectors) + 2) refl (omega arith)
+      go zero h a b = in-front-area p i (sectorsOf (length r)) e (omega arith)
+      go (suc zero) h a b = in-front-block p i (sectorsOf (length r)) e (omega arith) (omega arith)
+      go (suc (suc zero)) h a b = in-back-area p i (sectorsOf (length r)) e (omega arith) (omega arith) (omega arith)
+      go (suc (suc (suc zero))) h a b =
+          in-back-block p i (sectorsOf (length r)) e (omega arith) (omega arith) (omega arith) (2 * sectorsOf (length r) + 2) (ap (λ (n : ℕ). 2 * n + 2) e) (omega arith)
       go (suc (suc (suc (suc g)))) h a b = absurd (let o : _≡_ {A = ℕ} 0 1 = omega arith in omega arith)
 
 -- the copies of the two sides, on the device that the front one is of

@@ -2,6 +2,7 @@
 -- `Giving`, `proofs/Refusing.antt` `Refusing`, `proofs/Changing.antt` `Changing`. That there are copies in step on every allowed device is `format`'s `Possible`.
 use Prim.Native.Nat.{ℕ, suc, _+_, _*_, _^_, _≤_, _<_}
 use mathlib.Core.Path.{_≡_}
+use mathlib.Core.Logic.{_↔_}
 use mathlib.Core.Bool.{true, false}
 use mathlib.Core.List.{List, [], _∷_}
 use lib.ListN.{length, getD}
@@ -28,7 +29,7 @@ use Rattle.discovery.specs.declared.Other.{Other}
 use Rattle.discovery.specs.declared.Answer.the-variants as Answer
 use Rattle.discovery.specs.Discovery.{discovery, inStep, copyOn}
 use Rattle.discovery.specs.Newest.{timeAt}
-use Rattle.crash.specs.Crash.{Sectors, Sound, Groups, stores, storeIn, groupStart, CutIn, copyFrom}
+use Rattle.crash.specs.Crash.{Sectors, Sound, Groups, stores, storeIn, groupStart, landed, CutIn, copyFrom}
 use Rattle.stores.specs.declared.Given.the-variants.{At, Refused}
 use Rattle.stores.specs.Stores.{sectorsOf, sectorOf}
 use Rattle.stores.specs.States.{Presents, Gives, Ready, Answered, Excused, AllFit}
@@ -36,7 +37,7 @@ use Rattle.update.specs.declared.Plan.{Plan}
 use Rattle.update.specs.declared.Planned.the-variants as Planned
 use Rattle.update.specs.Update.{updateNumber, spare, newBlock, updateGroups}
 use Rattle.update.specs.Answers.{plannedNumber, plannedValues}
-use Rattle.update.specs.Plan.{planOf, planned, storesIn, groupOf, storeAnswer, storeBytes}
+use Rattle.update.specs.Plan.{planOf, planned, storesIn, groupOf, flushAfter, storeAnswer, storeBytes}
 
 -- An update that the format does not refuse, in plain words: two copies, which discovery answers and which are in step; a time within
 -- its limit, later than the present record's; and a record that is right on the device that the copies are of.
@@ -136,9 +137,14 @@ pub record Places (v : Device) (d : Sectors) (t : Time) (r : List ℕ) : Type 0 
 abbrev pub Placing : Type 0
 Placing = (v : Device) (d : Sectors) (u : Time) (q : List ℕ) (t : Time) (r : List ℕ) → Start v d u q t r → Places v d t r
 
+-- a side's copy as it is read after the first j of the update's stores; as it was where j is 0
+abbrev pub copyAfter : Device → Sectors → Time → List ℕ → ℕ → Side → List ℕ
+copyAfter v d t r j w = copyFrom w v (landed (storeIn (groupsOn v d t r)) j d)
+
 -- The stores of the plan that `work_out` gives are those that demand 3 speaks of: the update's number is 0 and the plan is not refused, it
--- has as many stores, 2k + 2, each is in its group, and each is given with its sector and its 512 bytes; past the last there is
--- none, and no group.
+-- has as many stores, 2k + 2, each is in its group, a flush belongs after the last of each group, and each is given with its sector and
+-- its 512 bytes; past the last there is none, no group and no flush. A store is given alike with the copies as they were and with any
+-- number of the stores before it in them: a caller may apply each store to its copies in memory as it goes.
 pub record PlanGives (v : Device) (d : Sectors) (t : Time) (r : List ℕ) : Type 0 where
   pub number : updateNumber (copyFrom Front v d) (copyFrom Back v d) t r ≡ 0
   pub plan : planned (copyFrom Front v d) (copyFrom Back v d) t r ≡ Planned.Plan (planOn v d t r)
@@ -146,12 +152,15 @@ pub record PlanGives (v : Device) (d : Sectors) (t : Time) (r : List ℕ) : Type
   pub two-k-two : storesIn (planOn v d t r) ≡ 2 * sectorsOf (length r) + 2
   pub grouped : (g i : ℕ) → g < 4 → groupStart (groupsOn v d t r) g ≤ i → i < groupStart (groupsOn v d t r) (suc g) → groupOf (planOn v d t r) i ≡ g
   pub no-group : (i : ℕ) → length (stores (groupsOn v d t r)) ≤ i → groupOf (planOn v d t r) i ≡ 4
-  pub store : (i : ℕ) (out : List ℕ) → i < length (stores (groupsOn v d t r)) → length out ≡ 512
-      → (storeAnswer (planOn v d t r) (copyFrom Front v d) (copyFrom Back v d) r i out ≡ At (storeIn (groupsOn v d t r) i .sector))
-      × (storeBytes (planOn v d t r) (copyFrom Front v d) (copyFrom Back v d) r i out ≡ storeIn (groupsOn v d t r) i .content)
-  pub no-store : (i : ℕ) (out : List ℕ) → length (stores (groupsOn v d t r)) ≤ i → length out ≡ 512
-      → (storeAnswer (planOn v d t r) (copyFrom Front v d) (copyFrom Back v d) r i out ≡ Refused noStore)
-      × (storeBytes (planOn v d t r) (copyFrom Front v d) (copyFrom Back v d) r i out ≡ out)
+  pub flush : (g i : ℕ) → g < 4 → groupStart (groupsOn v d t r) g ≤ i → i < groupStart (groupsOn v d t r) (suc g)
+      → (flushAfter (planOn v d t r) i ≡ true ↔ suc i ≡ groupStart (groupsOn v d t r) (suc g))
+  pub no-flush : (i : ℕ) → length (stores (groupsOn v d t r)) ≤ i → flushAfter (planOn v d t r) i ≡ false
+  pub store : (j i : ℕ) (out : List ℕ) → j ≤ i → i < length (stores (groupsOn v d t r)) → length out ≡ 512
+      → (storeAnswer (planOn v d t r) (copyAfter v d t r j Front) (copyAfter v d t r j Back) r i out ≡ At (storeIn (groupsOn v d t r) i .sector))
+      × (storeBytes (planOn v d t r) (copyAfter v d t r j Front) (copyAfter v d t r j Back) r i out ≡ storeIn (groupsOn v d t r) i .content)
+  pub no-store : (j i : ℕ) (out : List ℕ) → j ≤ length (stores (groupsOn v d t r)) → length (stores (groupsOn v d t r)) ≤ i → length out ≡ 512
+      → (storeAnswer (planOn v d t r) (copyAfter v d t r j Front) (copyAfter v d t r j Back) r i out ≡ Refused noStore)
+      × (storeBytes (planOn v d t r) (copyAfter v d t r j Front) (copyAfter v d t r j Back) r i out ≡ out)
 
 abbrev pub Giving : Type 0
 Giving = (v : Device) (d : Sectors) (u : Time) (q : List ℕ) (t : Time) (r : List ℕ) → Start v d u q t r → PlanGives v d t r

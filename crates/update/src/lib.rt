@@ -6,7 +6,7 @@ ghost use Rattle.refusal.specs.Tests.{first};
 ghost use Rattle.layout.specs.Limits.{lengthAllowed};
 ghost use Rattle.discovery.specs.Newest.{timeAt};
 ghost use Rattle.update.specs.Update.{testsAfter, updateNumber};
-ghost use Rattle.update.specs.Plan.{partFor, planFor, planFound, planned, storesIn, groupOf, storeAnswer, storeBytes};
+ghost use Rattle.update.specs.Plan.{planFor, planFound, planned, sectorsIn, storesIn, groupOf, flushAfter, partOn, storeAnswer, storeBytes};
 use block::BlockFields;
 use block::Entry;
 use block::Holding;
@@ -14,16 +14,17 @@ use block::Time;
 use discovery::Answer;
 use discovery::Finding;
 use discovery::Other;
+use layout::Area;
 use layout::Device;
 use layout::Side;
 use stores::Given;
 use stores::Part;
 
-// An update worked out once: the sectors that the record fills, and the two sides.
+// An update worked out once: what the new entry says, and the area of each copy that the record goes to.
 pub struct Plan {
-    pub sectors: u32,
-    pub front: Part,
-    pub back: Part,
+    pub entry: Holding,
+    pub front: Area,
+    pub back: Area,
 }
 
 // What `work_out` answers.
@@ -75,38 +76,21 @@ pub fn check(f: &[u8], b: &[u8], t: Time, r: &[u8]) -> u8
     }
 }
 
-// One side of an update of a copy whose block has the fields x, with what the new entry says.
-fn side_part(w: Side, d: Device, x: BlockFields, h: Holding) -> Part
-    ensures { λ p. ⌜ p ≡ partFor w d x h ⌝ }
-{
-    let y = copy::other_area(copy::newest(x));
-    let fields = stores::with_entry(x, y, Entry::Used(h));
-    let area = layout::area_sector(w, y, d);
-    let block = layout::block_sector(w, d);
-    Part {
-        area: area,
-        block: block,
-        fields: fields,
-    }
-}
-
 // The plan of an update of two copies whose blocks have these fields.
 fn plan_for(x: BlockFields, y: BlockFields, t: Time, r: &[u8]) -> Plan
     requires { ⌜ lengthAllowed (length (now r)) ≡ true ⌝ }
     ensures { λ p. ⌜ p ≡ planFor x y t (now (r .entry)) ⌝ }
 {
-    let bytes = r.len() as u32;
     let h = Holding {
         seconds: t.seconds,
         nanoseconds: t.nanoseconds,
-        bytes: bytes,
+        bytes: r.len() as u32,
         checksum: checksum::checksum(r),
     };
-    let k = stores::sectors(bytes);
-    let front = side_part(Side::Front, x.device, x, h);
-    let back = side_part(Side::Back, x.device, y, h);
+    let front = copy::other_area(copy::newest(x));
+    let back = copy::other_area(copy::newest(y));
     Plan {
-        sectors: k,
+        entry: h,
         front: front,
         back: back,
     }
@@ -140,19 +124,26 @@ pub fn work_out(f: &[u8], b: &[u8], t: Time, r: &[u8]) -> Planned
     }
 }
 
+// How many sectors a plan's record fills.
+fn sectors(p: Plan) -> u32
+    ensures { λ k. ⌜ k ≡ sectorsIn p ⌝ }
+{
+    let h = p.entry;
+    stores::sectors(h.bytes)
+}
+
 // How many stores a plan has.
 pub fn count(p: Plan) -> u64
     ensures { λ n. ⌜ n ≡ storesIn p ⌝ }
 {
-    2 * (p.sectors as u64) + 2
+    2 * (sectors(p) as u64) + 2
 }
 
-// The group of a plan's store: 0 front area, 1 front block, 2 back area, 3 back block; 4 past the last store. A flush
-// belongs after the last store of each group.
+// The group of a plan's store: 0 front area, 1 front block, 2 back area, 3 back block; 4 past the last store.
 pub fn group(p: Plan, i: u64) -> u8
     ensures { λ g. ⌜ g ≡ groupOf p i ⌝ }
 {
-    let k = p.sectors as u64;
+    let k = sectors(p) as u64;
     if i < k {
         return 0;
     }
@@ -168,27 +159,56 @@ pub fn group(p: Plan, i: u64) -> u8
     4
 }
 
-// The store of a plan with number i, counted from 0: its 512 bytes into out, its sector as the answer. The copies and the
-// record are those that the plan was made of. 1 for a slice of another size, 15 for a length that no record has, 23 past the
-// last store and for a made-up sector past 2^64 - 1; a block that the writer refuses gives its number. Then out stays.
+// Whether a flush belongs after a plan's store: it is the last of its group.
+pub fn flush(p: Plan, i: u64) -> bool
+    ensures { λ r. ⌜ r ≡ flushAfter p i ⌝ }
+{
+    if count(p) <= i {
+        return false;
+    }
+    group(p, i) != group(p, i + 1)
+}
+
+// One side of a plan, with the copy c of that side.
+fn part_on(w: Side, x: Area, h: Holding, c: &[u8]) -> Part
+    ensures { λ p. ⌜ p ≡ partOn w x h (now (c .entry)) ⌝ }
+{
+    let g = copy::fields_in(c);
+    let fields = stores::with_entry(g, x, Entry::Used(h));
+    let area = layout::area_sector(w, x, g.device);
+    let block = layout::block_sector(w, g.device);
+    Part {
+        area: area,
+        block: block,
+        fields: fields,
+    }
+}
+
+// The store of a plan with number i, counted from 0: its 512 bytes into out, its sector as the answer. The record is the one that the
+// plan was made of; the copies are those, as they were or with the plan's earlier stores in them. 1 for a slice of another size, 15 for
+// a length that no record has, 1 for a length that is not the plan's, 23 past the last store and where a copy's own numbers place it
+// past sector 2^64 - 1; a block that the writer refuses gives its number. Then out stays.
 pub fn store(p: Plan, f: &[u8], b: &[u8], r: &[u8], i: u64, out: &mut [u8]) -> Given
     ensures { λ g. ⌜ g ≡ storeAnswer p (now (f .entry)) (now (b .entry)) (now (r .entry)) i (now (out .entry)) ⌝ }
     ensures { λ _. ⌜ now (out .exit) ≡ storeBytes p (now (f .entry)) (now (b .entry)) (now (r .entry)) i (now (out .entry)) ⌝ }
 {
-    let n = layout::copy_bytes();
-    let sized = ((f.len() == n) & (b.len() == n)) & (out.len() == layout::SECTOR_BYTES);
-    if !sized {
-        return Given::Refused(refusal::SLICE_SIZE);
+    let h = p.entry;
+    let n = stores::check_store(f, b, out.len(), r.len() as u64, h.bytes, i, count(p));
+    if n != 0 {
+        return Given::Refused(n);
     }
-    if !layout::length_allowed(r.len() as u64) {
-        return Given::Refused(refusal::RECORD_LENGTH);
-    }
-    if count(p) <= i {
-        return Given::Refused(refusal::NO_STORE);
-    }
-    let k = p.sectors;
+    let k = sectors(p);
     if i <= k as u64 {
-        return stores::put_part(p.front, k, f, r, i, out);
+        let x = p.front;
+        return stores::put_part(part_on(Side::Front, x, h, f), k, f, r, i, out);
     }
-    stores::put_part(p.back, k, b, r, i - (k as u64 + 1), out)
+    let y = p.back;
+    stores::put_part(
+        part_on(Side::Back, y, h, b),
+        k,
+        b,
+        r,
+        i - (k as u64 + 1),
+        out,
+    )
 }
