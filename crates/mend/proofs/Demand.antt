@@ -48,7 +48,7 @@ use Rattle.mend.specs.Mend.{blockLike, emptied, refilled, blanked, later
 use Rattle.mend.specs.Demand.{after, Serving, Mended, Counts, Counting, BlockFor, Rewrites, Rewriting, Goes, Touching}
 use Rattle.mend.proofs.Kept.{Kept, kept-small, held, kept, found-is, found-time, found-long}
 use Rattle.mend.proofs.Blocks.{Right, right-empty, right-filled, right-blank, like-reads, like-size}
-use Rattle.mend.proofs.Stores.{by-store, group-starts, count-whole, count-blank}
+use Rattle.mend.proofs.Stores.{by-store, start-one, start-two, start-three, count-whole, count-blank}
 use Rattle.mend.proofs.Landing.{first-at, sector-at, second-at, last-at, end-sound, other-holds, kept-whole, kept-blank}
 
 -- entries that are used and the same say the same
@@ -203,11 +203,10 @@ module _ (v : Device) (d : Sectors) (t : Time) (r₀ : List ℕ) (s : Answered v
 
   rewrites : Rewrites v (q .side) c (timeOf h) r (rewriting (q .side) c (q .area) r)
   rewrites =
-      let k : ℕ = sectorsOf (length r) in
       record {
-        second = group-starts (q .side) c (q .area) r 1;
-        third = group-starts (q .side) c (q .area) r 2 ∙ omega arith;
-        fourth = group-starts (q .side) c (q .area) r 3 ∙ omega arith;
+        second = start-one (q .side) c (q .area) r;
+        third = start-two (q .side) c (q .area) r;
+        fourth = start-three (q .side) c (q .area) r;
         empty =
             subst (λ (u : Device). BlockFor v (otherSide (q .side)) (record { device = u; a = Unused; b = Unused }) c (storeIn (rewriting (q .side) c (q .area) r) 0)) (s .says)
             (block-for (otherSide (q .side)) (emptied (deviceIn c)) _ (first-at (q .side) v d (s .sound) (s .says) (q .area) h r itself) (right-empty c (itself .accepted)));

@@ -1,7 +1,7 @@
 -- What the stores of a mend leave on the device, all landed.
 use Prim.Native.Nat.{ℕ, suc, _+_, _-_, _*_, _≤_, _<_}
 use mathlib.Core.Path.{_≡_, refl, sym, ap, subst, _∙_}
-use mathlib.Core.Bool.{Bool, true, false, true≢false}
+use mathlib.Core.Bool.{true, false, true≢false}
 use mathlib.Core.Logic.{_⊎_, inl, inr}
 use mathlib.Core.List.{List}
 use native.Mathlib.Nat.{zero-add}
@@ -32,7 +32,7 @@ use Rattle.stores.proofs.Holding.{Holds}
 use Rattle.stores.proofs.OneCopy.{block-place, holds-at}
 use Rattle.mend.specs.Mend.{emptied, refilled, blanked, laterWhole, rewriting}
 use Rattle.mend.proofs.Kept.{Kept, kept-small}
-use Rattle.mend.proofs.Stores.{emptyBlock, filledBlock, blankBlock, at-first, at-sector, at-second, at-last, count-whole, count-blank, by-store}
+use Rattle.mend.proofs.Stores.{emptyBlock, filledBlock, blankBlock, at-first, at-sector, at-second, at-last, at-least, count-blank, by-store}
 use Rattle.mend.proofs.Blocks.{right-empty, right-filled, right-blank, like-reads, like-size, newest-filled, newest-blanked, entry-blanked}
 
 -- the copy of side w on a device, with a record that its block names, is kept
@@ -101,14 +101,6 @@ module _ (w : Side) (v : Device) (d : Sectors) (sd : Sound d) (placed : deviceIn
   pub end-sound : Sound end
   end-sound = record { size = landed-size st d (sd .size) all stored-size }
 
-  -- at least the first three groups
-  pub at-least : k + 2 ≤ all
-  at-least = go (laterWhole c) refl
-    where
-      go : (b : Bool) → laterWhole c ≡ b → k + 2 ≤ all
-      go true n = let e : all ≡ k + 2 = count-whole w c x r n in omega arith
-      go false n = let e : all ≡ k + 3 = count-blank w c x r n in omega arith
-
   -- the kept side: all but its block stays
   pub kept-sector : (n : ℕ) → near w v n → (n ≡ blockSector w v → ⊥) → end n ≡ d n
   kept-sector n a b = landed-old st d all n (λ j l e. go (goes j l) e)
@@ -137,7 +129,7 @@ module _ (w : Side) (v : Device) (d : Sectors) (sd : Sound d) (placed : deviceIn
 
   pub other : (n : ℕ) → suc n ≡ all → OneSide.Side later n 0 k (areaSector (otherSide w) A v) (blockSector (otherSide w) v) r (filledBlock w c x r) (near (otherSide w) v)
   other n e =
-      let m : k + 2 ≤ all = at-least in
+      let m : k + 2 ≤ all = at-least w c x r in
       let b : k ≤ 1020 = tiny in
       record {
         within = omega arith;
@@ -159,14 +151,14 @@ module _ (w : Side) (v : Device) (d : Sectors) (sd : Sound d) (placed : deviceIn
 
   pub filled-block : end (blockSector (otherSide w) v) ≡ filledBlock w c x r
   filled-block =
-      let m : k + 2 ≤ all = at-least in
+      let m : k + 2 ≤ all = at-least w c x r in
       let n : ℕ = all - 1 in
       let e : suc n ≡ all = omega arith in
       other-end n (blockSector (otherSide w) v) e ∙ OneSide.block-landed (other n e) (put d (st 0)) n (omega arith) (omega arith)
 
   pub filled-area : (i : ℕ) → i < k → end (areaSector (otherSide w) A v + i) ≡ sectorOf r i
   filled-area i l =
-      let m : k + 2 ≤ all = at-least in
+      let m : k + 2 ≤ all = at-least w c x r in
       let n : ℕ = all - 1 in
       let e : suc n ≡ all = omega arith in
       other-end n (areaSector (otherSide w) A v + i) e ∙ OneSide.area-landed (other n e) (put d (st 0)) i n l (omega arith) (omega arith)

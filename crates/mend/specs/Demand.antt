@@ -36,7 +36,7 @@ use Rattle.mend.specs.declared.Rewrite.{Rewrite}
 use Rattle.mend.specs.declared.Mending.{Mending}
 use Rattle.mend.specs.declared.Mending.the-variants as Mending
 use Rattle.mend.specs.Mend.{laterWhole, mendGroups}
-use Rattle.mend.specs.Plan.{mending, storesIn, groupOf, storeAnswer, storeBytes}
+use Rattle.mend.specs.Plan.{mending, storesIn, groupOf, flushAfter, storeAnswer, storeBytes}
 
 -- the groups of a mend of the device's copies, and the device after all of its stores
 abbrev pub groupsOn : Device → Sectors → Groups
@@ -116,11 +116,14 @@ abbrev pub Answering : Type 0
 Answering = (f b : List ℕ) → MendAnswers f b (mending f b)
 
 -- What the calls give of a mend m is what the groups gs have: the count is the length of the list of stores, each store is in its group,
--- each is given with its sector and its 512 bytes; past the last there is none of copies by their size, and no group.
+-- a flush belongs exactly after the last store of each group, each store is given with its sector and its 512 bytes; past the last there
+-- is none of copies by their size, no group, and no flush.
 pub record MendGives (f b : List ℕ) (m : Mending) (gs : Groups) : Type 0 where
   pub count : storesIn m ≡ length (stores gs)
   pub grouped : (g i : ℕ) → g < 4 → groupStart gs g ≤ i → i < groupStart gs (suc g) → groupOf m i ≡ g
   pub no-group : (i : ℕ) → length (stores gs) ≤ i → groupOf m i ≡ 4
+  pub flush : (g i : ℕ) → g < 4 → groupStart gs g ≤ i → i < groupStart gs (suc g) → (flushAfter m i ≡ true ↔ suc i ≡ groupStart gs (suc g))
+  pub no-flush : (i : ℕ) → length (stores gs) ≤ i → flushAfter m i ≡ false
   pub store : (i : ℕ) (out : List ℕ) → i < length (stores gs) → length out ≡ 512
       → (storeAnswer m f b i out ≡ At (storeIn gs i .sector)) × (storeBytes m f b i out ≡ storeIn gs i .content)
   pub no-store : (i : ℕ) (out : List ℕ) → length (stores gs) ≤ i → sized f b ≡ true → length out ≡ 512
