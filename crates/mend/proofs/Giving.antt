@@ -1,5 +1,5 @@
 -- What the calls of a mend give is what its groups have.
-use Prim.Native.Nat.{ℕ, zero, suc, _+_, _-_, _*_, _^_, _≤_, _<_}
+use Prim.Native.Nat.{ℕ, zero, suc, _+_, _-_, _^_, _≤_, _<_}
 use mathlib.Core.Path.{_≡_, refl, sym, ap, ap₂, subst, _∙_}
 use mathlib.Core.Bool.{Bool, true, false, cond, not, true≢false}
 use mathlib.Core.Logic.{_↔_}
@@ -47,7 +47,7 @@ use Rattle.mend.specs.Plan.{rewriteOf, mendingAfter, mending, planStores
 use Rattle.mend.specs.Demand.{MendGives, Giving}
 use Rattle.mend.proofs.Choosing.{with-last, without-last, flush-past, first-store, part-store, last-store, needed-refused, needed-given, past-last, in-first, in-record, in-second, in-last}
 use Rattle.mend.proofs.Kept.{Kept, kept-small, kept-allowed, found-sized, found-bytes, held, kept, found-later, found-long}
-use Rattle.mend.proofs.Stores.{filledBlock, at-first, at-sector, at-second, at-last, at-least, count-whole, count-blank, start-zero, start-one, start-two, start-three, start-four, by-store}
+use Rattle.mend.proofs.Stores.{filledBlock, at-first, at-sector, at-second, at-last, at-least, count-whole, count-blank, start-one, start-two, start-three, start-four, by-store}
 use Rattle.mend.proofs.Blocks.{Right, right-empty, right-filled, right-blank, like-writes, like-written}
 
 -- nothing to store

@@ -120,9 +120,6 @@ module _ (w : Side) (c : List ℕ) (x : Area) (r : List ℕ) where
         ∙ (after-record 1 ∙ ap (λ (g : Groups). getD (blockPlace (otherSide w) filledBlock ∷ stores g) 1 none) last-one)
 
   -- where the groups start: the fourth ends with the last store, whether it has one or none
-  pub start-zero : groupStart groups 0 ≡ 0
-  start-zero = group-starts 0
-
   pub start-one : groupStart groups 1 ≡ 1
   start-one = group-starts 1
 
