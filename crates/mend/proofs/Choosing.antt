@@ -5,7 +5,7 @@ use mathlib.Core.Bool.{Bool, true, false, cond, not, _&&_}
 use mathlib.Core.List.{List}
 use native.Mathlib.Omega.{arith}
 use borrow.Author.Tests.{lt-ltb, le-ltb, le-leb, lt-leb, eq-eqb, ne-eqb}
-use lib.Dec.{leb, ltb, eqb}
+use lib.Dec.{leb, eqb}
 use lib.ListN.{length}
 use Rattle.endian.specs.Bytes.{window}
 use Rattle.refusal.specs.Numbers.{sliceSize, noStore}
@@ -72,13 +72,12 @@ module _ (k n i : ℕ) where
 -- a flush
 module _ (m : Mending) (i n : ℕ) (en : n ≡ storesIn m) where
   pub flush-past : n ≤ i → false ≡ flushAfter m i
-  flush-past h =
-      sym (ap (λ (t : Bool). t && not (eqb (groupOf m i) (groupOf m (suc i)))) (le-ltb i (storesIn m) (subst (λ (z : ℕ). z ≤ i) en h)))
+  flush-past h = rw (le-ltb i (storesIn m) (subst (λ (z : ℕ). z ≤ i) en h))
 
   pub flush-here : i < n → (g h : ℕ) → g ≡ groupOf m i → h ≡ groupOf m (i + 1) → not (eqb g h) ≡ flushAfter m i
   flush-here l g h eg eh =
-      ap₂ (λ (y z : ℕ). not (eqb y z)) eg (eh ∙ ap (groupOf m) (let e : i + 1 ≡ suc i = omega arith in e))
-      ∙ sym (ap (λ (t : Bool). t && not (eqb (groupOf m i) (groupOf m (suc i)))) (lt-ltb i (storesIn m) (subst (λ (z : ℕ). i < z) en l)))
+      rw (lt-ltb i (storesIn m) (subst (λ (z : ℕ). i < z) en l))
+      (ap₂ (λ (y z : ℕ). not (eqb y z)) eg (eh ∙ ap (groupOf m) (let e : i + 1 ≡ suc i = omega arith in e)))
 
 -- what store i of a plan answers and leaves, by two tests on i
 module _ (p : Rewrite) (x : BlockFields) (c : List ℕ) (i : ℕ) (out : List ℕ) (g : Given) (w : List ℕ) (k : ℕ) (ek : k ≡ sectorsOf (p .bytes)) where
