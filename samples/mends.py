@@ -11,7 +11,7 @@ stdin: the samples, packed as `packed` in layout.py says, with the sizes of the 
 byte 0 of a pair, the back where a whole front ends.
 """
 from layout import (AREA_SECTORS, COPY, HEADER_SECTORS, LONG, OFFSETS, OTHER, RECORD, SECTOR, UNUSED, WAYS, Found, block, broken,
-                    copy, crc32, discover, held, in_sectors, line, packed, places, present, read, write)
+                    copy, crc32, discover, held, in_sectors, laid, line, packed, places, present, read, write)
 
 SMALL = {"size": 2097152, "metadata": 2040, "reserved": 0}
 EVEN = {"size": 2097154, "metadata": 2044, "reserved": 3}
@@ -48,21 +48,24 @@ def mend(front, back):
     if in_step(front, back):
         return "in step", None, []
     side, area = found.side, found.present.area
-    other = {"front": "back", "back": "front"}[side]
     fields = read({"front": front, "back": back}[side])[1]
-    device = fields.identity[0]
-    where = places(device)
-    # Its signature block with both entries unused, then the record in area a, then its block with that entry.
-    record = in_sectors(found.present.record)
-    stores = [(0, where[other]["block"], block(*fields.identity))]
-    stores += [(1, where[other]["a"] + i, data) for i, data in enumerate(record)]
-    stores += [(2, where[other]["block"], block(*fields.identity, a=fields.entries[area]))]
     # If the kept copy's later entry is not whole, one last store blanks that entry.
     later = fields.used()[0][1]
-    if later != area:
-        stores += [(3, where[side]["block"], block(*fields.identity, **{**fields.entries, later: UNUSED}))]
-    assert len(stores) == len(record) + (2 if later == area else 3)
-    return f"stores {len(stores)}", (side, device), stores
+    stores = rewrite(side, fields, area, found.present.record, None if later == area else later)
+    return f"stores {len(stores)}", (side, fields.identity[0]), stores
+
+
+def rewrite(side, fields, area, record, blank):
+    """The stores that keep a side, whose block has these fields, with a record in an area."""
+    where = places(fields.identity[0])
+    other = {"front": "back", "back": "front"}[side]
+    # Its signature block with both entries unused, then the record in area a, then its block with that entry.
+    stores = [(0, where[other]["block"], block(*fields.identity))]
+    stores += [(1, where[other]["a"] + i, data) for i, data in enumerate(in_sectors(record))]
+    stores += [(2, where[other]["block"], block(*fields.identity, a=fields.entries[area]))]
+    if blank:
+        stores += [(3, where[side]["block"], block(*fields.identity, **{**fields.entries, blank: UNUSED}))]
+    return stores
 
 
 def mended(front, back, kept, stores):
@@ -82,11 +85,16 @@ def mended(front, back, kept, stores):
     return tuple(b"".join(device[sector] for sector in numbers[side]) for side in ("front", "back"))
 
 
+def flush(stores, i):
+    """A flush belongs after the last store of each group."""
+    return " flush" if [group for group, _, _ in stores[i:i + 2]] != 2 * [stores[i][0]] else ""
+
+
 def lines_of(m, stores):
     """What is printed of a mend: its answer, its stores, and what comes after the last: 23, or 1 for a copy of another size."""
     yield m
     for i, (group, sector, data) in enumerate(stores):
-        yield f"store {i} {group} {sector} {crc32(data):08x}"
+        yield f"store {i} {group} {sector} {crc32(data):08x}{flush(stores, i)}"
     yield f"store {len(stores)} 4 refused {1 if m == 'refused 1' else 23} {crc32(LENT * SECTOR):08x}"
 
 
@@ -259,27 +267,20 @@ def samples():
         yield from part()
 
 
-def made_up(area, front):
-    """The stores of a plan that the program makes up itself: it keeps the front, whose area b gives the record's 700
-    bytes, has 4 sectors of them from `area` on, and blocks of which only the first can be written. The format says no
-    more of it than that no sector has a number over 2^64 - 1; the library's promise says that such a store is refused
-    with 23, a block that the writer refuses with its number, and sectors past the record are zeros."""
-    _, pool, uuid = read(front)[1].identity
-    record = in_sectors(front[OFFSETS["b"]:OFFSETS["b"] + 700]) + 2 * [bytes(SECTOR)]
-    empty = block((2097152, 2040, 0), pool, uuid)
+def made_up(side, kept, area, n, blank=None, number=0, write=0):
+    """The stores of a plan that the program makes up itself: it keeps this copy, whose area gives the record's n bytes. The format says
+    nothing of it; the library's promise says that a plan's store is refused with 15 where the entry's length is none, with 1 where it is
+    not the plan's, and a block that the writer refuses with the writer's number."""
+    fields = read(kept)[1]
+    used = fields.entries[area][2]
+    assert number == (15 if used == 0 else 1 if used != n else 0) and write == (7 if fields.identity[0][1] % 2 else 0)
+    stores = rewrite(side, fields, area, kept[OFFSETS[area]:OFFSETS[area] + n], blank)
     still = f"{crc32(LENT * SECTOR):08x}"
-    yield "stores 7"
-    yield f"store 0 0 {2 ** 64 - 1} nowhere {crc32(empty):08x}"
-    for i, data in enumerate(record):
-        sector = area + i
-        if sector < 2 ** 64:
-            yield f"store {i + 1} 1 {sector} nowhere {crc32(data):08x}"
-        else:
-            yield f"store {i + 1} 1 refused 23 {still}"
-    # Two entries of one time; then S too small, with L and R not allowed either.
-    yield f"store 5 2 refused 9 {still}"
-    yield f"store 6 3 refused 4 {still}"
-    yield f"store 7 4 refused 23 {still}"
+    yield f"stores {len(stores)}"
+    for i, (group, sector, data) in enumerate(stores):
+        refused = number or (write if group != 1 else 0)
+        yield f"store {i} {group} " + (f"refused {refused} {still}" if refused else f"{sector} {crc32(data):08x}") + flush(stores, i)
+    yield f"store {len(stores)} 4 refused {number or 23} {still}"
 
 
 def main():
@@ -307,8 +308,12 @@ def main():
     # Stores 0, 1 and 99 of that pair's mend, and store 0 where there is none, with too few and too many bytes.
     for i in (0, 1, 99, 0, 0):
         lines += [f"lent {n} for {i} refused 1 {crc32(LENT * n):08x}" for n in (1, SECTOR - 1, SECTOR + 1)]
-    for area in (2 ** 64 - 2, 2 ** 64 - 1, 100):
-        lines += made_up(area, front)
+    # A last store that is not needed; the older record; a length that is not the entry's; an area with no record; an L that is odd.
+    lines += made_up("front", front, "b", 800, blank="a")
+    lines += made_up("back", back, "a", 28)
+    lines += made_up("front", front, "b", 799, number=1)
+    lines += made_up("front", front, "a", 800, number=15)
+    lines += made_up("front", laid(front, [(SECTOR + 160, b"\xf9")]), "b", 800, write=7)
     write("mend_samples", lines, stream)
     print(f"mends: {len(names)} samples, {len(stream)} bytes, {len(lines)} lines")
 

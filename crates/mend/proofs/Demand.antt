@@ -2,7 +2,7 @@
 use Prim.Native.Nat.{ℕ, suc, _+_, _≤_, _<_}
 use mathlib.Core.Path.{_≡_, refl, sym, ap, ap₂, subst, _∙_}
 use mathlib.Core.Bool.{Bool, true, false, cond}
-use mathlib.Core.Logic.{_⊎_, inl, inr}
+use mathlib.Core.Logic.{inl, inr}
 use mathlib.Core.List.{List, [], flatten}
 use native.Mathlib.Nat.{not-suc-le-zero}
 use native.Mathlib.Omega.{arith}
@@ -34,6 +34,7 @@ use Rattle.discovery.specs.Newest.{timeAt}
 use Rattle.discovery.proofs.Latest.{found-same}
 use Rattle.crash.specs.Crash.{Sectors, Sound, Store, Groups, stores, storeIn, landed, allLanded, areaSectors, copyFrom}
 use Rattle.crash.proofs.Copies.{length-copy}
+use Rattle.stores.specs.declared.Given.the-variants.{At}
 use Rattle.stores.specs.Stores.{sectorsOf, holdingFor, withEntry}
 use Rattle.stores.specs.States.{Gives, Ready, Answered, Fits, AllFit}
 use Rattle.stores.proofs.Holding.{heldIn, recordIn, Holds}
@@ -41,15 +42,20 @@ use Rattle.stores.proofs.Blocks.{device-kept}
 use Rattle.stores.proofs.InStep.{Stepped, in-step-facts}
 use Rattle.stores.proofs.Discovering.{gives}
 use Rattle.stores.proofs.States.{stepped-found, made-ready}
+use Rattle.stores.proofs.Facts.{sized-copies}
 use Rattle.stores.proofs.Padding.{sectors-few, sectors-within, length-sector}
 use Rattle.stores.proofs.OneCopy.{stepped-held}
 use Rattle.stores.proofs.Places.{Sizes, sizes-accepted, area-below, block-below}
 use Rattle.mend.specs.Mend.{blockLike, emptied, refilled, blanked, laterWhole, rewriting, groupsAfter, mendGroups}
-use Rattle.mend.specs.Demand.{after, Serving, Mended, Counts, Counting, BlockFor, Rewrites, Rewriting, Goes, Touching}
+use Rattle.mend.specs.declared.Mending.{Mending}
+use Rattle.mend.specs.declared.Mending.the-variants as Mending
+use Rattle.mend.specs.Plan.{rewriteOf, mendingAfter, mending, storeAnswer, storeBytes}
+use Rattle.mend.specs.Demand.{after, Serving, Mended, Counts, Counting, BlockFor, Rewrites, Rewriting, Goes, Touching, GivenAfter, Going}
+use Rattle.mend.proofs.Giving.{given}
 use Rattle.mend.proofs.Kept.{Kept, kept-small, held, kept, found-is, found-time, found-long}
 use Rattle.mend.proofs.Blocks.{Right, right-empty, right-filled, right-blank, like-reads, like-size}
-use Rattle.mend.proofs.Stores.{by-store, group-starts, count-whole, count-blank}
-use Rattle.mend.proofs.Landing.{first-at, sector-at, second-at, last-at, end-sound, other-holds, kept-whole, kept-blank}
+use Rattle.mend.proofs.Stores.{by-store, start-one, start-two, start-three, count-whole, count-blank}
+use Rattle.mend.proofs.Landing.{first-at, sector-at, second-at, last-at, some-sound, end-sound, stays-copy, other-holds, kept-whole, kept-blank}
 
 -- entries that are used and the same say the same
 used-same : (h k : Holding) → Used h ≡ Used k → h ≡ k
@@ -203,11 +209,10 @@ module _ (v : Device) (d : Sectors) (t : Time) (r₀ : List ℕ) (s : Answered v
 
   rewrites : Rewrites v (q .side) c (timeOf h) r (rewriting (q .side) c (q .area) r)
   rewrites =
-      let k : ℕ = sectorsOf (length r) in
       record {
-        second = group-starts (q .side) c (q .area) r 1;
-        third = group-starts (q .side) c (q .area) r 2 ∙ omega arith;
-        fourth = group-starts (q .side) c (q .area) r 3 ∙ omega arith;
+        second = start-one (q .side) c (q .area) r;
+        third = start-two (q .side) c (q .area) r;
+        fourth = start-three (q .side) c (q .area) r;
         empty =
             subst (λ (u : Device). BlockFor v (otherSide (q .side)) (record { device = u; a = Unused; b = Unused }) c (storeIn (rewriting (q .side) c (q .area) r) 0)) (s .says)
             (block-for (otherSide (q .side)) (emptied (deviceIn c)) _ (first-at (q .side) v d (s .sound) (s .says) (q .area) h r itself) (right-empty c (itself .accepted)));
@@ -280,6 +285,37 @@ module _ (v : Device) (d : Sectors) (t : Time) (r₀ : List ℕ) (s : Answered v
   all-fit : AllFit v (mendGroups f b)
   all-fit = subst (λ (g : Groups). (i : ℕ) → i < length (stores g) → Fits v (storeIn g i)) (sym groups) (fit-step (inStep f b))
 
+  -- the stores, of copies to which earlier ones were applied
+  goes-on : (i j : ℕ) (out : List ℕ) → j ≤ i → i < length (stores (rewriting (q .side) c (q .area) r)) → length out ≡ 512
+      → GivenAfter v d (Mending.Needed (rewriteOf q)) (rewriting (q .side) c (q .area) r) j i out
+  goes-on i j out a l room =
+      let e : Sectors = landed (storeIn (rewriting (q .side) c (q .area) r)) j d in
+      let se : Sound e = some-sound (q .side) v d (s .sound) (s .says) (q .area) h r itself j (omega arith) in
+      subst (λ (z : List ℕ).
+      (storeAnswer (Mending.Needed (rewriteOf q)) (copyFrom Front v e) (copyFrom Back v e) i out ≡ At (storeIn (rewriting (q .side) z (q .area) r) i .sector))
+      × (storeBytes (Mending.Needed (rewriteOf q)) (copyFrom Front v e) (copyFrom Back v e) i out ≡ storeIn (rewriting (q .side) z (q .area) r) i .content))
+      (side-copy v d (q .side))
+      (given f b q (s .gives .other) (s .gives .answers) (copyFrom Front v e) (copyFrom Back v e) (sized-copies v e e se se)
+      (side-copy v e (q .side) ∙ (stays-copy (q .side) v d (s .sound) (s .says) (q .area) h r itself j (omega arith) ∙ sym (side-copy v d (q .side)))) out room i
+      (subst (λ (z : List ℕ). i < length (stores (rewriting (q .side) z (q .area) r))) (sym (side-copy v d (q .side))) l))
+
+  plan : mending f b ≡ cond (inStep f b) Mending.InStep (Mending.Needed (rewriteOf q))
+  unfolding mending
+  plan = ap (λ (a : Answer). mendingAfter a f b) (s .gives .answers)
+
+  on-step : (u : Bool) (i j : ℕ) (out : List ℕ) → j ≤ i → i < length (stores (cond u [] (rewriting (q .side) c (q .area) r))) → length out ≡ 512
+      → GivenAfter v d (cond u Mending.InStep (Mending.Needed (rewriteOf q))) (cond u [] (rewriting (q .side) c (q .area) r)) j i out
+  unfolding flatten
+  on-step true i j out a l room = absurd (not-suc-le-zero l)
+  on-step false i j out a l room = goes-on i j out a l room
+
+  all-on : (i j : ℕ) (out : List ℕ) → j ≤ i → i < length (stores (mendGroups f b)) → length out ≡ 512 → GivenAfter v d (mending f b) (mendGroups f b) j i out
+  all-on =
+      subst (λ (m : Mending). (i j : ℕ) (out : List ℕ) → j ≤ i → i < length (stores (mendGroups f b)) → length out ≡ 512 → GivenAfter v d m (mendGroups f b) j i out) (sym plan)
+      (subst (λ (g : Groups).
+      (i j : ℕ) (out : List ℕ) → j ≤ i → i < length (stores g) → length out ≡ 512 → GivenAfter v d (cond (inStep f b) Mending.InStep (Mending.Needed (rewriteOf q))) g j i out)
+      (sym groups) (on-step (inStep f b)))
+
 pub serving : Serving
 serving v d q o sd e says =
     record {
@@ -306,3 +342,6 @@ mended v d t r s = (all-done v d t r s, all-fit v d t r s)
 
 pub touching : Touching
 touching v d t r s = touches v d t r s
+
+pub going : Going
+going v d t r s = all-on v d t r s

@@ -1,48 +1,53 @@
 -- What the calls of a mend give is what its groups have.
-use Prim.Native.Nat.{ℕ, zero, suc, _+_, _-_, _*_, _^_, _≤_, _<_}
+use Prim.Native.Nat.{ℕ, zero, suc, _+_, _-_, _^_, _≤_, _<_}
 use mathlib.Core.Path.{_≡_, refl, sym, ap, ap₂, subst, _∙_}
-use mathlib.Core.Bool.{Bool, true, false, cond}
-use mathlib.Core.List.{List, [], _∷_, map, flatten}
-use native.Mathlib.Nat.{not-suc-le-zero, add-zero}
-use native.Mathlib.Decide.{decLe}
+use mathlib.Core.Bool.{Bool, true, false, cond, not, true≢false}
+use mathlib.Core.Logic.{_↔_}
+use mathlib.Core.List.{List, [], flatten}
+use native.Mathlib.Nat.{not-suc-le-zero}
+use native.Mathlib.Decide.{decLt, decLe}
 use native.Mathlib.Omega.{arith}
-use lib.ListN.{length, take}
-use Rattle.refusal.specs.Numbers.{noStore}
-use Rattle.endian.proofs.Tests.{and-left, and-right}
+use borrow.Author.Tests.{lt-ltb, le-ltb, eq-eqb, ne-eqb, not-true}
+use lib.Dec.{ltb, eqb}
+use lib.ListN.{length}
+use Rattle.endian.proofs.Tests.{and-left, and-right, and-both}
+use Rattle.refusal.specs.Numbers.{sliceSize, noStore}
+use Rattle.refusal.specs.Tests.{first}
+use Rattle.refusal.proofs.Order.{first-pass, first-fail, first-all}
 use Rattle.layout.specs.declared.Side.{Side}
 use Rattle.layout.specs.declared.Side.the-variants.{Front, Back}
-use Rattle.layout.specs.declared.Area.the-variants.{A}
+use Rattle.layout.specs.declared.Area.{Area}
+use Rattle.layout.specs.declared.Area.the-variants.{A, B}
 use Rattle.layout.specs.Limits.{lengthAllowed}
 use Rattle.layout.specs.Places.{blockSector, areaSector}
+use Rattle.block.specs.declared.Entry.the-variants.{Unused}
 use Rattle.block.specs.declared.BlockFields.{BlockFields}
 use Rattle.block.specs.Block.{fieldsOf}
 use Rattle.discovery.specs.declared.Finding.{Finding}
 use Rattle.discovery.specs.declared.Other.{Other}
 use Rattle.discovery.specs.declared.Answer.{Answer}
 use Rattle.discovery.specs.declared.Answer.the-variants as Answer
-use Rattle.copy.specs.Copy.{isCopy, blockIn, entryIn, otherSide, deviceIn}
+use Rattle.copy.specs.Copy.{isCopy, blockIn, otherArea, otherSide, newest, deviceIn}
 use Rattle.discovery.specs.Discovery.{sized, discovery, inStep, copyOn, recordBytes}
 use Rattle.crash.specs.Crash.{Store, Groups, stores, storeIn, groupStart}
-use Rattle.crash.proofs.Groups.{total}
+use Rattle.stores.specs.declared.Part.{Part}
 use Rattle.stores.specs.declared.Given.{Given}
 use Rattle.stores.specs.declared.Given.the-variants as Given
-use Rattle.stores.specs.Stores.{sectorsOf}
-use Rattle.stores.specs.Given.{blockGiven, blockLeft, partGiven, partLeft}
+use Rattle.stores.specs.Stores.{sectorsOf, withEntry}
+use Rattle.stores.specs.Given.{blockGiven, blockLeft, partGiven, partLeft, lentRight}
 use Rattle.stores.proofs.Blocks.{number-fits}
 use Rattle.stores.proofs.Padding.{sectors-few}
 use Rattle.stores.proofs.Places.{Sizes, sizes-accepted, area-below}
 use Rattle.stores.proofs.Choosing.{lent-right, block-given, area-given, part-given}
-use Rattle.mend.specs.declared.Last.{Last}
-use Rattle.mend.specs.declared.Last.the-variants as Last
 use Rattle.mend.specs.declared.Rewrite.{Rewrite}
 use Rattle.mend.specs.declared.Mending.{Mending}
 use Rattle.mend.specs.declared.Mending.the-variants as Mending
-use Rattle.mend.specs.Mend.{blockLike, emptied, refilled, blanked, laterWhole, rewriting, groupsAfter, mendGroups}
-use Rattle.mend.specs.Plan.{rewriteOf, mendingAfter, mending, lastCount, storesIn, groupIn, groupOf, lastAnswer, lastBytes, rewriteAnswer, rewriteBytes, mendAnswer, mendBytes, storeAnswer, storeBytes}
+use Rattle.mend.specs.Mend.{blockLike, emptied, blanked, laterWhole, rewriting, groupsAfter, mendGroups}
+use Rattle.mend.specs.Plan.{rewriteOf, mendingAfter, mending, planStores, storesIn, groupIn, groupOf, flushAfter, partFor, rewriteAnswer, rewriteBytes, neededTests, neededAnswer, neededBytes, noneNumber, storeAnswer, storeBytes}
 use Rattle.mend.specs.Demand.{MendGives, Giving}
-use Rattle.mend.proofs.Choosing.{right-size, first-store, part-store, last-stored, no-such, past-last, in-first, in-record, in-second, in-last}
-use Rattle.mend.proofs.Kept.{Kept, kept-small, kept-allowed, found-sized, held, kept, found-fields, found-later, found-long}
-use Rattle.mend.proofs.Stores.{filledBlock, at-first, at-sector, at-second, at-last, last-none, last-one, count-whole, count-blank, group-starts, by-store}
+use Rattle.mend.proofs.Choosing.{with-last, without-last, flush-past, first-store, part-store, last-store, needed-refused, needed-given, past-last, in-first, in-record, in-second, in-last}
+use Rattle.mend.proofs.Kept.{Kept, kept-small, kept-allowed, found-sized, found-bytes, held, kept, found-later, found-long}
+use Rattle.mend.proofs.Stores.{filledBlock, at-first, at-sector, at-second, at-last, at-least, count-whole, count-blank, start-one, start-two, start-three, start-four, by-store}
 use Rattle.mend.proofs.Blocks.{Right, right-empty, right-filled, right-blank, like-writes, like-written}
 
 -- nothing to store
@@ -51,38 +56,48 @@ unfolding groupStart flatten
 starts-none zero = refl
 starts-none (suc g) = refl
 
+none-number : (f b out : List ℕ) → sized f b ≡ true → length out ≡ 512 → noneNumber f b (length out) ≡ noStore
+none-number f b out z room = ap (λ (t : Bool). cond t noStore sliceSize) (lent-right f b out z room)
+
 nothing : (f b : List ℕ) (m : Mending) → storesIn m ≡ 0 → ((i : ℕ) → groupOf m i ≡ 4)
-    → ((i : ℕ) (out : List ℕ) → (mendAnswer m f b i out ≡ Given.Refused noStore) × (mendBytes m f b i out ≡ out)) → MendGives f b m []
+    → ((i : ℕ) (out : List ℕ) → (storeAnswer m f b i out ≡ Given.Refused (noneNumber f b (length out))) × (storeBytes m f b i out ≡ out)) → MendGives f b m []
 unfolding flatten
 nothing f b m e n h =
     record {
       count = e;
       grouped = λ g i l p q. absurd (not-suc-le-zero (subst (λ (n : ℕ). i < n) (starts-none (suc g)) q));
       no-group = λ i l. n i;
+      flush = λ g i l p q. absurd (not-suc-le-zero (subst (λ (n : ℕ). i < n) (starts-none (suc g)) q));
+      no-flush = λ i l. sym (flush-past m i 0 (sym e) l);
       store = λ i out l room. absurd (not-suc-le-zero l);
-      no-store = λ i out l z room.
-          let a : (mendAnswer m f b i out ≡ storeAnswer m f b i out) × (mendBytes m f b i out ≡ storeBytes m f b i out) =
-          right-size m f b i out (lent-right f b out z room) _ _ m refl refl refl in
-          (sym (a .0) ∙ h i out .0, sym (a .1) ∙ h i out .1);
+      no-store = λ i out l z room. (h i out .0 ∙ ap Given.Refused (none-number f b out z room), h i out .1);
     }
 
--- what is stored, by the kept copy's bytes
-abbrev rewriteIn : List ℕ → Finding → Rewrite
-rewriteIn c q =
-    record {
-      kept = q .side;
-      area = q .area;
-      bytes = q .bytes;
-      sectors = sectorsOf (q .bytes);
-      empty = emptied (deviceIn c);
-      part =
-          record {
-            area = areaSector (otherSide (q .side)) A (deviceIn c);
-            block = blockSector (otherSide (q .side)) (deviceIn c);
-            fields = refilled (deviceIn c) (entryIn (fieldsOf (blockIn c)) (q .area));
-          };
-      last = cond (laterWhole c) Last.Absent (Last.Blank (blockSector (q .side) (deviceIn c)) (blanked (fieldsOf (blockIn c))));
-    }
+-- a store is in one of the groups, or past the last
+by-group : (k n i : ℕ) (P : ℕ → Type 0) → (n ≤ i → P 4) → (i ≡ 0 → P 0) → (i ≤ k → P 1) → (i ≤ k + 1 → P 2) → (i < n → P 3) → P (groupIn k n i)
+by-group k n i P past first sector second last =
+    elim (decLt i n) [
+      | yes l ↦
+          elim (decLt 0 i) [
+            | yes z ↦
+                let y : i ≡ 0 → ⊥ = λ e. omega arith in
+                elim (decLe i k) [
+                  | yes a ↦ subst P (in-record k n i l y a) (sector a)
+                  | no a ↦
+                      elim (decLe i (k + 1)) [
+                        | yes b ↦ subst P (in-second k n i l y (omega arith) b) (second b)
+                        | no b ↦ subst P (in-last k n i l y (omega arith) (omega arith)) (last l)
+                      ]
+                ]
+            | no z ↦ let y : i ≡ 0 = omega arith in subst P (in-first k n i l y) (first y)
+          ]
+      | no l ↦ let h : n ≤ i = omega arith in subst P (past-last k n i h) (past h)
+    ]
+
+-- areas
+other-twice : (x : Area) → otherArea (otherArea x) ≡ x
+other-twice A = refl
+other-twice B = refl
 
 -- a copy is kept
 module _ (f b : List ℕ) (q : Finding) (o : Other) (e : discovery f b ≡ Answer.Found q o) where
@@ -99,38 +114,23 @@ module _ (f b : List ℕ) (q : Finding) (o : Other) (e : discovery f b ≡ Answe
   k = sectorsOf (length r)
 
   abbrev p : Rewrite
-  p = rewriteIn c q
+  p = rewriteOf q
 
-  -- which discovery's answer says too
-  same-plan : rewriteOf q ≡ p
-  same-plan = ap₂ (λ (g : BlockFields) (t : Bool). planned g t) (found-fields f b q o e) (found-later f b q o e)
-    where
-      planned : BlockFields → Bool → Rewrite
-      planned g t =
-          record {
-            kept = q .side;
-            area = q .area;
-            bytes = q .bytes;
-            sectors = sectorsOf (q .bytes);
-            empty = emptied (g .device);
-            part =
-                record {
-                  area = areaSector (otherSide (q .side)) A (g .device);
-                  block = blockSector (otherSide (q .side)) (g .device);
-                  fields = refilled (g .device) (entryIn g (q .area));
-                };
-            last = cond t Last.Absent (Last.Blank (blockSector (q .side) (g .device)) (blanked g));
-          }
+  abbrev part : Part
+  part = partFor (otherSide (q .side)) (q .area) fields
 
   abbrev gs : Groups
   gs = rewriting (q .side) c (q .area) r
+
+  abbrev n : ℕ
+  n = length (stores gs)
 
   itself : Kept c (q .area) (held f b q o e) r
   itself = kept f b q o e
 
   -- as many sectors as the plan says
-  filled : p .sectors ≡ k
-  filled = ap sectorsOf (found-long f b q o e)
+  filled : k ≡ sectorsOf (p .bytes)
+  filled = ap sectorsOf (sym (found-long f b q o e))
 
   sizes : Sizes (deviceIn c)
   sizes = sizes-accepted (blockIn c) (itself .accepted)
@@ -138,51 +138,106 @@ module _ (f b : List ℕ) (q : Finding) (o : Other) (e : discovery f b ≡ Answe
   tiny : k ≤ 1020
   tiny = sectors-few (length r) (kept-small itself)
 
-  last-absent : laterWhole c ≡ true → p .last ≡ Last.Absent
-  last-absent h = ap (λ (t : Bool). cond t Last.Absent (Last.Blank (blockSector (q .side) (deviceIn c)) (blanked fields))) h
-
-  last-there : laterWhole c ≡ false → p .last ≡ Last.Blank (blockSector (q .side) (deviceIn c)) (blanked fields)
-  last-there h = ap (λ (t : Bool). cond t Last.Absent (Last.Blank (blockSector (q .side) (deviceIn c)) (blanked fields))) h
-
-  counted : storesIn (Mending.Needed p) ≡ length (stores gs)
+  counted : planStores p ≡ n
   counted = go (laterWhole c) refl
     where
-      go : (t : Bool) → laterWhole c ≡ t → storesIn (Mending.Needed p) ≡ length (stores gs)
-      go true h =
-          ap₂ (λ (n : ℕ) (l : Last). n + 2 + lastCount l) filled (last-absent h)
-          ∙ (add-zero (k + 2) ∙ sym (count-whole (q .side) c (q .area) r h))
-      go false h =
-          ap₂ (λ (n : ℕ) (l : Last). n + 2 + lastCount l) filled (last-there h)
-          ∙ ((let z : k + 2 + 1 ≡ k + 3 = omega arith in z) ∙ sym (count-blank (q .side) c (q .area) r h))
+      go : (t : Bool) → laterWhole c ≡ t → planStores p ≡ n
+      go true h = sym (without-last p k filled (ap not (found-later f b q o e ∙ h))) ∙ sym (count-whole (q .side) c (q .area) r h)
+      go false h = sym (with-last p k filled (ap not (found-later f b q o e ∙ h))) ∙ sym (count-blank (q .side) c (q .area) r h)
 
   -- the group of a store
-  grouped : (g i : ℕ) → g < 4 → groupStart gs g ≤ i → i < groupStart gs (suc g) → groupOf (Mending.Needed p) i ≡ g
-  grouped g i l a b =
-      ap₂ (λ (m n : ℕ). groupIn m n i) filled counted
-      ∙ sym (by-last (laterWhole c) refl)
+  its-group : (i : ℕ) → groupOf (Mending.Needed p) i ≡ groupIn k n i
+  its-group i = ap₂ (λ (y z : ℕ). groupIn y z i) (sym filled) counted
+
+  abbrev start : ℕ → ℕ
+  start g = groupStart gs g
+
+  in-group : (g i : ℕ) → g < 4 → start g ≤ i → i < start (suc g) → g ≡ groupIn k n i
+  in-group zero i l a b =
+      let s : start 1 ≡ 1 = start-one (q .side) c (q .area) r in
+      let m : k + 2 ≤ n = at-least (q .side) c (q .area) r in
+      in-first k n i (omega arith) (omega arith)
+  in-group (suc zero) i l a b =
+      let s : start 1 ≡ 1 = start-one (q .side) c (q .area) r in
+      let u : start 2 ≡ k + 1 = start-two (q .side) c (q .area) r in
+      let m : k + 2 ≤ n = at-least (q .side) c (q .area) r in
+      in-record k n i (omega arith) (λ z. omega arith) (omega arith)
+  in-group (suc (suc zero)) i l a b =
+      let s : start 2 ≡ k + 1 = start-two (q .side) c (q .area) r in
+      let u : start 3 ≡ k + 2 = start-three (q .side) c (q .area) r in
+      let m : k + 2 ≤ n = at-least (q .side) c (q .area) r in
+      in-second k n i (omega arith) (λ z. omega arith) (omega arith) (omega arith)
+  in-group (suc (suc (suc zero))) i l a b =
+      let s : start 3 ≡ k + 2 = start-three (q .side) c (q .area) r in
+      let u : start 4 ≡ n = start-four (q .side) c (q .area) r in
+      in-last k n i (omega arith) (λ z. omega arith) (omega arith) (omega arith)
+  in-group (suc (suc (suc (suc g)))) i l a b = absurd (omega arith)
+
+  grouped : (g i : ℕ) → g < 4 → start g ≤ i → i < start (suc g) → groupOf (Mending.Needed p) i ≡ g
+  grouped g i l a b = its-group i ∙ sym (in-group g i l a b)
+
+  -- a store from the end of a group on is not in it
+  beyond : (g i : ℕ) → g < 4 → start (suc g) ≤ i → groupIn k n i ≡ g → ⊥
+  beyond zero i l a =
+      let s : start 1 ≡ 1 = start-one (q .side) c (q .area) r in
+      by-group k n i (λ (y : ℕ). y ≡ 0 → ⊥) (λ z h. omega arith) (λ z h. omega arith) (λ z h. omega arith) (λ z h. omega arith) (λ z h. omega arith)
+  beyond (suc zero) i l a =
+      let s : start 2 ≡ k + 1 = start-two (q .side) c (q .area) r in
+      by-group k n i (λ (y : ℕ). y ≡ 1 → ⊥) (λ z h. omega arith) (λ z h. omega arith) (λ z h. omega arith) (λ z h. omega arith) (λ z h. omega arith)
+  beyond (suc (suc zero)) i l a =
+      let s : start 3 ≡ k + 2 = start-three (q .side) c (q .area) r in
+      by-group k n i (λ (y : ℕ). y ≡ 2 → ⊥) (λ z h. omega arith) (λ z h. omega arith) (λ z h. omega arith) (λ z h. omega arith) (λ z h. omega arith)
+  beyond (suc (suc (suc zero))) i l a =
+      let s : start 4 ≡ n = start-four (q .side) c (q .area) r in
+      by-group k n i (λ (y : ℕ). y ≡ 3 → ⊥) (λ z h. omega arith) (λ z h. omega arith) (λ z h. omega arith) (λ z h. omega arith) (λ z h. omega arith)
+  beyond (suc (suc (suc (suc g)))) i l a = absurd (omega arith)
+
+  -- a group ends with the last store or before it
+  within : (g : ℕ) → g < 4 → start (suc g) ≤ n
+  within zero l =
+      let s : start 1 ≡ 1 = start-one (q .side) c (q .area) r in
+      let m : k + 2 ≤ n = at-least (q .side) c (q .area) r in
+      omega arith
+  within (suc zero) l =
+      let s : start 2 ≡ k + 1 = start-two (q .side) c (q .area) r in
+      let m : k + 2 ≤ n = at-least (q .side) c (q .area) r in
+      omega arith
+  within (suc (suc zero)) l =
+      let s : start 3 ≡ k + 2 = start-three (q .side) c (q .area) r in
+      let m : k + 2 ≤ n = at-least (q .side) c (q .area) r in
+      omega arith
+  within (suc (suc (suc zero))) l = let s : start 4 ≡ n = start-four (q .side) c (q .area) r in omega arith
+  within (suc (suc (suc (suc g)))) l = absurd (omega arith)
+
+  -- a flush belongs after the last store of a group
+  abbrev next : ℕ → Bool
+  next i = eqb (groupOf (Mending.Needed p) i) (groupOf (Mending.Needed p) (suc i))
+
+  flushed : (g i : ℕ) → g < 4 → start g ≤ i → i < start (suc g) → (flushAfter (Mending.Needed p) i ≡ true ↔ suc i ≡ start (suc g))
+  flushed g i l a b = (only, last)
     where
-      whole-case : (g : ℕ) → length (stores gs) ≡ k + 2 → g < 4 → total (take g (1 ∷ k ∷ 1 ∷ [])) ≤ i → i < total (take (suc g) (1 ∷ k ∷ 1 ∷ [])) → g ≡ groupIn k (length (stores gs)) i
-      whole-case zero n l a b = in-first k (length (stores gs)) i (omega arith) (omega arith)
-      whole-case (suc zero) n l a b = in-record k (length (stores gs)) i (omega arith) (λ z. omega arith) (omega arith)
-      whole-case (suc (suc zero)) n l a b = in-second k (length (stores gs)) i (omega arith) (λ z. omega arith) (omega arith) (omega arith)
-      whole-case (suc (suc (suc g))) n l a b = absurd (let z : _≡_ {A = ℕ} 0 1 = omega arith in omega arith)
+      here : groupOf (Mending.Needed p) i ≡ g
+      here = grouped g i l a b
 
-      blank-case : (g : ℕ) → length (stores gs) ≡ k + 3 → g < 4 → total (take g (1 ∷ k ∷ 1 ∷ 1 ∷ [])) ≤ i → i < total (take (suc g) (1 ∷ k ∷ 1 ∷ 1 ∷ [])) → g ≡ groupIn k (length (stores gs)) i
-      blank-case zero n l a b = in-first k (length (stores gs)) i (omega arith) (omega arith)
-      blank-case (suc zero) n l a b = in-record k (length (stores gs)) i (omega arith) (λ z. omega arith) (omega arith)
-      blank-case (suc (suc zero)) n l a b = in-second k (length (stores gs)) i (omega arith) (λ z. omega arith) (omega arith) (omega arith)
-      blank-case (suc (suc (suc zero))) n l a b = in-last k (length (stores gs)) i (omega arith) (λ z. omega arith) (omega arith) (omega arith)
-      blank-case (suc (suc (suc (suc g)))) n l a b = absurd (let z : _≡_ {A = ℕ} 0 1 = omega arith in omega arith)
+      only : flushAfter (Mending.Needed p) i ≡ true → suc i ≡ start (suc g)
+      only h =
+          elim (decLt (suc i) (start (suc g))) [
+            | yes m ↦
+                absurd
+                (true≢false
+                (sym (eq-eqb (groupOf (Mending.Needed p) i) (groupOf (Mending.Needed p) (suc i)) (here ∙ sym (grouped g (suc i) l (omega arith) m)))
+                ∙ not-true (next i) (and-right (ltb i (planStores p)) (not (next i)) h)))
+            | no m ↦ omega arith
+          ]
 
-      by-last : (t : Bool) → laterWhole c ≡ t → g ≡ groupIn k (length (stores gs)) i
-      by-last true h =
-          whole-case g (count-whole (q .side) c (q .area) r h) l
-          (subst (λ (n : ℕ). n ≤ i) (group-starts (q .side) c (q .area) r g ∙ ap (λ (z : Groups). total (take g (1 ∷ k ∷ 1 ∷ map length z))) (last-none (q .side) c (q .area) r h)) a)
-          (subst (λ (n : ℕ). i < n) (group-starts (q .side) c (q .area) r (suc g) ∙ ap (λ (z : Groups). total (take (suc g) (1 ∷ k ∷ 1 ∷ map length z))) (last-none (q .side) c (q .area) r h)) b)
-      by-last false h =
-          blank-case g (count-blank (q .side) c (q .area) r h) l
-          (subst (λ (n : ℕ). n ≤ i) (group-starts (q .side) c (q .area) r g ∙ ap (λ (z : Groups). total (take g (1 ∷ k ∷ 1 ∷ map length z))) (last-one (q .side) c (q .area) r h)) a)
-          (subst (λ (n : ℕ). i < n) (group-starts (q .side) c (q .area) r (suc g) ∙ ap (λ (z : Groups). total (take (suc g) (1 ∷ k ∷ 1 ∷ map length z))) (last-one (q .side) c (q .area) r h)) b)
+      last : suc i ≡ start (suc g) → flushAfter (Mending.Needed p) i ≡ true
+      last h =
+          let w : start (suc g) ≤ n = within g l in
+          let t : planStores p ≡ n = counted in
+          and-both (ltb i (planStores p)) (not (next i)) (lt-ltb i (planStores p) (omega arith))
+          (ap not
+          (ne-eqb (groupOf (Mending.Needed p) i) (groupOf (Mending.Needed p) (suc i)) (λ x.
+          beyond g (suc i) l (omega arith) (sym (its-group (suc i)) ∙ (sym x ∙ here)))))
 
   here : isCopy c ≡ true
   here = go (q .side)
@@ -194,105 +249,108 @@ module _ (f b : List ℕ) (q : Finding) (o : Other) (e : discovery f b ≡ Answe
   allowed : lengthAllowed (length r) ≡ true
   allowed = kept-allowed itself
 
-  module _ (out : List ℕ) (room : length out ≡ 512) where
+  -- the last store blanks the later entry
+  its-blank : laterWhole c ≡ false → withEntry fields (otherArea (q .area)) Unused ≡ blanked fields
+  its-blank h = ap (λ (x : Area). withEntry fields x Unused) (ap otherArea (sym (itself .in-other h)) ∙ other-twice (newest fields))
+
+  -- of any two copies y and z, of which the kept one is as it was
+  module _ (y z : List ℕ) (right : sized y z ≡ true) (same : copyOn (q .side) y z ≡ c) (out : List ℕ) (room : length out ≡ 512) where
     -- a block that a mend stores
     block-of : (s : ℕ) (g : BlockFields) → Right c g → (blockGiven s g c out ≡ Given.At s) × (blockLeft g c out ≡ blockLike c g)
     block-of s g h =
         block-given s g c out (blockLike c g) here (like-writes c (itself .accepted) g h out room) (like-written c (itself .accepted) g h out room)
 
+    -- the tests
+    its-length : eqb (held f b q o e .bytes) (p .bytes) ≡ true
+    its-length = eq-eqb (held f b q o e .bytes) (p .bytes) (sym (found-bytes f b q o e))
+
+    tests-hold : (i : ℕ) → i < n → first (neededTests p y z c i out) ≡ 0
+    tests-hold i l =
+        let t : planStores p ≡ n = counted in
+        first-all (neededTests p y z c i out) (lent-right y z out right room, (itself .allowed, (its-length, (lt-ltb i (planStores p) (omega arith), tt))))
+
+    test-fails : (i : ℕ) → n ≤ i → first (neededTests p y z c i out) ≡ 23
+    test-fails i l =
+        let t : planStores p ≡ n = counted in
+        first-pass (lentRight y z out) 1 _ (lent-right y z out right room)
+        ∙ (first-pass (lengthAllowed (held f b q o e .bytes)) 15 _ (itself .allowed)
+        ∙ (first-pass (eqb (held f b q o e .bytes) (p .bytes)) 1 _ its-length
+        ∙ first-fail (ltb i (planStores p)) 23 [] (le-ltb i (planStores p) (omega arith))))
+
     -- store i is given with its sector and its bytes
     abbrev GivenAt : ℕ → Type 0
-    GivenAt i = (storeAnswer (Mending.Needed p) f b i out ≡ Given.At (storeIn gs i .sector)) × (storeBytes (Mending.Needed p) f b i out ≡ storeIn gs i .content)
+    GivenAt i = (storeAnswer (Mending.Needed p) y z i out ≡ Given.At (storeIn gs i .sector)) × (storeBytes (Mending.Needed p) y z i out ≡ storeIn gs i .content)
 
     -- what the plan's answers are at a number
-    answers : (i : ℕ) (g : Given) (w : List ℕ) → (g ≡ rewriteAnswer p c i out) × (w ≡ rewriteBytes p c i out)
-        → (g ≡ storeAnswer (Mending.Needed p) f b i out) × (w ≡ storeBytes (Mending.Needed p) f b i out)
-    answers i g w h = right-size (Mending.Needed p) f b i out (lent-right f b out (found-sized f b q o e) room) g w (Mending.Needed p) refl (h .0) (h .1)
+    of-kept : (i : ℕ) (g : Given) (w : List ℕ) → (g ≡ neededAnswer p y z c i out) × (w ≡ neededBytes p y z c i out)
+        → (storeAnswer (Mending.Needed p) y z i out ≡ g) × (storeBytes (Mending.Needed p) y z i out ≡ w)
+    of-kept i g w h = (
+      ap (λ (s : List ℕ). neededAnswer p y z s i out) same ∙ sym (h .0),
+      ap (λ (s : List ℕ). neededBytes p y z s i out) same ∙ sym (h .1),
+    )
 
-    joined : (i : ℕ) (g : Given) (w : List ℕ) (s : Store) → (g ≡ rewriteAnswer p c i out) × (w ≡ rewriteBytes p c i out) → (g ≡ Given.At (s .sector)) × (w ≡ s .content)
-        → storeIn gs i ≡ s
-        → GivenAt i
-    joined i g w s h a e =
-        let x : (g ≡ storeAnswer (Mending.Needed p) f b i out) × (w ≡ storeBytes (Mending.Needed p) f b i out) = answers i g w h in
-        (sym (x .0) ∙ (a .0 ∙ ap (λ (z : Store). Given.At (z .sector)) (sym e)), sym (x .1) ∙ (a .1 ∙ ap (λ (z : Store). z .content) (sym e)))
+    joined : (i : ℕ) → i < n → (g : Given) (w : List ℕ) (s : Store) → (g ≡ rewriteAnswer p fields c i out) × (w ≡ rewriteBytes p fields c i out)
+        → (g ≡ Given.At (s .sector)) × (w ≡ s .content) → storeIn gs i ≡ s → GivenAt i
+    joined i l g w s h a u =
+        let x : (storeAnswer (Mending.Needed p) y z i out ≡ g) × (storeBytes (Mending.Needed p) y z i out ≡ w) =
+        of-kept i g w (needed-given p y z c i out fields _ _ _ _ refl refl refl refl refl (tests-hold i l) g w (h .0) (h .1)) in
+        (x .0 ∙ (a .0 ∙ ap (λ (t : Store). Given.At (t .sector)) (sym u)), x .1 ∙ (a .1 ∙ ap (λ (t : Store). t .content) (sym u)))
 
     sectors-fit : deviceIn c .sectors < 256 ^ 8
     sectors-fit = number-fits (blockIn c) 20 8
 
-    given : (i : ℕ) → i < length (stores gs) → GivenAt i
-    given = by-store (q .side) c (q .area) r GivenAt first sector second last
+    pub given : (i : ℕ) → i < n → GivenAt i
+    given i l = by-store (q .side) c (q .area) r (λ (j : ℕ). j < n → GivenAt j) first sector second last i l l
       where
-        first : GivenAt 0
-        first =
-            joined 0 _ _ _ (first-store p c 0 out _ _ refl refl refl) (block-of (p .part .block) (p .empty) (right-empty c (itself .accepted)))
+        first : 0 < n → GivenAt 0
+        first l =
+            joined 0 l _ _ _ (first-store p fields c 0 out _ _ k filled refl _ _ refl refl refl refl)
+            (block-of (blockSector (otherSide (q .side)) (deviceIn c)) (emptied (deviceIn c)) (right-empty c (itself .accepted)))
             (at-first (q .side) c (q .area) r)
 
-        sector : (j : ℕ) → j < k → GivenAt (suc j)
-        sector j h =
-            let n : p .sectors ≡ k = filled in
+        sector : (j : ℕ) → j < k → suc j < n → GivenAt (suc j)
+        sector j h l =
             let m : suc j - 1 ≡ j = omega arith in
             let s : k ≤ 1020 = tiny in
             let a : areaSector (otherSide (q .side)) A (deviceIn c) + j < deviceIn c .sectors = area-below (deviceIn c) sizes (otherSide (q .side)) A j (omega arith) in
             let y : deviceIn c .sectors < 256 ^ 8 = sectors-fit in
             let t : areaSector (otherSide (q .side)) A (deviceIn c) ≤ 18446744073709551615 - j = omega arith in
-            joined (suc j) _ _ _ (part-store p c (suc j) out _ _ (λ u. omega arith) (omega arith) _ _ refl refl refl refl) (
-              ap (λ (u : ℕ). partGiven (p .part) (p .sectors) c r u out) m ∙ area-given (p .part) (p .sectors) c r j out here room allowed (omega arith) (omega arith) t .0,
-              ap (λ (u : ℕ). partLeft (p .part) (p .sectors) c r u out) m ∙ area-given (p .part) (p .sectors) c r j out here room allowed (omega arith) (omega arith) t .1,
+            joined (suc j) l _ _ _ (part-store p fields c (suc j) out _ _ k filled (λ u. omega arith) (omega arith) _ _ _ _ refl refl refl refl refl refl) (
+              ap (λ (u : ℕ). partGiven part k c r u out) m ∙ area-given part k c r j out here room allowed (omega arith) (omega arith) t .0,
+              ap (λ (u : ℕ). partLeft part k c r u out) m ∙ area-given part k c r j out here room allowed (omega arith) (omega arith) t .1,
             )
             (at-sector (q .side) c (q .area) r j h)
 
-        second : GivenAt (suc k)
-        second =
-            let n : p .sectors ≡ k = filled in
-            joined (suc k) _ _ _ (part-store p c (suc k) out _ _ (λ u. omega arith) (omega arith) _ _ refl refl refl refl)
-            (part-given (p .part) (p .sectors) c r (suc k - 1) out here room allowed (omega arith) (omega arith) (p .part .block) (filledBlock (q .side) c (q .area) r)
-            (block-of (p .part .block) (p .part .fields) (right-filled c (itself .accepted) (q .area))))
+        second : suc k < n → GivenAt (suc k)
+        second l =
+            joined (suc k) l _ _ _ (part-store p fields c (suc k) out _ _ k filled (λ u. omega arith) (omega arith) _ _ _ _ refl refl refl refl refl refl)
+            (part-given part k c r (suc k - 1) out here room allowed (omega arith) (omega arith) (part .block) (filledBlock (q .side) c (q .area) r)
+            (block-of (part .block) (part .fields) (right-filled c (itself .accepted) (q .area))))
             (at-second (q .side) c (q .area) r)
 
-        last : laterWhole c ≡ false → GivenAt (suc (suc k))
-        last h =
-            let n : p .sectors ≡ k = filled in
-            joined (suc (suc k)) _ _ _ (last-stored p c (suc (suc k)) out _ _ (λ u. omega arith) (omega arith) (omega arith) refl refl) (
-              ap (λ (u : Last). lastAnswer u c out) (last-there h) ∙ block-of (blockSector (q .side) (deviceIn c)) (blanked fields) (right-blank c (itself .accepted)) .0,
-              ap (λ (u : Last). lastBytes u c out) (last-there h) ∙ block-of (blockSector (q .side) (deviceIn c)) (blanked fields) (right-blank c (itself .accepted)) .1,
-            )
+        last : laterWhole c ≡ false → suc (suc k) < n → GivenAt (suc (suc k))
+        last h l =
+            joined (suc (suc k)) l _ _ _
+            (last-store p fields c (suc (suc k)) out _ _ k filled (λ u. omega arith) (omega arith) _ (blanked fields) _ refl (sym (its-blank h)) refl refl refl)
+            (block-of (blockSector (q .side) (deviceIn c)) (blanked fields) (right-blank c (itself .accepted)))
             (at-last (q .side) c (q .area) r h)
 
     -- past the last
-    past : (i : ℕ) → length (stores gs) ≤ i → (storeAnswer (Mending.Needed p) f b i out ≡ Given.Refused noStore) × (storeBytes (Mending.Needed p) f b i out ≡ out)
+    past : (i : ℕ) → n ≤ i → (storeAnswer (Mending.Needed p) y z i out ≡ Given.Refused noStore) × (storeBytes (Mending.Needed p) y z i out ≡ out)
     past i l =
-        elim (decLe i (p .sectors + 2)) [
-          | yes a ↦ go (laterWhole c) refl a
-          | no a ↦
-              let n : p .sectors ≡ k = filled in
-              let x : (Given.Refused noStore ≡ storeAnswer (Mending.Needed p) f b i out) × (out ≡ storeBytes (Mending.Needed p) f b i out) =
-              answers i (Given.Refused noStore) out (no-such p c i out (omega arith)) in
-              (sym (x .0), sym (x .1))
-        ]
-      where
-        go : (t : Bool) → laterWhole c ≡ t → i ≤ p .sectors + 2
-            → (storeAnswer (Mending.Needed p) f b i out ≡ Given.Refused noStore) × (storeBytes (Mending.Needed p) f b i out ≡ out)
-        go true h a =
-            let n : p .sectors ≡ k = filled in
-            let m : length (stores gs) ≡ k + 2 = count-whole (q .side) c (q .area) r h in
-            let x : (Given.Refused noStore ≡ storeAnswer (Mending.Needed p) f b i out) × (out ≡ storeBytes (Mending.Needed p) f b i out) =
-            answers i (Given.Refused noStore) out
-            (last-stored p c i out _ _ (λ u. omega arith) (omega arith) a (ap (λ (u : Last). lastAnswer u c out) (sym (last-absent h)))
-            (ap (λ (u : Last). lastBytes u c out) (sym (last-absent h)))) in
-            (sym (x .0), sym (x .1))
-        go false h a =
-            let n : p .sectors ≡ k = filled in
-            let m : length (stores gs) ≡ k + 3 = count-blank (q .side) c (q .area) r h in
-            absurd (let z : _≡_ {A = ℕ} 0 1 = omega arith in omega arith)
+        of-kept i (Given.Refused noStore) out
+        (needed-refused p y z c i out fields _ _ _ 23 refl refl refl refl (sym (test-fails i l)) (λ u. omega arith))
 
   needed : MendGives f b (Mending.Needed p) gs
   needed =
       record {
         count = counted;
         grouped = grouped;
-        no-group = λ i l. ap (λ (n : ℕ). groupIn (p .sectors) n i) counted ∙ sym (past-last (p .sectors) (length (stores gs)) i l);
-        store = λ i out l room. given out room i l;
-        no-store = λ i out l z room. past out room i l;
+        no-group = λ i l. its-group i ∙ sym (past-last k n i l);
+        flush = flushed;
+        no-flush = λ i l. sym (flush-past (Mending.Needed p) i n (sym counted) l);
+        store = λ i out l room. given f b (found-sized f b q o e) refl out room i l;
+        no-store = λ i out l z room. past f b z refl out room i l;
       }
 
 module _ (f b : List ℕ) where
@@ -303,9 +361,7 @@ module _ (f b : List ℕ) where
       go : (t : Bool) → MendGives f b (cond t Mending.InStep (Mending.Needed (rewriteOf q)))
           (cond t [] (rewriting (q .side) (copyOn (q .side) f b) (q .area) (recordBytes q f b)))
       go true = nothing f b Mending.InStep refl (λ i. refl) (λ i out. (refl, refl))
-      go false =
-          subst (λ (z : Rewrite). MendGives f b (Mending.Needed z) (rewriting (q .side) (copyOn (q .side) f b) (q .area) (recordBytes q f b))) (sym (same-plan f b q o e))
-          (needed f b q o e)
+      go false = needed f b q o e
 
 pub giving : Giving
 unfolding mending mendGroups

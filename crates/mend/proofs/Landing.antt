@@ -1,17 +1,18 @@
 -- What the stores of a mend leave on the device, all landed.
-use Prim.Native.Nat.{ℕ, suc, _+_, _-_, _*_, _≤_, _<_}
-use mathlib.Core.Path.{_≡_, refl, sym, ap, subst, _∙_}
-use mathlib.Core.Bool.{Bool, true, false, true≢false}
+use Prim.Native.Nat.{ℕ, suc, _+_, _-_, _≤_, _<_}
+use mathlib.Core.Path.{_≡_, refl, sym, ap, ap₂, subst, _∙_}
+use mathlib.Core.Bool.{true, false, true≢false}
 use mathlib.Core.Logic.{_⊎_, inl, inr}
-use mathlib.Core.List.{List}
+use mathlib.Core.List.{List, _++_}
 use native.Mathlib.Nat.{zero-add}
 use native.Mathlib.Omega.{arith}
 use lib.ListN.{length, take}
 use Rattle.layout.specs.declared.Device.{Device}
 use Rattle.layout.specs.declared.Side.{Side}
+use Rattle.layout.specs.declared.Side.the-variants.{Front, Back}
 use Rattle.layout.specs.declared.Area.{Area}
-use Rattle.layout.specs.declared.Area.the-variants.{A}
-use Rattle.layout.specs.Places.{blockSector, areaSector}
+use Rattle.layout.specs.declared.Area.the-variants.{A, B}
+use Rattle.layout.specs.Places.{headerSector, blockSector, areaSector}
 use Rattle.block.specs.declared.Holding.{Holding}
 use Rattle.block.specs.declared.Entry.{Entry}
 use Rattle.block.specs.declared.Entry.the-variants.{Used}
@@ -32,8 +33,13 @@ use Rattle.stores.proofs.Holding.{Holds}
 use Rattle.stores.proofs.OneCopy.{block-place, holds-at}
 use Rattle.mend.specs.Mend.{emptied, refilled, blanked, laterWhole, rewriting}
 use Rattle.mend.proofs.Kept.{Kept, kept-small}
-use Rattle.mend.proofs.Stores.{emptyBlock, filledBlock, blankBlock, at-first, at-sector, at-second, at-last, count-whole, count-blank, by-store}
+use Rattle.mend.proofs.Stores.{emptyBlock, filledBlock, blankBlock, at-first, at-sector, at-second, at-last, at-least, count-blank, by-store}
 use Rattle.mend.proofs.Blocks.{right-empty, right-filled, right-blank, like-reads, like-size, newest-filled, newest-blanked, entry-blanked}
+
+-- the sectors of a side's header are on that side
+header-near : (v : Device) (s : Side) (i : ℕ) → i < 8 → near s v (headerSector s v + i)
+header-near v Front i l = omega arith
+header-near v Back i l = omega arith
 
 -- the copy of side w on a device, with a record that its block names, is kept
 module _ (w : Side) (v : Device) (d : Sectors) (sd : Sound d) (placed : deviceIn (copyFrom w v d) ≡ v) (x : Area) (h : Holding) (r : List ℕ)
@@ -83,13 +89,13 @@ module _ (w : Side) (v : Device) (d : Sectors) (sd : Sound d) (placed : deviceIn
 
   -- every store but the last goes near the other side, the last to the kept block
   abbrev Goes : ℕ → Type 0
-  Goes j = ((j ≤ suc k) × near (otherSide w) v (st j .sector)) ⊎ ((laterWhole c ≡ false) × (st j .sector ≡ blockSector w v))
+  Goes j = ((j ≤ suc k) × near (otherSide w) v (st j .sector)) ⊎ ((laterWhole c ≡ false) × (st j .sector ≡ blockSector w v) × (j ≡ suc (suc k)))
 
   goes : (j : ℕ) → j < all → Goes j
   goes =
       by-store w c x r Goes (inl (omega arith, rw first-at (block-near v sizes (otherSide w))))
       (λ i m. inl (omega arith, rw (sector-at i m) (let b : k ≤ 1020 = tiny in area-near v sizes (otherSide w) A i (omega arith))))
-      (inl (omega arith, rw second-at (block-near v sizes (otherSide w)))) (λ n. inr (n, ap (λ (s : Store). s .sector) (last-at n)))
+      (inl (omega arith, rw second-at (block-near v sizes (otherSide w)))) (λ n. inr (n, ap (λ (s : Store). s .sector) (last-at n), refl))
 
   stored-size : (j : ℕ) → j < all → length (st j .content) ≡ 512
   stored-size =
@@ -98,16 +104,30 @@ module _ (w : Side) (v : Device) (d : Sectors) (sd : Sound d) (placed : deviceIn
       (rw second-at (like-size c (kept .accepted) (refilled (deviceIn c) (entryIn fields x)) (right-filled c (kept .accepted) x)))
       (λ n. rw (last-at n) (like-size c (kept .accepted) (blanked fields) (right-blank c (kept .accepted))))
 
-  pub end-sound : Sound end
-  end-sound = record { size = landed-size st d (sd .size) all stored-size }
+  pub some-sound : (j : ℕ) → j ≤ all → Sound (landed st j d)
+  some-sound j l = record { size = landed-size st d (sd .size) j (λ i m. stored-size i (omega arith)) }
 
-  -- at least the first three groups
-  pub at-least : k + 2 ≤ all
-  at-least = go (laterWhole c) refl
+  pub end-sound : Sound end
+  end-sound = some-sound all (omega arith)
+
+  -- until the last store of all the kept side stays
+  stays : (j : ℕ) → j < all → (n : ℕ) → near w v n → landed st j d n ≡ d n
+  stays j l n a = landed-old st d j n (λ i m e. go i m (goes i (omega arith)) e)
     where
-      go : (b : Bool) → laterWhole c ≡ b → k + 2 ≤ all
-      go true n = let e : all ≡ k + 2 = count-whole w c x r n in omega arith
-      go false n = let e : all ≡ k + 3 = count-blank w c x r n in omega arith
+      go : (i : ℕ) → i < j → Goes i → n ≡ st i .sector → ⊥
+      go i m (inl q) e = other-side v sizes w n a (subst (near (otherSide w) v) (sym e) (q .1))
+      go i m (inr q) e =
+          let u : all ≡ k + 3 = count-blank w c x r (q .0) in
+          let z : i ≡ suc (suc k) = q .2 in
+          omega arith
+
+  pub stays-copy : (j : ℕ) → j < all → copyFrom w v (landed st j d) ≡ c
+  unfolding copyFrom
+  stays-copy j l =
+      let a : areaSectors ≤ 1020 = limit-small in
+      ap₂ _++_ (gather-same (landed st j d) d (headerSector w v) 8 (λ i m. stays j l (headerSector w v + i) (header-near v w i m)))
+      (ap₂ _++_ (gather-same (landed st j d) d (areaSector w A v) areaSectors (λ i m. stays j l (areaSector w A v + i) (area-near v sizes w A i (omega arith))))
+      (gather-same (landed st j d) d (areaSector w B v) areaSectors (λ i m. stays j l (areaSector w B v + i) (area-near v sizes w B i (omega arith)))))
 
   -- the kept side: all but its block stays
   pub kept-sector : (n : ℕ) → near w v n → (n ≡ blockSector w v → ⊥) → end n ≡ d n
@@ -137,7 +157,7 @@ module _ (w : Side) (v : Device) (d : Sectors) (sd : Sound d) (placed : deviceIn
 
   pub other : (n : ℕ) → suc n ≡ all → OneSide.Side later n 0 k (areaSector (otherSide w) A v) (blockSector (otherSide w) v) r (filledBlock w c x r) (near (otherSide w) v)
   other n e =
-      let m : k + 2 ≤ all = at-least in
+      let m : k + 2 ≤ all = at-least w c x r in
       let b : k ≤ 1020 = tiny in
       record {
         within = omega arith;
@@ -159,14 +179,14 @@ module _ (w : Side) (v : Device) (d : Sectors) (sd : Sound d) (placed : deviceIn
 
   pub filled-block : end (blockSector (otherSide w) v) ≡ filledBlock w c x r
   filled-block =
-      let m : k + 2 ≤ all = at-least in
+      let m : k + 2 ≤ all = at-least w c x r in
       let n : ℕ = all - 1 in
       let e : suc n ≡ all = omega arith in
       other-end n (blockSector (otherSide w) v) e ∙ OneSide.block-landed (other n e) (put d (st 0)) n (omega arith) (omega arith)
 
   pub filled-area : (i : ℕ) → i < k → end (areaSector (otherSide w) A v + i) ≡ sectorOf r i
   filled-area i l =
-      let m : k + 2 ≤ all = at-least in
+      let m : k + 2 ≤ all = at-least w c x r in
       let n : ℕ = all - 1 in
       let e : suc n ≡ all = omega arith in
       other-end n (areaSector (otherSide w) A v + i) e ∙ OneSide.area-landed (other n e) (put d (st 0)) i n l (omega arith) (omega arith)

@@ -1,5 +1,5 @@
 -- The stores of a mend: which number goes to which sector.
-use Prim.Native.Nat.{ℕ, zero, suc, _+_, _<_}
+use Prim.Native.Nat.{ℕ, zero, suc, _+_, _≤_, _<_}
 use mathlib.Core.Path.{_≡_, refl, sym, ap, subst, _∙_}
 use mathlib.Core.Bool.{Bool, true, false}
 use mathlib.Core.List.{List, [], _∷_, _++_, map, flatten}
@@ -81,16 +81,20 @@ module _ (w : Side) (c : List ℕ) (x : Area) (r : List ℕ) where
       ∙ (ap suc (length-append theRecord (blockPlace (otherSide w) filledBlock ∷ stores (lastGroup w c)) ∙ ap (λ (n : ℕ). n + suc (length (stores (lastGroup w c)))) long)
       ∙ (let n : ℕ = length (stores (lastGroup w c)) in let e : suc (k + suc n) ≡ k + 2 + n = omega arith in e))
 
+  -- at least the first three groups
+  pub at-least : k + 2 ≤ length (stores groups)
+  at-least = let e : length (stores groups) ≡ k + 2 + length (stores (lastGroup w c)) = count in omega arith
+
   group-lengths : map length groups ≡ 1 ∷ k ∷ 1 ∷ map length (lastGroup w c)
   unfolding rewriting
   group-lengths = ap (λ (n : ℕ). 1 ∷ n ∷ 1 ∷ map length (lastGroup w c)) long
 
-  pub group-starts : (g : ℕ) → groupStart groups g ≡ total (take g (1 ∷ k ∷ 1 ∷ map length (lastGroup w c)))
+  group-starts : (g : ℕ) → groupStart groups g ≡ total (take g (1 ∷ k ∷ 1 ∷ map length (lastGroup w c)))
   group-starts g = starts groups g ∙ ap (λ (ns : List ℕ). total (take g ns)) group-lengths
 
   -- no last store
   module _ (h : laterWhole c ≡ true) where
-    pub last-none : lastGroup w c ≡ []
+    last-none : lastGroup w c ≡ []
     unfolding lastGroup
     last-none = rw h
 
@@ -100,7 +104,7 @@ module _ (w : Side) (c : List ℕ) (x : Area) (r : List ℕ) where
 
   -- one last store
   module _ (h : laterWhole c ≡ false) where
-    pub last-one : lastGroup w c ≡ blockStore w (deviceIn c) blankBlock ∷ []
+    last-one : lastGroup w c ≡ blockStore w (deviceIn c) blankBlock ∷ []
     unfolding lastGroup
     last-one = rw h
 
@@ -114,6 +118,27 @@ module _ (w : Side) (c : List ℕ) (x : Area) (r : List ℕ) where
     at-last =
         ap (λ (n : ℕ). storeIn groups (suc n)) (let e : suc k ≡ k + 1 = omega arith in e)
         ∙ (after-record 1 ∙ ap (λ (g : Groups). getD (blockPlace (otherSide w) filledBlock ∷ stores g) 1 none) last-one)
+
+  -- where the groups start: the fourth ends with the last store, whether it has one or none
+  pub start-one : groupStart groups 1 ≡ 1
+  start-one = group-starts 1
+
+  pub start-two : groupStart groups 2 ≡ k + 1
+  start-two = group-starts 2 ∙ omega arith
+
+  pub start-three : groupStart groups 3 ≡ k + 2
+  start-three = group-starts 3 ∙ omega arith
+
+  pub start-four : groupStart groups 4 ≡ length (stores groups)
+  start-four = go (laterWhole c) refl
+    where
+      go : (t : Bool) → laterWhole c ≡ t → groupStart groups 4 ≡ length (stores groups)
+      go true h =
+          group-starts 4
+          ∙ (ap (λ (z : Groups). total (take 4 (1 ∷ k ∷ 1 ∷ map length z))) (last-none h) ∙ ((let e : 1 + (k + (1 + 0)) ≡ k + 2 = omega arith in e) ∙ sym (count-whole h)))
+      go false h =
+          group-starts 4
+          ∙ (ap (λ (z : Groups). total (take 4 (1 ∷ k ∷ 1 ∷ map length z))) (last-one h) ∙ ((let e : 1 + (k + (1 + (1 + 0))) ≡ k + 3 = omega arith in e) ∙ sym (count-blank h)))
 
   -- what holds of the first, of the record's sectors, of the second and of the last holds of every store
   pub by-store : (P : ℕ → Type 0) → P 0 → ((i : ℕ) → i < k → P (suc i)) → P (suc k) → (laterWhole c ≡ false → P (suc (suc k)))

@@ -1,4 +1,4 @@
--- What mending promises: `proofs/Demand.antt` proves `Serving`, `Mended`, `Counting`, `Rewriting` and `Touching`, `proofs/Giving.antt`
+-- What mending promises: `proofs/Demand.antt` proves `Serving`, `Mended`, `Counting`, `Rewriting`, `Touching` and `Going`, `proofs/Giving.antt`
 -- `Giving`, `proofs/Answering.antt` `Answering`, `proofs/Refusing.antt` `Refusing`. The states of a device are those that demand 3 speaks of: a mend serves what a cut in an update leaves, and leaves what every update may start
 -- from. What a cut in a mend leaves is request [7].
 use Prim.Native.Nat.{ℕ, suc, _+_, _≤_, _<_}
@@ -28,7 +28,7 @@ use Rattle.discovery.specs.declared.Answer.the-variants as Answer
 use Rattle.discovery.specs.declared.Answer.the-variants.{Found}
 use Rattle.discovery.specs.Discovery.{sized, discovery, inStep, recordBytes}
 use Rattle.discovery.specs.Newest.{timeAt}
-use Rattle.crash.specs.Crash.{Sectors, Sound, Store, Groups, stores, storeIn, groupStart, allLanded, copyFrom}
+use Rattle.crash.specs.Crash.{Sectors, Sound, Store, Groups, stores, storeIn, groupStart, landed, allLanded, copyFrom}
 use Rattle.stores.specs.declared.Given.the-variants.{At, Refused}
 use Rattle.stores.specs.Stores.{sectorsOf, sectorOf, holdingFor, withEntry}
 use Rattle.stores.specs.States.{Ready, Answered, AllFit}
@@ -36,7 +36,7 @@ use Rattle.mend.specs.declared.Rewrite.{Rewrite}
 use Rattle.mend.specs.declared.Mending.{Mending}
 use Rattle.mend.specs.declared.Mending.the-variants as Mending
 use Rattle.mend.specs.Mend.{laterWhole, mendGroups}
-use Rattle.mend.specs.Plan.{mending, storesIn, groupOf, storeAnswer, storeBytes}
+use Rattle.mend.specs.Plan.{mending, storesIn, groupOf, flushAfter, storeAnswer, storeBytes}
 
 -- the groups of a mend of the device's copies, and the device after all of its stores
 abbrev pub groupsOn : Device → Sectors → Groups
@@ -116,11 +116,14 @@ abbrev pub Answering : Type 0
 Answering = (f b : List ℕ) → MendAnswers f b (mending f b)
 
 -- What the calls give of a mend m is what the groups gs have: the count is the length of the list of stores, each store is in its group,
--- each is given with its sector and its 512 bytes; past the last there is none of copies by their size, and no group.
+-- a flush belongs exactly after the last store of each group, each store is given with its sector and its 512 bytes; past the last there
+-- is none of copies by their size, no group, and no flush.
 pub record MendGives (f b : List ℕ) (m : Mending) (gs : Groups) : Type 0 where
   pub count : storesIn m ≡ length (stores gs)
   pub grouped : (g i : ℕ) → g < 4 → groupStart gs g ≤ i → i < groupStart gs (suc g) → groupOf m i ≡ g
   pub no-group : (i : ℕ) → length (stores gs) ≤ i → groupOf m i ≡ 4
+  pub flush : (g i : ℕ) → g < 4 → groupStart gs g ≤ i → i < groupStart gs (suc g) → (flushAfter m i ≡ true ↔ suc i ≡ groupStart gs (suc g))
+  pub no-flush : (i : ℕ) → length (stores gs) ≤ i → flushAfter m i ≡ false
   pub store : (i : ℕ) (out : List ℕ) → i < length (stores gs) → length out ≡ 512
       → (storeAnswer m f b i out ≡ At (storeIn gs i .sector)) × (storeBytes m f b i out ≡ storeIn gs i .content)
   pub no-store : (i : ℕ) (out : List ℕ) → length (stores gs) ≤ i → sized f b ≡ true → length out ≡ 512
@@ -129,6 +132,20 @@ pub record MendGives (f b : List ℕ) (m : Mending) (gs : Groups) : Type 0 where
 -- Of any two copies.
 abbrev pub Giving : Type 0
 Giving = (f b : List ℕ) → MendGives f b (mending f b) (mendGroups f b)
+
+-- store i of a mend m, of the device's copies with the first j stores of the groups gs applied to them
+abbrev pub GivenAfter : Device → Sectors → Mending → Groups → ℕ → ℕ → List ℕ → Type 0
+GivenAfter v d m gs j i out =
+    (storeAnswer m (copyFrom Front v (landed (storeIn gs) j d)) (copyFrom Back v (landed (storeIn gs) j d)) i out ≡ At (storeIn gs i .sector))
+    × (storeBytes m (copyFrom Front v (landed (storeIn gs) j d)) (copyFrom Back v (landed (storeIn gs) j d)) i out ≡ storeIn gs i .content)
+
+-- A caller may apply each store to its copies as it goes: a mend worked out from the copies as they were gives store i with its sector and
+-- its 512 bytes also of copies to which stores with lower numbers were applied.
+abbrev pub Going : Type 0
+Going =
+    (v : Device) (d : Sectors) (t : Time) (r : List ℕ) → Answered v d t r
+    → (i j : ℕ) (out : List ℕ) → j ≤ i → i < length (stores (groupsOn v d)) → length out ≡ 512
+    → GivenAfter v d (mending (copyFrom Front v d) (copyFrom Back v d)) (groupsOn v d) j i out
 
 -- A refused store changes no lent byte, of any mend, made up or not.
 abbrev pub Refusing : Type 0

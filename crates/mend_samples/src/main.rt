@@ -1,29 +1,24 @@
 // Mends pairs of copies and prints for each its name; what `mend::work_out` answers: a refusal, in step, or the number of
-// stores; each store: its number, its group, its sector and the checksum of its bytes; and what the store after the last
-// is refused with. The stores are applied to the copies. Then it prints the dump program's line for the mended copies,
-// whether they are in step, the checksums of the front and the back, and what `mend::work_out` answers now. At the end
-// stores of the last pair are asked for with too few and too many bytes, and three plans that nobody worked out have their
-// stores printed. Standard input has the samples, packed by samples/mends.py. What must be printed is the file stdout; that
+// stores; each store: its number, its group, its sector, the checksum of its bytes and whether a flush belongs after it; and
+// what the store after the last is refused with. Each store is applied to the copies before the next one is asked for. Then it
+// prints the dump program's line for the mended copies, whether they are in step, the checksums of the front and the back, and
+// what `mend::work_out` answers now. At the end stores of the last pair are asked for with too few and too many bytes, and five
+// plans that nobody worked out have their stores printed. Standard input has the samples, packed by samples/mends.py. What must be printed is the file stdout; that
 // script makes both and shares nothing with the library. That the program is safe and ends is proved; that it prints the
 // right thing is tested. Assumes what `io` and `libc` do.
 ghost use Prim.Native.Nat.{_≤_, _<_};
 ghost use lib.ListN.{length};
 ghost use Rattle.sampling.specs.Laying.{inputBytes};
-use block::BlockFields;
-use block::Entry;
-use block::Holding;
 use dump_line::Written;
 use layout::Area;
 use layout::Device;
 use layout::Side;
-use mend::Last;
 use mend::Mending;
 use mend::Rewrite;
 use sampling::number;
 use sampling::say;
 use sampling::sum;
 use stores::Given;
-use stores::Part;
 
 // The bytes of a copy: in a pair the front is from byte 0 on and the back from here on.
 const COPY: usize = layout::COPY_BYTES;
@@ -35,6 +30,9 @@ const B_OFFSET: usize = A_OFFSET + layout::RECORD_LIMIT as usize;
 
 // The sectors of an area in a copy.
 const AREA_SECTORS: u64 = layout::RECORD_LIMIT / layout::SECTOR_BYTES as u64;
+
+// The low byte of L in the front's block.
+const METADATA: usize = layout::BLOCK_OFFSET + 160;
 
 // No place of a pair.
 const NOWHERE: usize = 0xFFFF_FFFF_FFFF_FFFF;
@@ -109,20 +107,26 @@ fn place(sector: u64, d: Device) -> usize {
     place_in_copy(sector, Side::Back, d, COPY)
 }
 
-// The device numbers that a mend stores with; zeros where it stores nothing.
-fn kept_device(m: Mending) -> Device {
-    let none = Device {
-        sectors: 0,
-        metadata: 0,
-        reserved: 0,
-    };
+// The device numbers that a mend of f and b stores with; zeros where it stores nothing.
+fn kept_device(m: Mending, f: &[u8], b: &[u8]) -> Device {
     match m {
-        Mending::InStep => none,
+        Mending::InStep => Device {
+            sectors: 0,
+            metadata: 0,
+            reserved: 0,
+        },
         Mending::Needed(p) => {
-            let x = p.empty;
-            x.device
+            let side = p.kept;
+            match side {
+                Side::Front => copy::fields_in(f).device,
+                Side::Back => copy::fields_in(b).device,
+            }
         }
-        Mending::Refused(_) => none,
+        Mending::Refused(_) => Device {
+            sectors: 0,
+            metadata: 0,
+            reserved: 0,
+        },
     }
 }
 
@@ -145,28 +149,39 @@ fn print_given(g: Given, d: Device) -> usize {
     }
 }
 
-// Prints store i of a mend of f and b, and applies it to the pair e, of a device with the numbers d.
-fn run_store(m: Mending, f: &[u8], b: &[u8], i: u64, d: Device, e: &mut [u8]) {
+// Prints store i of a mend of the pair e, with a front copy of n and a back copy of k bytes, of a device with the numbers d, and applies
+// it to e.
+fn run_store(m: Mending, i: u64, d: Device, n: usize, k: usize, e: &mut [u8]) {
     say(b"store");
     number(i);
     number(mend::group(m, i) as u64);
     let mut out = [0xEEu8; layout::SECTOR_BYTES];
-    let at = print_given(mend::store(m, f, b, i, &mut out), d);
+    let g = mend::store(
+        m,
+        endian::window(e, 0, n),
+        endian::window(e, COPY, k),
+        i,
+        &mut out,
+    );
+    let at = print_given(g, d);
     endian::put(e, at, &out);
     sum(&out);
+    if mend::flush(m, i) {
+        say(b" flush");
+    }
     say(b"\n");
 }
 
-// Prints all stores of a mend of f and b and applies them to e; then what comes after the last.
-fn run_stores(m: Mending, f: &[u8], b: &[u8], e: &mut [u8]) {
-    let d = kept_device(m);
-    let n = mend::count(m);
+// Prints all stores of a mend of the pair e and applies them to it; then what comes after the last.
+fn run_stores(m: Mending, n: usize, k: usize, e: &mut [u8]) {
+    let d = kept_device(m, endian::window(e, 0, n), endian::window(e, COPY, k));
+    let all = mend::count(m);
     let mut i = 0;
-    while i < n {
-        run_store(m, f, b, i, d, e);
+    while i < all {
+        run_store(m, i, d, n, k, e);
         i += 1;
     }
-    run_store(m, f, b, n, d, e);
+    run_store(m, all, d, n, k, e);
 }
 
 // Prints the dump's line for two copies.
@@ -200,7 +215,7 @@ fn mend_pair(d: &[u8], n: usize, k: usize, e: &mut [u8]) {
     let b = endian::window(d, COPY, k);
     let m = mend::work_out(f, b);
     print_answer(m);
-    run_stores(m, f, b, e);
+    run_stores(m, n, k, e);
     print_copies(endian::window(e, 0, n), endian::window(e, COPY, k));
 }
 
@@ -239,7 +254,7 @@ fn lend(m: Mending, f: &[u8], b: &[u8], i: u64, out: &mut [u8]) {
     number(out.len() as u64);
     say(b" for");
     number(i);
-    print_given(mend::store(m, f, b, i, out), kept_device(m));
+    print_given(mend::store(m, f, b, i, out), kept_device(m, f, b));
     sum(out);
     say(b"\n");
 }
@@ -254,65 +269,33 @@ fn lend_odd(m: Mending, f: &[u8], b: &[u8], i: u64) {
     lend(m, f, b, i, &mut long);
 }
 
-// A plan that keeps the front copy and has a record of 700 bytes in 4 sectors from sector `area` on, then a block with two
-// entries of one time, and a last store of a block with too small a device.
-fn made_up(area: u64) -> Mending {
-    let d = Device {
-        sectors: 2097152,
-        metadata: 2040,
-        reserved: 0,
-    };
-    let held = Entry::Used(Holding {
-        seconds: 7,
-        nanoseconds: 8,
-        bytes: 9,
-        checksum: 10,
-    });
-    let empty = BlockFields {
-        device: d,
-        a: Entry::Unused,
-        b: Entry::Unused,
-    };
-    let twice = BlockFields {
-        device: d,
-        a: held,
-        b: held,
-    };
-    let small = BlockFields {
-        device: Device {
-            sectors: 2097151,
-            metadata: 2041,
-            reserved: 65537,
-        },
-        a: Entry::Unused,
-        b: Entry::Unused,
-    };
-    let part = Part {
+// Prints the stores of a plan that nobody worked out, for the pair d with another low byte of L in the front's block.
+fn run_made_up(side: Side, area: Area, bytes: u32, last: bool, low: u8, d: &[u8]) {
+    let m = Mending::Needed(Rewrite {
+        kept: side,
         area: area,
-        block: 18446744073709551615,
-        fields: twice,
-    };
-    let last = Last::Blank(0, small);
-    Mending::Needed(Rewrite {
-        kept: Side::Front,
-        area: Area::B,
-        bytes: 700,
-        sectors: 4,
-        empty: empty,
-        part: part,
+        bytes: bytes,
         last: last,
-    })
-}
-
-// Prints the stores of a plan that nobody worked out, and applies them to e.
-fn run_made_up(area: u64, f: &[u8], b: &[u8], e: &mut [u8]) {
-    let m = made_up(area);
+    });
+    let mut e = io::large_buffer();
+    endian::put(&mut e, 0, d);
+    endian::put(&mut e, METADATA, &[low]);
     print_answer(m);
-    run_stores(m, f, b, e);
+    run_stores(m, COPY, COPY, &mut e);
 }
 
-// The calls that no sample makes, with the pair d; e is written over.
-fn odd_calls(d: &[u8], e: &mut [u8]) {
+// Such plans: a last store that is not needed; the older record; a length that is not the entry's; an area with no record; a kept
+// block with an odd L.
+fn run_all_made_up(d: &[u8]) {
+    run_made_up(Side::Front, Area::B, 800, true, 0xF8, d);
+    run_made_up(Side::Back, Area::A, 28, false, 0xF8, d);
+    run_made_up(Side::Front, Area::B, 799, false, 0xF8, d);
+    run_made_up(Side::Front, Area::A, 800, false, 0xF8, d);
+    run_made_up(Side::Front, Area::B, 800, false, 0xF9, d);
+}
+
+// The calls that no sample makes, with the pair d.
+fn odd_calls(d: &[u8]) {
     let f = endian::window(d, 0, COPY);
     let b = endian::window(d, COPY, COPY);
     let m = mend::work_out(f, b);
@@ -321,9 +304,7 @@ fn odd_calls(d: &[u8], e: &mut [u8]) {
     lend_odd(m, f, b, 99);
     lend_odd(Mending::InStep, f, b, 0);
     lend_odd(Mending::Refused(10), f, b, 0);
-    run_made_up(18446744073709551614, f, b, e);
-    run_made_up(18446744073709551615, f, b, e);
-    run_made_up(100, f, b, e);
+    run_all_made_up(d);
 }
 
 fn main() {
@@ -332,6 +313,5 @@ fn main() {
     let n = input.used;
     let mut before = io::large_buffer();
     samples(&bytes[..n], &mut before);
-    let mut after = io::large_buffer();
-    odd_calls(&before, &mut after);
+    odd_calls(&before);
 }

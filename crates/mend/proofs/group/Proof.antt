@@ -10,8 +10,11 @@ enum-told c = search needs
 enum-known-m : tie.Need-enum-known-m
 enum-known-m c = search needs
 
-count-requires : tie.Need-count-requires
-count-requires c κs = search needs
+sectors-requires : tie.Need-sectors-requires
+sectors-requires c κs = search needs
+
+planned-requires : tie.Need-planned-requires
+planned-requires c κs = search needs
 
 group-in-requires : tie.Need-group-in-requires
 group-in-requires c κs = search needs
@@ -23,7 +26,7 @@ returns : tie.Need-returns
 returns c = search needs
 
 returns-2 : tie.Need-returns-2
-returns-2 c = needed-group (c .before .before .before .before .before .args .m) (c .before .before .before .before .before .args .i) _ (c .before .before .before .m .given .1) _ (c .before .count .ensures) _ (c .group-in .ensures)
+returns-2 c = needed-group (c .before .before .before .before .before .before .args .m) (c .before .before .before .before .before .before .args .i) _ (c .before .before .before .before .m .given .1) _ _ _ (c .before .before .sectors .ensures) (c .before .planned .ensures) (c .group-in .ensures)
 
 returns-3 : tie.Need-returns-3
 returns-3 c = search needs
@@ -34,7 +37,8 @@ group-spec =
     (tie.spec
     enum-told
     enum-known-m
-    count-requires
+    sectors-requires
+    planned-requires
     group-in-requires
     enum-told-2
     returns

@@ -1,4 +1,4 @@
--- `mend_samples::run_stores` is safe and ends: i counts up to n.
+-- `mend_samples::run_stores` is safe and ends: i counts up to the number of stores.
 use Prim.Native.Nat.{_-_, _≤_}
 use mathlib.Core.Path.{_≡_}
 use lib.ListN.{length}
@@ -7,10 +7,16 @@ use Rattle.mend_samples.proofs.run_stores.Statement.{statement}
 use Rattle.mend_samples.proofs.run_stores.Tie as tie
 
 abbrev Inv-loop : tie.InvT-loop
-Inv-loop m f b e₀ d n i₀ e i = (length e ≡ length e₀) × (i ≤ n)
+Inv-loop m n k e₀ d all i₀ e i = (length e ≡ length e₀) × (i ≤ all)
 
 abbrev μ-loop : tie.MeasureT-loop
-μ-loop m f b e₀ d n i₀ e i = n - i
+μ-loop m n k e₀ d all i₀ e i = all - i
+
+window-requires : tie.Need-window-requires Inv-loop μ-loop
+window-requires c κs = search needs
+
+window-requires-2 : tie.Need-window-requires-2 Inv-loop μ-loop
+window-requires-2 c κs = search needs
 
 kept-device-requires : tie.Need-kept-device-requires Inv-loop μ-loop
 kept-device-requires c κs = search needs
@@ -48,6 +54,8 @@ run-stores-spec =
     (tie.spec
     Inv-loop
     μ-loop
+    window-requires
+    window-requires-2
     kept-device-requires
     count-requires
     loop-holds
