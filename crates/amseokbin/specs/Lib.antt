@@ -3,3 +3,4 @@ pub mod Answers
 pub mod Copies
 pub mod Records
 pub mod Room
+pub mod Plans

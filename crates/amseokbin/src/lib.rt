@@ -2,8 +2,11 @@
 // answer as a struct of the header, by value: first the refusal; where that has a number every other field is zero.
 mod blocks;
 mod copies;
+mod mends;
 mod records;
 mod room;
+mod storing;
+mod updates;
 
 ghost use mathlib.Core.Path.{_≡_};
 ghost use Rattle.checksum.specs.Crc.{checksum, continued};

@@ -1,0 +1,41 @@
+-- `amseokbin::updates::tell_plan` meets its contract.
+use borrow.Author.Needs.{needs}
+use Rattle.amseokbin.proofs.updates.tell_plan.Statement.{statement}
+use Rattle.amseokbin.proofs.updates.tell_plan.Tie as tie
+
+enum-known-a : tie.Need-enum-known-a
+enum-known-a c = search needs
+
+plain-requires : tie.Need-plain-requires
+plain-requires c κs = search needs
+
+plan-of-requires : tie.Need-plan-of-requires
+plan-of-requires c κs = search needs
+
+enum-known-a-2 : tie.Need-enum-known-a-2
+enum-known-a-2 c = search needs
+
+plain-requires-2 : tie.Need-plain-requires-2
+plain-requires-2 c κs = search needs
+
+no-plan-requires : tie.Need-no-plan-requires
+no-plan-requires c κs = search needs
+
+returns : tie.Need-returns
+returns c = rw (c .before .before .before .a .given .1, c .before .plain .ensures, c .plan-of .ensures)
+
+returns-2 : tie.Need-returns-2
+returns-2 c = rw (c .before .before .before .a2 .given .1, c .before .plain2 .ensures, c .no-plan .ensures)
+
+pub tell-plan-spec : {M : Type 1} → statement M
+tell-plan-spec =
+    tie.close
+    (tie.spec
+    enum-known-a
+    plain-requires
+    plan-of-requires
+    enum-known-a-2
+    plain-requires-2
+    no-plan-requires
+    returns
+    returns-2)
