@@ -6,3 +6,4 @@ pub mod Alone
 pub mod Least
 pub mod Placed
 pub mod Demand
+pub mod Applying

@@ -4,8 +4,8 @@ use mathlib.Core.Path.{_≡_, refl, sym, ap, ap₂, _∙_}
 use mathlib.Core.Bool.{Bool, true, false, cond, not, _&&_}
 use mathlib.Core.List.{List}
 use native.Mathlib.Omega.{arith}
-use borrow.Author.Tests.{le-leb, lt-leb, leb-true, lt-ltb, ltb-true, eq-eqb, ne-eqb, not-true, not-false}
-use lib.Dec.{leb, ltb, eqb, lit<}
+use borrow.Author.Tests.{le-leb, lt-leb, leb-true, lt-ltb, ltb-true, not-true, not-false}
+use lib.Dec.{leb, ltb, eqb}
 use lib.ListN.{length}
 use Rattle.endian.specs.Bytes.{splice}
 use Rattle.endian.proofs.Tests.{and-left, and-right, and-both}
@@ -18,7 +18,7 @@ use Rattle.layout.specs.declared.Area.{Area}
 use Rattle.layout.specs.declared.Area.the-variants.{A, B}
 use Rattle.layout.specs.Limits.{deviceTests, recordLimit}
 use Rattle.layout.specs.Places.{headerSector, areaSector, areaOffset, copyBytes}
-use Rattle.discovery.specs.Discovery.{sized, copyOn}
+use Rattle.discovery.specs.Discovery.{sized}
 use Rattle.crash.specs.Crash.{areaSectors}
 use Rattle.crash.proofs.Copies.{limit-small}
 use Rattle.sectors.specs.Apply.{among, offsetOf, appliedTo, applyTests, applied}
@@ -96,6 +96,11 @@ module _ (s : Side) (d : Device) (n h k r : ℕ) (eh : h ≡ headerSector s d) w
       pub offset-none : among b k n ≡ false → r ≡ copyBytes → r ≡ offsetOf s d n
       offset-none y e =
           e ∙ (sym (ap (λ (t : Bool). cond t (areaOffset B + 512 * (n - areaSector s B d)) copyBytes) (sym test-b ∙ y)) ∙ after-a)
+
+-- a sector of none of the parts
+pub offset-nowhere : (s : Side) (d : Device) (n : ℕ) → among (headerSector s d) 8 n ≡ false → among (areaSector s A d) areaSectors n ≡ false
+    → among (areaSector s B d) areaSectors n ≡ false → offsetOf s d n ≡ copyBytes
+offset-nowhere s d n p q r = sym (offset-none s d n (headerSector s d) areaSectors copyBytes refl refl p (areaSector s A d) refl q (areaSector s B d) refl r refl)
 
 -- what the call answers and leaves: a test that fails, the device numbers' tests, a store that is applied; the size of a copy is m
 module _ (d : Device) (n : ℕ) (w f b : List ℕ) (m : ℕ) (em : m ≡ copyBytes) where

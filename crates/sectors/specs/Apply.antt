@@ -1,5 +1,5 @@
 -- A store applied to two copies in memory: where its sector lies in each, and what they hold afterwards.
-use Prim.Native.Nat.{ℕ, _+_, _-_, _*_}
+use Prim.Native.Nat.{ℕ, zero, suc, _+_, _-_, _*_}
 use mathlib.Core.Bool.{Bool, cond, _&&_}
 use mathlib.Core.List.{List, _∷_}
 use lib.Dec.{leb, ltb, eqb}
@@ -9,11 +9,12 @@ use Rattle.refusal.specs.Numbers.{sliceSize}
 use Rattle.refusal.specs.Tests.{Test, _elseRefuse_, first}
 use Rattle.layout.specs.declared.Device.{Device}
 use Rattle.layout.specs.declared.Side.{Side}
+use Rattle.layout.specs.declared.Side.the-variants.{Front, Back}
 use Rattle.layout.specs.declared.Area.the-variants.{A, B}
 use Rattle.layout.specs.Limits.{deviceTests, sectorBytes, headerSectors}
 use Rattle.layout.specs.Places.{headerSector, areaSector, areaOffset, copyBytes}
 use Rattle.discovery.specs.Discovery.{sized, copyOn}
-use Rattle.crash.specs.Crash.{areaSectors}
+use Rattle.crash.specs.Crash.{Store, areaSectors}
 
 -- n is one of the k sectors from a on
 unfoldable pub among : ℕ → ℕ → ℕ → Bool
@@ -38,3 +39,8 @@ applyTests d content f b = (sized f b && eqb (length content) sectorBytes elseRe
 -- what a side's lent copy holds after a store was applied to f and b: that, or what was there
 unfoldable pub applied : Side → Device → ℕ → List ℕ → List ℕ → List ℕ → List ℕ
 applied s d n content f b = cond (eqb (first (applyTests d content f b)) 0) (appliedTo s d n content (copyOn s f b)) (copyOn s f b)
+
+-- what a side's copy holds after the stores with numbers below i were applied to f and b, one after the other
+unfoldable pub appliedFirst : Device → (ℕ → Store) → ℕ → List ℕ → List ℕ → Side → List ℕ
+appliedFirst v st zero f b s = copyOn s f b
+appliedFirst v st (suc i) f b s = applied s v (st i .sector) (st i .content) (appliedFirst v st i f b Front) (appliedFirst v st i f b Back)

@@ -1,5 +1,5 @@
 -- `sectors::offset_in` meets its contract.
-use Prim.Native.Nat.{ℕ, _-_, _≤_, _<_}
+use Prim.Native.Nat.{_-_, _≤_, _<_}
 use native.Mathlib.Omega.{arith}
 use Rattle.sectors.proofs.Offsets.{among-facts}
 use borrow.Author.Needs.{needs}
