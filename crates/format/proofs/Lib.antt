@@ -1,5 +1,6 @@
 -- The laws that callers cite.
 pub mod Checking
+pub mod Choosing
 pub mod Filling
 pub mod Demand
 pub mod OnDevice
