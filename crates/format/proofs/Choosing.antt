@@ -106,9 +106,14 @@ pub flush-by : (i a b : ℕ) → a ≡ groupAt i → b ≡ groupAt (i + 1) → n
 flush-by i a b ea eb = ap₂ (λ (y z : ℕ). not (eqb y z)) ea (eb ∙ ap (λ (n : ℕ). groupAt n) (add-one i))
 
 -- the sectors of both copies are as many as the stores
-areas-split : copySectors ≡ areaStart A + areasSectors
+pub areas-split : copySectors ≡ areaStart A + areasSectors
 unfolding areasSectors copySectors copyBytes areaStart areaOffset recordLimit
 areas-split = refl
+
+-- an area has sectors
+pub some-areas : 0 < areasSectors
+unfolding areasSectors copySectors copyBytes areaStart areaOffset recordLimit
+some-areas = lit< tt
 
 pub position-below : (i : ℕ) → i < storeCount → positionOf i < storeCount
 position-below i l =
@@ -177,8 +182,8 @@ module _ (v : Device) (f b : List ℕ) (i : ℕ) (out : List ℕ) where
           ew ∙ (ap (bytesOn f b) ep ∙ answer-yes (bytesOn f b (positionOf i)) (λ (m : ℕ). out) 0 (first (storeTests v f b i out)) all-pass refl),
         )
 
-        front-is : sized f b ≡ true
-        front-is = and-left (sized f b) (eqb (length out) 512) h
+        both-are : sized f b ≡ true
+        both-are = and-left (sized f b) (eqb (length out) 512) h
 
         room : eqb (length out) 512 ≡ true
         room = and-right (sized f b) (eqb (length out) 512) h
@@ -187,7 +192,7 @@ module _ (v : Device) (f b : List ℕ) (i : ℕ) (out : List ℕ) where
         store-front k g eg w ew =
             store-taken g w (eg ∙ sym (ap (λ (t : Bool). Given.At (cond t (sectorAt Front v p) (sectorAt Back v (p - copySectors)))) (lt-ltb p copySectors k)))
             (ew
-            ∙ (whole-sector f out p (and-left (isCopy f) (isCopy b) front-is) room k
+            ∙ (whole-sector f out p (and-left (isCopy f) (isCopy b) both-are) room k
             ∙ sym (ap (λ (t : Bool). cond t (nthSector f p) (nthSector b (p - copySectors))) (lt-ltb p copySectors k))))
 
         pub store-back : copySectors ≤ p → (g : Given) → g ≡ Given.At (sectorAt Back v (p - copySectors)) → (w : List ℕ)
@@ -195,5 +200,9 @@ module _ (v : Device) (f b : List ℕ) (i : ℕ) (out : List ℕ) where
         store-back k g eg w ew =
             store-taken g w (eg ∙ sym (ap (λ (t : Bool). Given.At (cond t (sectorAt Front v p) (sectorAt Back v (p - copySectors)))) (le-ltb p copySectors k)))
             (ew
-            ∙ (whole-sector b out (p - copySectors) (and-right (isCopy f) (isCopy b) front-is) room (back-below i p l ep k)
+            ∙ (whole-sector b out (p - copySectors) (and-right (isCopy f) (isCopy b) both-are) room (back-below i p l ep k)
             ∙ sym (ap (λ (t : Bool). cond t (nthSector f p) (nthSector b (p - copySectors))) (le-ltb p copySectors k))))
+
+      -- a store that is there
+      pub store-at : i < storeCount → Answers (Given.At (sectorOn v (positionOf i))) (bytesOn f b (positionOf i))
+      store-at l = store-taken l (positionOf i) refl (Given.At (sectorOn v (positionOf i))) (bytesOn f b (positionOf i)) refl refl
