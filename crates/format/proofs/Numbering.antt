@@ -1,10 +1,10 @@
 -- The stores that write two copies, by side and sector: which number each has, and what it stores where.
-use Prim.Native.Nat.{ℕ, _+_, _-_, _*_, _≤_, _<_}
+use Prim.Native.Nat.{ℕ, zero, suc, _+_, _-_, _*_, _≤_, _<_}
 use mathlib.Core.Path.{_≡_, refl, sym, ap, ap₂, subst, _∙_}
 use mathlib.Core.Bool.{Bool, cond}
 use mathlib.Core.List.{List, [], _∷_, _++_, append-assoc, append-nil, map, flatten}
 use native.Mathlib.Decide.{decLe}
-use native.Mathlib.Nat.{zero-add}
+use native.Mathlib.Nat.{zero-add, not-suc-le-zero}
 use native.Mathlib.Omega.{arith}
 use borrow.Author.Tests.{lt-ltb, le-ltb}
 use lib.Dec.{ltb}
@@ -57,15 +57,15 @@ turned k = cond (ltb k (areaStart A)) (areasSectors + k) (k - areaStart A)
 abbrev pub number : Side → ℕ → ℕ
 number w k = base w + turned k
 
-turned-header : (k : ℕ) → k < areaStart A → turned k ≡ areasSectors + k
+pub turned-header : (k : ℕ) → k < areaStart A → turned k ≡ areasSectors + k
 unfolding turned
 turned-header k l = ap (λ (t : Bool). cond t (areasSectors + k) (k - areaStart A)) (lt-ltb k (areaStart A) l)
 
-turned-areas : (k : ℕ) → areaStart A ≤ k → turned k ≡ k - areaStart A
+pub turned-areas : (k : ℕ) → areaStart A ≤ k → turned k ≡ k - areaStart A
 unfolding turned
 turned-areas k l = ap (λ (t : Bool). cond t (areasSectors + k) (k - areaStart A)) (le-ltb k (areaStart A) l)
 
-turned-below : (k : ℕ) → k < copySectors → turned k < copySectors
+pub turned-below : (k : ℕ) → k < copySectors → turned k < copySectors
 turned-below k l =
     let c : copySectors ≡ areasSectors + 8 = copy-parts in
     let h : areaStart A ≡ 8 = header-sectors in
@@ -161,6 +161,13 @@ module _ (f b : List ℕ) (w : Side) (k : ℕ) (l : k < copySectors) where
       each Back c =
           ap (λ (z : ℕ). take 512 (drop z (f ++ b))) (let e : 512 * (copySectors + k) ≡ length f + 512 * k = omega arith in e)
           ∙ ap (take 512) (sym (drop-drop (512 * k) (length f) (f ++ b)) ∙ ap (drop (512 * k)) (drop-at f b (length f) refl))
+
+-- a sum of more numbers is no less
+rises : (ns : List ℕ) (g h : ℕ) → g ≤ h → total (take g ns) ≤ total (take h ns)
+rises ns zero h l = omega arith
+rises [] (suc g) h l = omega arith
+rises (n ∷ ns) (suc g) zero l = absurd (not-suc-le-zero l)
+rises (n ∷ ns) (suc g) (suc h) l = let r : total (take g ns) ≤ total (take h ns) = rises ns g h (omega arith) in omega arith
 
 module _ (v : Device) (f b : List ℕ) where
   abbrev pub groups : Groups
@@ -271,3 +278,7 @@ module _ (v : Device) (f b : List ℕ) where
 
   pub group-starts : (g : ℕ) → groupStart groups g ≡ starting g
   group-starts g = starts groups g ∙ ap (λ (ns : List ℕ). total (take g ns)) group-lengths
+
+  -- and each starts no earlier than those before it
+  pub starts-rise : (g h : ℕ) → g ≤ h → starting g ≤ starting h
+  starts-rise g h l = rises (areasSectors ∷ 8 ∷ areasSectors ∷ 8 ∷ []) g h l

@@ -23,8 +23,8 @@ use Rattle.layout.specs.Limits.{deviceTests}
 use Rattle.layout.specs.Places.{headerSector, areaSector, reservedSector, copyBytes}
 use Rattle.block.specs.declared.Time.{Time}
 use Rattle.discovery.specs.Discovery.{copyOn}
-use Rattle.crash.specs.Crash.{Sectors, Sound, Store, storeIn, groupStart, landed, allLanded, areaSectors, copyFrom}
-use Rattle.crash.proofs.Copies.{limit-small}
+use Rattle.crash.specs.Crash.{Sectors, Sound, Store, storeIn, groupStart, landed, Stored, Cut, allLanded, areaSectors, copyFrom}
+use Rattle.crash.proofs.Copies.{limit-small, length-copy}
 use Rattle.crash.proofs.Landing.{landed-old, landed-new, landed-size}
 use Rattle.stores.specs.declared.Given.{Given}
 use Rattle.stores.specs.declared.Given.the-variants as Given
@@ -42,10 +42,10 @@ use Rattle.sectors.proofs.Demand.{all-read, sizes}
 use Rattle.sectors.proofs.Applying.{place-offset}
 use Rattle.format.specs.Format.{formattedCopy, formatted}
 use Rattle.format.specs.Writing.{formatGroups, storeCount, areasSectors, groupAt, positionOf, flushAfter, sectorOn, bytesOn, storeTests, storeAnswer, storeLeft}
-use Rattle.format.specs.Demand.{Writes, Storing, InCopy, Lands, Landing, Becoming, Refusing}
+use Rattle.format.specs.Demand.{Writes, Storing, InCopy, Lands, Landing, CutLeaves, Cutting, Becoming, Refusing}
 use Rattle.format.proofs.Checking.{Taken, taken}
 use Rattle.format.proofs.Choosing.{both-copies, in-back-areas, in-back-header, in-front-areas, in-front-header, past-last, some-areas, no-flush, device-ascending, store-past, store-at}
-use Rattle.format.proofs.Numbering.{copy-parts, number, number-below, by-store, number-position, sector-on, bytes-on, joined-at, all-stores, at-number, starting, groups-four, group-starts}
+use Rattle.format.proofs.Numbering.{copy-parts, base, turned, turned-header, turned-areas, turned-below, number, number-below, by-store, number-position, sector-on, bytes-on, joined-at, all-stores, at-number, starting, groups-four, group-starts, starts-rise}
 use Rattle.format.proofs.Demand.{length-formatted}
 use Rattle.format.proofs.Exactly.{leaving}
 use Rattle.format.proofs.Starting.{starting as start-from}
@@ -252,6 +252,111 @@ module _ (v : Device) (f b : List ℕ) (ok : first (deviceTests v) ≡ 0) (nf : 
       landed-old st d i n (λ j m e.
       by-store (λ (j : ℕ). n ≡ st j .sector → ⊥) (λ w k t z. apart w n (subst (near w v) (sym (z ∙ its-sector w k t)) (near-place w k t)) p q) j (omega arith) e)
 
+  -- a cut in group g
+  module _ (g : ℕ) (d e : Sectors) (four : g < 4) (h : Sound d) (cut : Cut st (starting v f b g) (starting v f b (suc g)) d e) where
+    ends : starting v f b (suc g) ≤ storeCount
+    ends =
+        let c : copySectors ≡ areasSectors + 8 = copy-parts in
+        let s : storeCount ≡ copySectors + copySectors = both-copies in
+        let m : starting v f b (suc g) ≤ starting v f b 4 = starts-rise v f b (suc g) 4 (omega arith) in
+        omega arith
+
+    -- a sector that the running group does not store to, and that is the same before and after it
+    settled : (n : ℕ) (c : List ℕ) → landed st (starting v f b g) d n ≡ c → landed st (starting v f b (suc g)) d n ≡ c
+        → (Stored st (starting v f b g) (starting v f b (suc g)) n → ⊥) → e n ≡ c
+    settled n c p q s = go (cut .each n)
+      where
+        go : (e n ≡ landed st (starting v f b g) d n)
+            ⊎ ((e n ≡ landed st (starting v f b (suc g)) d n) ⊎ ((n ≡ cut .wild) × Stored st (starting v f b g) (starting v f b (suc g)) n)) → e n ≡ c
+        go (inl z) = z ∙ p
+        go (inr (inl z)) = z ∙ q
+        go (inr (inr z)) = absurd (s (z .1))
+
+    -- a sector whose store belongs to a later group is as it was
+    kept : (w : Side) (k : ℕ) → k < copySectors → starting v f b (suc g) ≤ number w k → e (placeOf w v k) ≡ d (placeOf w v k)
+    kept w k l m =
+        let a : starting v f b (suc g) ≤ storeCount = ends in
+        let r : starting v f b g ≤ starting v f b (suc g) = starts-rise v f b g (suc g) (omega arith) in
+        settled (placeOf w v k) (d (placeOf w v k))
+        (landed-old st d (starting v f b g) (placeOf w v k) (λ i y z. let q : i ≡ number w k = alone w k l i (omega arith) z in omega arith))
+        (landed-old st d (starting v f b (suc g)) (placeOf w v k) (λ i y z. let q : i ≡ number w k = alone w k l i (omega arith) z in omega arith))
+        (λ s.
+        let y : s .0 < starting v f b (suc g) = s .2 in
+        let q : s .0 ≡ number w k = alone w k l (s .0) (omega arith) (sym (s .3)) in
+        omega arith)
+
+    -- one whose store belongs to an earlier group is as stored
+    done : (w : Side) (k : ℕ) → k < copySectors → number w k < starting v f b g → e (placeOf w v k) ≡ nthSector (copyOn w f b) k
+    done w k l m =
+        let a : starting v f b (suc g) ≤ storeCount = ends in
+        let r : starting v f b g ≤ starting v f b (suc g) = starts-rise v f b g (suc g) (omega arith) in
+        settled (placeOf w v k) (nthSector (copyOn w f b) k)
+        (landed-new st d (starting v f b g) (number w k) (placeOf w v k) m (sym (its-sector w k l)) (λ i y z. alone w k l i (omega arith) z) ∙ its-content w k l)
+        (landed-new st d (starting v f b (suc g)) (number w k) (placeOf w v k) (omega arith) (sym (its-sector w k l)) (λ i y z. alone w k l i (omega arith) z)
+        ∙ its-content w k l)
+        (λ s.
+        let x : starting v f b g ≤ s .0 = s .1 in
+        let y : s .0 < starting v f b (suc g) = s .2 in
+        let q : s .0 ≡ number w k = alone w k l (s .0) (omega arith) (sym (s .3)) in
+        omega arith)
+
+    -- the same of the copies
+    is-kept : (w : Side) (k : ℕ) → k < copySectors → starting v f b (suc g) ≤ number w k → nthSector (copyFrom w v e) k ≡ nthSector (copyFrom w v d) k
+    is-kept w k l m =
+        placed w v e ok (cut .sound) .sector k l
+        ∙ (ap e (sym (on-device w k l)) ∙ (kept w k l m ∙ (ap d (on-device w k l) ∙ sym (placed w v d ok h .sector k l))))
+
+    is-done : (w : Side) (k : ℕ) → k < copySectors → number w k < starting v f b g → nthSector (copyFrom w v e) k ≡ nthSector (copyOn w f b) k
+    is-done w k l m = placed w v e ok (cut .sound) .sector k l ∙ (ap e (sym (on-device w k l)) ∙ done w k l m)
+
+    -- a copy by its sectors
+    by-sectors : (w : Side) (c : List ℕ) → length c ≡ copyBytes → ((k : ℕ) → k < copySectors → nthSector (copyFrom w v e) k ≡ nthSector c k) → copyFrom w v e ≡ c
+    by-sectors w c n same =
+        sym
+        (placed w v e ok (cut .sound) .is (zeros copySectors) c
+        (record { size = n; unmarked = λ k l m. sym (same k l) ∙ placed w v e ok (cut .sound) .sector k l }) (all-read .zero-marks))
+
+    -- a side's areas are a group, and so is its header
+    areas-before : (w : Side) (n : ℕ) → n < 4 → starting v f b n ≡ base w + areasSectors
+        → ((k : ℕ) → k < 8 → nthSector (copyFrom w v e) k ≡ nthSector (copyFrom w v d) k)
+        ⊎ ((k : ℕ) → 8 ≤ k → k < copySectors → nthSector (copyFrom w v e) k ≡ nthSector (copyOn w f b) k)
+    areas-before w n m q =
+        let c : copySectors ≡ areasSectors + 8 = copy-parts in
+        let a : areaStart A ≡ 8 = header-sectors in
+        elim (decLe (suc g) n) [
+          | yes y ↦
+              let r : starting v f b (suc g) ≤ starting v f b n = starts-rise v f b (suc g) n y in
+              inl (λ k l.
+              let t : turned k ≡ areasSectors + k = turned-header k (omega arith) in
+              is-kept w k (omega arith) (omega arith))
+          | no y ↦
+              let r : starting v f b n ≤ starting v f b g = starts-rise v f b n g (omega arith) in
+              inr (λ k l p.
+              let t : turned k ≡ k - areaStart A = turned-areas k (omega arith) in
+              is-done w k p (omega arith))
+        ]
+
+    back-before : (copyFrom Front v e ≡ copyFrom Front v d) ⊎ (copyFrom Back v e ≡ b)
+    back-before =
+        let c : copySectors ≡ areasSectors + 8 = copy-parts in
+        elim (decLe (suc g) 2) [
+          | yes y ↦
+              let r : starting v f b (suc g) ≤ starting v f b 2 = starts-rise v f b (suc g) 2 y in
+              inl (by-sectors Front (copyFrom Front v d) (length-copy Front v d h) (λ k l. is-kept Front k l (omega arith)))
+          | no y ↦
+              let r : starting v f b 2 ≤ starting v f b g = starts-rise v f b 2 g (omega arith) in
+              inr (by-sectors Back b nb (λ k l. let t : turned k < copySectors = turned-below k l in is-done Back k l (omega arith)))
+        ]
+
+    cut-leaves : CutLeaves v f b d e
+    cut-leaves = record { areas-first = first-of; back-first = back-before }
+      where
+        first-of : (s : Side)
+            → ((k : ℕ) → k < 8 → nthSector (copyFrom s v e) k ≡ nthSector (copyFrom s v d) k)
+            ⊎ ((k : ℕ) → 8 ≤ k → k < copySectors → nthSector (copyFrom s v e) k ≡ nthSector (copyOn s f b) k)
+        first-of Front = areas-before Front 3 (omega arith) (let c : copySectors ≡ areasSectors + 8 = copy-parts in omega arith)
+        first-of Back = areas-before Back 1 (omega arith) (omega arith)
+
   lands : Lands v f b
   lands =
       record {
@@ -266,6 +371,12 @@ storing v f b ok nf nb = writes v f b ok nf nb
 
 pub landing : Landing
 landing v f b ok nf nb = lands v f b ok nf nb
+
+pub cutting : Cutting
+cutting v f b ok nf nb g d e four h cut =
+    cut-leaves v f b ok nf nb g d e four h
+    (subst (λ (n : ℕ). Cut (storeIn (formatGroups v f b)) (starting v f b g) n d e) (group-starts v f b (suc g))
+    (subst (λ (n : ℕ). Cut (storeIn (formatGroups v f b)) n (groupStart (formatGroups v f b) (suc g)) d e) (group-starts v f b g) cut))
 
 -- the two copies that formatting leaves
 module _ {f b : List ℕ} {v : Device} {p u : List ℕ} {t : Time} {r : List ℕ} (k : Taken f b v p u t r) where

@@ -24,9 +24,10 @@ use Rattle.block.specs.Accepted.{HexBytes}
 use Rattle.record.specs.Demand.{RightBytes}
 use Rattle.copy.specs.Copy.{readingIn, deviceIn}
 use Rattle.discovery.specs.Discovery.{copyOn}
-use Rattle.crash.specs.Crash.{Sectors, Sound, Store, stores, storeIn, groupStart, landed, allLanded, areaSectors, copyFrom}
+use Rattle.crash.specs.Crash.{Sectors, Sound, Store, stores, storeIn, groupStart, landed, allLanded, CutIn, areaSectors, copyFrom}
 use Rattle.stores.specs.declared.Given.the-variants as Given
 use Rattle.stores.specs.States.{Gives, InStepOn, Ready}
+use Rattle.sectors.specs.Sectors.{copySectors}
 use Rattle.sectors.specs.Demand.{nthSector}
 use Rattle.format.specs.Format.{formatTests, formatNumber, firstFields, formattedCopy, formatted}
 use Rattle.format.specs.OnDevice.{onDevice}
@@ -144,6 +145,19 @@ pub record Lands (v : Device) (f b : List ℕ) : Type 0 where
 
 abbrev pub Landing : Type 0
 Landing = (v : Device) (f b : List ℕ) → first (deviceTests v) ≡ 0 → length f ≡ copyBytes → length b ≡ copyBytes → Lands v f b
+
+-- The order, by what a cut in the writing leaves: of each copy, the header as it was or the areas as they are to be; and the front copy as it was or
+-- the back copy as it is to be. So no new block stands above areas that are not written, and the copies are never both half written.
+pub record CutLeaves (v : Device) (f b : List ℕ) (d e : Sectors) : Type 0 where
+  pub areas-first : (s : Side)
+      → ((k : ℕ) → k < headerSectors → nthSector (copyFrom s v e) k ≡ nthSector (copyFrom s v d) k)
+      ⊎ ((k : ℕ) → headerSectors ≤ k → k < copySectors → nthSector (copyFrom s v e) k ≡ nthSector (copyOn s f b) k)
+  pub back-first : (copyFrom Front v e ≡ copyFrom Front v d) ⊎ (copyFrom Back v e ≡ b)
+
+abbrev pub Cutting : Type 0
+Cutting =
+    (v : Device) (f b : List ℕ) → first (deviceTests v) ≡ 0 → length f ≡ copyBytes → length b ≡ copyBytes
+    → (g : ℕ) (d e : Sectors) → g < 4 → Sound d → CutIn (formatGroups v f b) g d e → CutLeaves v f b d e
 
 -- So a device on which the stores of two formatted copies have landed is one that every update may start from, whatever it held before.
 abbrev pub Becoming : Type 0
