@@ -100,7 +100,7 @@ all-groups P i p q r s t l hp hq hr hs =
 
 -- past the last store there is no group, and no flush
 pub no-flush : (i : ℕ) → storeCount ≤ i → false ≡ flushAfter i
-no-flush i l = ap₂ (λ (a b : ℕ). not (eqb a b)) (past-last i 0 1 2 3 4 l) (past-last (suc i) 0 1 2 3 4 (omega arith))
+no-flush i l = ap₂ (λ (a b : ℕ). not (eqb a b)) (past-last i _ _ _ _ _ l) (past-last (suc i) _ _ _ _ _ (omega arith))
 
 pub flush-by : (i a b : ℕ) → a ≡ groupAt i → b ≡ groupAt (i + 1) → not (eqb a b) ≡ flushAfter i
 flush-by i a b ea eb = ap₂ (λ (y z : ℕ). not (eqb y z)) ea (eb ∙ ap (λ (n : ℕ). groupAt n) (add-one i))
@@ -119,8 +119,7 @@ pub position-below : (i : ℕ) → i < storeCount → positionOf i < storeCount
 position-below i l =
     let e : copySectors ≡ areaStart A + areasSectors = areas-split in
     let b : storeCount ≡ copySectors + copySectors = both-copies in
-    all-groups (λ (n : ℕ). n < storeCount) i (copySectors + areaStart A + i) (copySectors + (i - areasSectors)) (areaStart A + (i - copySectors)) (i - (copySectors + areasSectors))
-    storeCount l (λ h. omega arith) (λ g h. omega arith) (λ g h. omega arith) (λ g. omega arith)
+    all-groups (λ (n : ℕ). n < storeCount) i _ _ _ _ _ l (λ h. omega arith) (λ g h. omega arith) (λ g h. omega arith) (λ g. omega arith)
 
 -- so a sector that is not the front copy's is the back's
 pub back-below : (i p : ℕ) → i < storeCount → p ≡ positionOf i → copySectors ≤ p → p - copySectors < copySectors

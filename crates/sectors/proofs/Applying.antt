@@ -31,7 +31,7 @@ use Rattle.sectors.specs.Sectors.{copySectors, areaStart, placeOf, secto
 use Rattle.sectors.specs.Apply.{among, offsetOf, appliedTo, applyTests, applied, appliedFirst}
 use Rattle.sectors.specs.Demand.{nthSector, PlacedOn, Applying, Following, Refusing}
 use Rattle.sectors.proofs.Calls.{in-header, in-a, in-b}
-use Rattle.sectors.proofs.Offsets.{among-there, among-facts, offset-header, offset-a, offset-b, offset-nowhere}
+use Rattle.sectors.proofs.Offsets.{among-there, among-facts, offset-header, offset-a, offset-b, offset-none}
 use Rattle.sectors.proofs.Parts.{header-sectors, a-before-b, b-last, start-bytes, copy-bytes, area-there}
 use Rattle.sectors.proofs.Placed.{by-place, at-place, placed}
 use Rattle.sectors.proofs.Demand.{all-read, sizes}
@@ -78,10 +78,11 @@ module _ (v : Device) (ok : first (deviceTests v) ≡ 0) where
 
   -- where the sectors of each part lie in a copy
   header-offset : (w : Side) (i : ℕ) → i < areaStart A → offsetOf w v (headerSector w v + i) ≡ 512 * i
+  unfolding offsetOf
   header-offset w i l =
       let e : areaStart A ≡ 8 = header-sectors in
       sym
-      (offset-header w v (headerSector w v + i) (headerSector w v) 0 (512 * i) refl
+      (offset-header _ _ _ _ _ _ _ _ (headerSector w v + i) (headerSector w v) (512 * i) refl
       (among-there (headerSector w v) 8 (headerSector w v + i) (omega arith) (omega arith)) (omega arith))
 
   area-bytes : (x : Area) (a j : ℕ) → 512 * (areaStart x + j) ≡ areaOffset x + 512 * (a + j - a)
@@ -91,14 +92,21 @@ module _ (v : Device) (ok : first (deviceTests v) ≡ 0) where
   its-own w x j l = among-there (areaSector w x v) areaSectors (areaSector w x v + j) (omega arith) (omega arith)
 
   area-offset : (w : Side) (x : Area) (j : ℕ) → j < areaSectors → offsetOf w v (areaSector w x v + j) ≡ 512 * (areaStart x + j)
+  unfolding offsetOf
   area-offset w A j l =
       sym
-      (offset-a w v (areaSector w A v + j) (headerSector w v) areaSectors (512 * (areaStart A + j)) refl refl (not-header w A j l) (areaSector w A v) refl
+      (offset-a _ _ _ _ _ _ _ _ (areaSector w A v + j) (headerSector w v) (512 * (areaStart A + j)) refl areaSectors refl (not-header w A j l) (areaSector w A v) refl
       (its-own w A j l) (areaOffset A) refl (area-bytes A (areaSector w A v) j))
   area-offset w B j l =
       sym
-      (offset-b w v (areaSector w B v + j) (headerSector w v) areaSectors (512 * (areaStart B + j)) refl refl (not-header w B j l) (areaSector w A v) refl (not-a w j l)
+      (offset-b _ _ _ _ _ _ _ _ (areaSector w B v + j) (headerSector w v) (512 * (areaStart B + j)) refl areaSectors refl (not-header w B j l) (areaSector w A v) refl (not-a w j l)
       (areaSector w B v) refl (its-own w B j l) (areaOffset B) refl (area-bytes B (areaSector w B v) j))
+
+  -- and one of none of them
+  no-offset : (w : Side) (n : ℕ) → among (headerSector w v) 8 n ≡ false → among (areaSector w A v) areaSectors n ≡ false → among (areaSector w B v) areaSectors n ≡ false
+      → offsetOf w v n ≡ copyBytes
+  unfolding offsetOf
+  no-offset w n p q r = sym (offset-none _ _ _ _ _ _ _ _ n (headerSector w v) copyBytes refl areaSectors refl p (areaSector w A v) refl q (areaSector w B v) refl r refl)
 
   -- sector i of a copy lies at byte 512 i of it
   pub place-offset : (w : Side) (i : ℕ) → i < copySectors → offsetOf w v (placeOf w v i) ≡ 512 * i
@@ -136,10 +144,6 @@ module _ (v : Device) (ok : first (deviceTests v) ≡ 0) where
       header-there : areaStart A ≤ copySectors
       header-there = let a : areaStart B ≡ areaStart A + areaSectors = a-before-b in let b : copySectors ≡ areaStart B + areaSectors = b-last in omega arith
 
-      none : among (headerSector w v) 8 n ≡ false → among (areaSector w A v) areaSectors n ≡ false → among (areaSector w B v) areaSectors n ≡ false
-          → offsetOf w v n ≡ copyBytes
-      none p q r = offset-nowhere w v n p q r
-
       area : (x : Area) → among (areaSector w x v) areaSectors n ≡ true → Lies w n
       area x e =
           let l : areaSector w x v ≤ n = among-facts (areaSector w x v) areaSectors n e .0 in
@@ -157,7 +161,7 @@ module _ (v : Device) (ok : first (deviceTests v) ≡ 0) where
           one-of w n (n - headerSector w v) (headerSector w v + (n - headerSector w v)) (omega arith) (header-place w (n - headerSector w v) (omega arith)) (omega arith)
       header false p true q b r = area A q
       header false p false q true r = area B r
-      header false p false q false r = inl (none p q r)
+      header false p false q false r = inl (no-offset w n p q r)
 
 module _ (v : Device) (ok : first (deviceTests v) ≡ 0) (d : Sectors) (h : Sound d) (n : ℕ) (c : List ℕ) (long : length c ≡ 512) where
   abbrev after : Sectors

@@ -1,6 +1,6 @@
 -- Where a device sector lies in a copy, as the code finds it, and what a store that is applied answers and leaves.
 use Prim.Native.Nat.{ℕ, _+_, _-_, _*_, _≤_, _<_}
-use mathlib.Core.Path.{_≡_, refl, sym, ap, ap₂, _∙_}
+use mathlib.Core.Path.{_≡_, sym, ap, ap₂, _∙_}
 use mathlib.Core.Bool.{Bool, true, false, cond, not, _&&_}
 use mathlib.Core.List.{List}
 use native.Mathlib.Omega.{arith}
@@ -12,12 +12,11 @@ use Rattle.endian.proofs.Tests.{and-left, and-right, and-both}
 use Rattle.refusal.specs.Tests.{first}
 use Rattle.refusal.proofs.Order.{first-pass, first-fail, answer-no, answer-yes}
 use Rattle.layout.specs.declared.Device.{Device}
-use Rattle.layout.specs.declared.Side.{Side}
 use Rattle.layout.specs.declared.Side.the-variants.{Front, Back}
 use Rattle.layout.specs.declared.Area.{Area}
 use Rattle.layout.specs.declared.Area.the-variants.{A, B}
 use Rattle.layout.specs.Limits.{deviceTests, recordLimit}
-use Rattle.layout.specs.Places.{headerSector, areaSector, areaOffset, copyBytes}
+use Rattle.layout.specs.Places.{areaOffset, copyBytes}
 use Rattle.discovery.specs.Discovery.{sized}
 use Rattle.crash.specs.Crash.{areaSectors}
 use Rattle.crash.proofs.Copies.{limit-small}
@@ -51,56 +50,52 @@ unfolding areaOffset recordLimit
 offset-small A o e = omega arith
 offset-small B o e = omega arith
 
--- the offset, part by part, with where the parts begin as the code has found it
-module _ (s : Side) (d : Device) (n h k r : ℕ) (eh : h ≡ headerSector s d) where
+-- Which of three parts a sector is in, with what the code has found of them: m sectors from h on at byte 0, k from a on at byte p, k from b on at
+-- byte q, and e where it is in none.
+module _ (H M A K P B Q E n h r : ℕ) (eh : h ≡ H) where
   abbrev in-b : ℕ
-  in-b = cond (among (areaSector s B d) areaSectors n) (areaOffset B + 512 * (n - areaSector s B d)) copyBytes
+  in-b = cond (among B K n) (Q + 512 * (n - B)) E
 
   abbrev in-a : ℕ
-  in-a = cond (among (areaSector s A d) areaSectors n) (areaOffset A + 512 * (n - areaSector s A d)) in-b
+  in-a = cond (among A K n) (P + 512 * (n - A)) in-b
 
-  pub offset-header : among h 8 n ≡ true → r ≡ 0 + 512 * (n - h) → r ≡ offsetOf s d n
-  unfolding offsetOf
+  abbrev in-any : ℕ
+  in-any = cond (among H M n) (512 * (n - H)) in-a
+
+  pub offset-header : among h M n ≡ true → r ≡ 0 + 512 * (n - h) → r ≡ in-any
   offset-header y e =
       e
       ∙ ((let z : 0 + 512 * (n - h) ≡ 512 * (n - h) = omega arith in z)
-      ∙ (sym (ap (λ (t : Bool). cond t (512 * (n - h)) in-a) y) ∙ ap (λ (z : ℕ). cond (among z 8 n) (512 * (n - z)) in-a) eh))
+      ∙ (sym (ap (λ (t : Bool). cond t (512 * (n - h)) in-a) y) ∙ ap (λ (z : ℕ). cond (among z M n) (512 * (n - z)) in-a) eh))
 
-  module _ (ek : k ≡ areaSectors) (nh : among h 8 n ≡ false) (a : ℕ) (ea : a ≡ areaSector s A d) where
-    after-header : in-a ≡ offsetOf s d n
-    unfolding offsetOf
-    after-header = sym (ap (λ (t : Bool). cond t (512 * (n - headerSector s d)) in-a) (ap (λ (z : ℕ). among z 8 n) (sym eh) ∙ nh))
+  module _ (k : ℕ) (ek : k ≡ K) (nh : among h M n ≡ false) (a : ℕ) (ea : a ≡ A) where
+    after-header : in-a ≡ in-any
+    after-header = sym (ap (λ (t : Bool). cond t (512 * (n - H)) in-a) (ap (λ (z : ℕ). among z M n) (sym eh) ∙ nh))
 
-    test-a : among a k n ≡ among (areaSector s A d) areaSectors n
+    test-a : among a k n ≡ among A K n
     test-a = ap₂ (λ (z q : ℕ). among z q n) ea ek
 
-    pub offset-a : among a k n ≡ true → (o : ℕ) → o ≡ areaOffset A → r ≡ o + 512 * (n - a) → r ≡ offsetOf s d n
+    pub offset-a : among a k n ≡ true → (o : ℕ) → o ≡ P → r ≡ o + 512 * (n - a) → r ≡ in-any
     offset-a y o eo e =
         e
         ∙ (ap₂ (λ (z q : ℕ). q + 512 * (n - z)) ea eo
-        ∙ (sym (ap (λ (t : Bool). cond t (areaOffset A + 512 * (n - areaSector s A d)) in-b) (sym test-a ∙ y)) ∙ after-header))
+        ∙ (sym (ap (λ (t : Bool). cond t (P + 512 * (n - A)) in-b) (sym test-a ∙ y)) ∙ after-header))
 
-    module _ (na : among a k n ≡ false) (b : ℕ) (eb : b ≡ areaSector s B d) where
-      after-a : in-b ≡ offsetOf s d n
-      after-a = sym (ap (λ (t : Bool). cond t (areaOffset A + 512 * (n - areaSector s A d)) in-b) (sym test-a ∙ na)) ∙ after-header
+    module _ (na : among a k n ≡ false) (b : ℕ) (eb : b ≡ B) where
+      after-a : in-b ≡ in-any
+      after-a = sym (ap (λ (t : Bool). cond t (P + 512 * (n - A)) in-b) (sym test-a ∙ na)) ∙ after-header
 
-      test-b : among b k n ≡ among (areaSector s B d) areaSectors n
+      test-b : among b k n ≡ among B K n
       test-b = ap₂ (λ (z q : ℕ). among z q n) eb ek
 
-      pub offset-b : among b k n ≡ true → (o : ℕ) → o ≡ areaOffset B → r ≡ o + 512 * (n - b) → r ≡ offsetOf s d n
+      pub offset-b : among b k n ≡ true → (o : ℕ) → o ≡ Q → r ≡ o + 512 * (n - b) → r ≡ in-any
       offset-b y o eo e =
           e
           ∙ (ap₂ (λ (z q : ℕ). q + 512 * (n - z)) eb eo
-          ∙ (sym (ap (λ (t : Bool). cond t (areaOffset B + 512 * (n - areaSector s B d)) copyBytes) (sym test-b ∙ y)) ∙ after-a))
+          ∙ (sym (ap (λ (t : Bool). cond t (Q + 512 * (n - B)) E) (sym test-b ∙ y)) ∙ after-a))
 
-      pub offset-none : among b k n ≡ false → r ≡ copyBytes → r ≡ offsetOf s d n
-      offset-none y e =
-          e ∙ (sym (ap (λ (t : Bool). cond t (areaOffset B + 512 * (n - areaSector s B d)) copyBytes) (sym test-b ∙ y)) ∙ after-a)
-
--- a sector of none of the parts
-pub offset-nowhere : (s : Side) (d : Device) (n : ℕ) → among (headerSector s d) 8 n ≡ false → among (areaSector s A d) areaSectors n ≡ false
-    → among (areaSector s B d) areaSectors n ≡ false → offsetOf s d n ≡ copyBytes
-offset-nowhere s d n p q r = sym (offset-none s d n (headerSector s d) areaSectors copyBytes refl refl p (areaSector s A d) refl q (areaSector s B d) refl r refl)
+      pub offset-none : among b k n ≡ false → r ≡ E → r ≡ in-any
+      offset-none y e = e ∙ (sym (ap (λ (t : Bool). cond t (Q + 512 * (n - B)) E) (sym test-b ∙ y)) ∙ after-a)
 
 -- what the call answers and leaves: a test that fails, the device numbers' tests, a store that is applied; the size of a copy is m
 module _ (d : Device) (n : ℕ) (w f b : List ℕ) (m : ℕ) (em : m ≡ copyBytes) where
