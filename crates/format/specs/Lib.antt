@@ -2,4 +2,5 @@
 pub mod Format
 pub mod Filling
 pub mod OnDevice
+pub mod Writing
 pub mod Demand

@@ -1,19 +1,39 @@
-// Formatting: both copies of a device's metadata filled anew, with a first record in area a. The copies are lent as
-// discovery takes them.
+// Formatting: both copies of a device's metadata filled anew, with a first record in area a; and the stores that write both
+// to a device. The copies are lent as discovery takes them.
 ghost use mathlib.Core.Path.{_≡_};
 ghost use mathlib.Core.Bool.{true};
+ghost use Prim.Native.Nat.{_<_};
 ghost use lib.ListN.{length};
+ghost use Rattle.endian.specs.Bytes.{splice};
 ghost use Rattle.refusal.specs.Tests.{first};
 ghost use Rattle.layout.specs.Limits.{lengthAllowed};
 ghost use Rattle.layout.specs.Places.{copyBytes};
+ghost use Rattle.stores.specs.declared.Given.the-variants.{At};
+ghost use Rattle.sectors.specs.Sectors.{copySectors, sectorAt};
+ghost use Rattle.sectors.specs.Demand.{nthSector};
 ghost use Rattle.format.specs.Format.{valueTests, formatNumber, firstFields, formatted};
 ghost use Rattle.format.specs.Filling.{filled};
+ghost use Rattle.format.specs.Writing.{storeCount, positionOf, groupAt, flushAfter, storeAnswer, storeLeft};
 use block::BlockFields;
 use block::Entry;
 use block::Holding;
 use block::Time;
 use layout::Area;
 use layout::Device;
+use layout::Side;
+use stores::Given;
+
+// The sectors of a copy, of its header and of its two areas.
+const SECTORS: u64 = (layout::COPY_BYTES / layout::SECTOR_BYTES) as u64;
+
+const HEADER: u64 = layout::HEADER_SECTORS;
+
+const AREAS: u64 = SECTORS - HEADER;
+
+// The stores before the front's header, and all.
+const FRONT_HEADER: u64 = SECTORS + AREAS;
+
+const STORES: u64 = 2 * SECTORS;
 
 // The tests after the sizes: device numbers, UUIDs, time and record.
 fn check_values(d: Device, pool: &[u8], blockdev: &[u8], t: Time, r: &[u8]) -> u8
@@ -108,4 +128,101 @@ pub fn format_copies(
     fill(f, pool, blockdev, x, r);
     fill(b, pool, blockdev, x, r);
     refusal::NONE
+}
+
+// How many stores write both copies: every sector of each.
+pub fn count() -> u64
+    ensures { λ r. ⌜ r ≡ storeCount ⌝ }
+{
+    STORES
+}
+
+// Which sector of both copies store i is, the front copy's sectors counted first, then the back's: the back's areas are stored first, then its
+// header, then the front's areas and its header. As many as there are past the last store.
+pub fn position(i: u64) -> usize
+    ensures { λ r. ⌜ r ≡ positionOf i ⌝ }
+{
+    if i < AREAS {
+        return (SECTORS + HEADER + i) as usize;
+    }
+    if i < SECTORS {
+        return (SECTORS + (i - AREAS)) as usize;
+    }
+    if i < FRONT_HEADER {
+        return (HEADER + (i - SECTORS)) as usize;
+    }
+    if i < STORES {
+        return (i - FRONT_HEADER) as usize;
+    }
+    STORES as usize
+}
+
+// The group of store i: 0 the back's areas, 1 the back's header, 2 the front's areas, 3 the front's header; 4 past the last store. A
+// flush belongs after the last store of each group.
+pub fn group(i: u64) -> u8
+    ensures { λ g. ⌜ g ≡ groupAt i ⌝ }
+{
+    if i < AREAS {
+        return 0;
+    }
+    if i < SECTORS {
+        return 1;
+    }
+    if i < FRONT_HEADER {
+        return 2;
+    }
+    if i < STORES {
+        return 3;
+    }
+    4
+}
+
+// Whether a flush belongs after store i: it is the last of its group. Not past the last store.
+pub fn flush(i: u64) -> bool
+    ensures { λ r. ⌜ r ≡ flushAfter i ⌝ }
+{
+    if STORES <= i {
+        return false;
+    }
+    group(i) != group(i + 1)
+}
+
+// Sector k of a side's copy into out, as much of it as there is room for; the sector of the device that it goes to.
+fn put_sector(side: Side, d: Device, c: &[u8], k: usize, out: &mut [u8]) -> Given
+    requires { ⌜ k < copySectors ⌝ }
+    ensures { λ r. ⌜ r ≡ At (sectorAt side d k) ⌝ }
+    ensures { λ _. ⌜ now (out .exit) ≡ splice (now (out .entry)) 0 (nthSector (now (c .entry)) k) ⌝ }
+{
+    endian::put(
+        out,
+        0,
+        endian::window(c, layout::SECTOR_BYTES * k, layout::SECTOR_BYTES),
+    );
+    Given::At(sectors::sector_at(side, d, k))
+}
+
+// The store with number i, counted from 0, that writes two copies as they are lent to a device with these numbers: its 512 bytes into out, its
+// sector as the answer. 1 for a slice of another size; 4, 7 or 8 for device numbers that are not allowed; 23 past the last store. Then out
+// stays.
+pub fn store(d: Device, f: &[u8], b: &[u8], i: u64, out: &mut [u8]) -> Given
+    ensures { λ g. ⌜ g ≡ storeAnswer d (now (f .entry)) (now (b .entry)) i (now (out .entry)) ⌝ }
+    ensures { λ _. ⌜ now (out .exit) ≡ storeLeft d (now (f .entry)) (now (b .entry)) i (now (out .entry)) ⌝ }
+{
+    let n = layout::copy_bytes();
+    let sized = ((f.len() == n) & (b.len() == n)) & (out.len() == layout::SECTOR_BYTES);
+    if !sized {
+        return Given::Refused(refusal::SLICE_SIZE);
+    }
+    let r = layout::check(d);
+    if r != 0 {
+        return Given::Refused(r);
+    }
+    if STORES <= i {
+        return Given::Refused(refusal::NO_STORE);
+    }
+    let p = position(i);
+    if p < SECTORS as usize {
+        return put_sector(Side::Front, d, f, p, out);
+    }
+    put_sector(Side::Back, d, b, p - SECTORS as usize, out)
 }

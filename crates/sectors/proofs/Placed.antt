@@ -44,7 +44,7 @@ gather-at d h s (suc n) (suc i) rest l =
 
 module _ (s : Side) (v : Device) where
   -- a sector is the header's, or sector j of an area
-  by-place : (P : ℕ → ℕ → Type 0) → ((i : ℕ) → i < areaStart A → P i (headerSector s v + i))
+  pub by-place : (P : ℕ → ℕ → Type 0) → ((i : ℕ) → i < areaStart A → P i (headerSector s v + i))
       → ((x : Area) (j : ℕ) → j < areaSectors → P (areaStart x + j) (areaSector s x v + j)) → (i : ℕ) → i < copySectors → P i (placeOf s v i)
   by-place P h a i l =
       let p : areaStart B ≡ areaStart A + areaSectors = a-before-b in
@@ -95,7 +95,7 @@ module _ (s : Side) (v : Device) (d : Sectors) (ok : first (deviceTests v) ≡ 0
   place-below : (i : ℕ) → i < copySectors → placeOf s v i < v .sectors
   place-below = by-place s v (λ (i n : ℕ). n < v .sectors) (header-below v ok s) (area-below v ok s)
 
-  at-place : (i : ℕ) → i < copySectors → placeOf s v i ≡ sectorAt s v i
+  pub at-place : (i : ℕ) → i < copySectors → placeOf s v i ≡ sectorAt s v i
   at-place i l = below-is (v .sectors) (placeOf s v i) (place-below i l) ∙ at-inside s v i l
 
   there : (i : ℕ) → i < copySectors → sectorAt s v i < v .sectors

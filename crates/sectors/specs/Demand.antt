@@ -1,5 +1,6 @@
--- What sectors that could not be read can change. `proofs/Alone.antt` proves `Alone`, `Steady` and `Meaning`, `proofs/Least.antt`
--- `Bounded`, `proofs/Placed.antt` `Placed`, `proofs/Demand.antt` the rest. That what is stored is the same too is `claims`' `StoredAlike`.
+-- What sectors that could not be read can change, and what a store does to copies in memory. `proofs/Alone.antt` proves `Alone`, `Steady` and
+-- `Meaning`, `proofs/Least.antt` `Bounded`, `proofs/Placed.antt` `Placed`, `proofs/Applying.antt` `Applying`, `Following` and `Refusing`,
+-- `proofs/Demand.antt` the rest. That what is stored is the same too is `claims`' `StoredAlike`.
 use Prim.Native.Nat.{ℕ, _+_, _*_, _≤_, _<_}
 use mathlib.Core.Path.{_≡_}
 use mathlib.Core.Bool.{true, false}
@@ -23,9 +24,10 @@ use Rattle.discovery.specs.declared.Finding.{Finding}
 use Rattle.discovery.specs.declared.Other.{Other}
 use Rattle.discovery.specs.declared.Answer.the-variants.{Found}
 use Rattle.copy.specs.Copy.{areaBytes, entryIn, otherArea, whole, newest, present, readingIn, sizedReading}
-use Rattle.discovery.specs.Discovery.{discovery, inStep, recordBytes}
-use Rattle.crash.specs.Crash.{Sectors, Sound, areaSectors, copyFrom}
+use Rattle.discovery.specs.Discovery.{discovery, inStep, copyOn, recordBytes}
+use Rattle.crash.specs.Crash.{Sectors, Sound, Store, put, landed, areaSectors, copyFrom}
 use Rattle.sectors.specs.Sectors.{copySectors, areaStart, sectorAt, matters, isRead, known, settled}
+use Rattle.sectors.specs.Apply.{appliedTo, applyTests, applied, appliedFirst}
 
 -- sector i of a copy
 abbrev pub nthSector : List ℕ → ℕ → List ℕ
@@ -132,3 +134,34 @@ Sure =
     (v : Device) (d : Sectors) (f b fm bm : List ℕ) → first (deviceTests v) ≡ 0 → Sound d
     → ReadFrom Front v d fm f → ReadFrom Back v d bm b → settled f b fm bm ≡ true
     → SameBoth f b (copyFrom Front v d) (copyFrom Back v d)
+
+-- a store applied to the copies that were read from a device: it is not refused, and each copy is what reading the device after that store gives
+pub record Applies (v : Device) (d : Sectors) (s : Store) : Type 0 where
+  pub taken : first (applyTests v (s .content) (copyFrom Front v d) (copyFrom Back v d)) ≡ 0
+  pub leaves : (w : Side) → applied w v (s .sector) (s .content) (copyFrom Front v d) (copyFrom Back v d) ≡ copyFrom w v (put d s)
+  pub each : (w : Side) → appliedTo w v (s .sector) (s .content) (copyFrom w v d) ≡ copyFrom w v (put d s)
+
+-- On allowed device numbers and any device that holds of every store of 512 bytes, to whatever sector it goes.
+abbrev pub Applying : Type 0
+Applying = (v : Device) (d : Sectors) (s : Store) → first (deviceTests v) ≡ 0 → Sound d → length (s .content) ≡ sectorBytes → Applies v d s
+
+-- the first i of stores, applied to those copies one after the other: none is refused, and each copy is what reading the device gives on which
+-- those stores have landed
+pub record Follows (v : Device) (d : Sectors) (st : ℕ → Store) (i : ℕ) : Type 0 where
+  pub taken : (j : ℕ) → j < i
+      → first
+      (applyTests v (st j .content) (appliedFirst v st j (copyFrom Front v d) (copyFrom Back v d) Front)
+      (appliedFirst v st j (copyFrom Front v d) (copyFrom Back v d) Back))
+      ≡ 0
+  pub leaves : (w : Side) → appliedFirst v st i (copyFrom Front v d) (copyFrom Back v d) w ≡ copyFrom w v (landed st i d)
+
+-- So the copies in memory follow the device, store by store.
+abbrev pub Following : Type 0
+Following =
+    (v : Device) (d : Sectors) (st : ℕ → Store) (i : ℕ) → first (deviceTests v) ≡ 0 → Sound d → ((j : ℕ) → j < i → length (st j .content) ≡ sectorBytes)
+    → Follows v d st i
+
+-- A store that is refused changes no copy.
+abbrev pub Refusing : Type 0
+Refusing =
+    (w : Side) (v : Device) (n : ℕ) (content f b : List ℕ) → (first (applyTests v content f b) ≡ 0 → ⊥) → applied w v n content f b ≡ copyOn w f b

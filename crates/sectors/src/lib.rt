@@ -1,12 +1,17 @@
 // A copy read sector by sector: where each of its sectors lies, and whether those that could not be read matter to what
-// discovery answers. A copy is lent as discovery takes it, with any bytes in place of a sector that could not be read; marks
-// have a byte a sector, 0 where it was read.
+// discovery answers; and a store applied to two copies in memory. A copy is lent as discovery takes it, with any bytes in place of a
+// sector that could not be read; marks have a byte a sector, 0 where it was read.
 ghost use mathlib.Core.Path.{_≡_};
-ghost use Prim.Native.Nat.{_+_, _*_, _≤_, _<_};
-ghost use Rattle.crash.specs.Crash.{areaSectors};
+ghost use mathlib.Core.Bool.{true};
+ghost use Prim.Native.Nat.{_+_, _-_, _*_, _≤_, _<_};
+ghost use Rattle.refusal.specs.Tests.{first};
+ghost use Rattle.layout.specs.declared.Side.the-variants.{Front, Back};
+ghost use Rattle.layout.specs.Limits.{sectorBytes};
 ghost use Rattle.layout.specs.Places.{headerSector};
 ghost use Rattle.search.specs.Search.{every};
+ghost use Rattle.crash.specs.Crash.{areaSectors};
 ghost use Rattle.sectors.specs.Sectors.{copySectors, areaStart, below, sectorAt, named, namedIn, mattersFor, currentFor, isRead, passes, known, settled};
+ghost use Rattle.sectors.specs.Apply.{among, offsetOf, applyTests, applied};
 use block::BlockFields;
 use block::Entry;
 use block::Verdict;
@@ -181,4 +186,66 @@ pub fn settled(f: &[u8], b: &[u8], fm: &[u8], bm: &[u8]) -> bool
     ensures { λ r. ⌜ r ≡ settled (now (f .entry)) (now (b .entry)) (now (fm .entry)) (now (bm .entry)) ⌝ }
 {
     known(f, fm) & known(b, bm)
+}
+
+// Whether n is one of the k sectors from a on.
+fn among(a: u64, k: u64, n: u64) -> bool
+    ensures { λ r. ⌜ r ≡ among a k n ⌝ }
+{
+    if n < a {
+        return false;
+    }
+    n - a < k
+}
+
+// The byte of a copy at which sector n lies, one of k sectors from a on that begin at byte `at`.
+fn offset_in(a: u64, k: u64, at: usize, n: u64) -> usize
+    requires { ⌜ among a k n ≡ true ⌝ }
+    requires { ⌜ k ≤ 65536 ⌝ }
+    requires { ⌜ at ≤ 4294967296 ⌝ }
+    ensures { λ r. ⌜ r ≡ at + sectorBytes * (n - a) ⌝ }
+{
+    at + layout::SECTOR_BYTES * (n - a) as usize
+}
+
+// The byte of a side's copy at which device sector n lies; the copy's end where it lies in none of its parts.
+fn offset_of(side: Side, d: Device, n: u64) -> usize
+    ensures { λ r. ⌜ r ≡ offsetOf side d n ⌝ }
+{
+    let h = header_sector(side, d);
+    let k = area_sectors() as u64;
+    if among(h, layout::HEADER_SECTORS, n) {
+        return offset_in(h, layout::HEADER_SECTORS, 0, n);
+    }
+    let a = layout::area_sector(side, Area::A, d);
+    if among(a, k, n) {
+        return offset_in(a, k, layout::area_offset(Area::A), n);
+    }
+    let b = layout::area_sector(side, Area::B, d);
+    if among(b, k, n) {
+        return offset_in(b, k, layout::area_offset(Area::B), n);
+    }
+    layout::copy_bytes()
+}
+
+// Applies a store to two copies in memory: the bytes of a device sector go to where that sector lies in each; a sector that lies in neither
+// changes nothing. 1 unless both are copies by their size and 512 bytes are stored; 4, 7 or 8 for device numbers that are not allowed. Then
+// nothing changes.
+pub fn apply(d: Device, sector: u64, content: &[u8], f: &mut [u8], b: &mut [u8]) -> u8
+    ensures { λ r. ⌜ r ≡ first (applyTests d (now (content .entry)) (now (f .entry)) (now (b .entry))) ⌝ }
+    ensures { λ _. ⌜ now (f .exit) ≡ applied Front d sector (now (content .entry)) (now (f .entry)) (now (b .entry)) ⌝ }
+    ensures { λ _. ⌜ now (b .exit) ≡ applied Back d sector (now (content .entry)) (now (f .entry)) (now (b .entry)) ⌝ }
+{
+    let n = layout::copy_bytes();
+    let sized = ((f.len() == n) & (b.len() == n)) & (content.len() == layout::SECTOR_BYTES);
+    if !sized {
+        return refusal::SLICE_SIZE;
+    }
+    let r = layout::check(d);
+    if r != 0 {
+        return r;
+    }
+    endian::put(f, offset_of(Side::Front, d, sector), content);
+    endian::put(b, offset_of(Side::Back, d, sector), content);
+    refusal::NONE
 }
