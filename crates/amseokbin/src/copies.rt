@@ -9,12 +9,14 @@ ghost use Rattle.layout.specs.Answers.{sideNumber, areaNumber};
 ghost use Rattle.discovery.specs.Discovery.{discovery, sized, readAnswer, readBytes, copyOn};
 ghost use Rattle.stores.specs.Given.{layTests, laid};
 ghost use Rattle.format.specs.Format.{formatNumber, formatted};
+ghost use Rattle.sectors.specs.Apply.{applyTests, applied};
+ghost use Rattle.layout.specs.declared.Side.the-variants.{Front, Back};
 ghost use Rattle.amseokbin.specs.Copies.{presentNumber, copyAnswer, areaFrom, blockIn, foundOf, foundAnswer, stepAnswer};
-use crate::blocks;
 use crate::Block;
 use crate::CopyAnswer;
 use crate::FoundAnswer;
 use crate::StepAnswer;
+use crate::blocks;
 use block::Time;
 use block::Verdict;
 use copy::CopyReading;
@@ -224,6 +226,22 @@ pub extern "C" fn amseokbin_in_step(front: &[u8], back: &[u8]) -> StepAnswer
     }
 }
 
+// Applies a store to the two copies in memory.
+#[no_mangle]
+pub extern "C" fn amseokbin_apply(
+    device: Device,
+    sector: u64,
+    bytes: &[u8],
+    front: &mut [u8],
+    back: &mut [u8],
+) -> Refusal
+    ensures { λ r. ⌜ r ≡ plain (first (applyTests device (now (bytes .entry)) (now (front .entry)) (now (back .entry)))) ⌝ }
+    ensures { λ _. ⌜ now (front .exit) ≡ applied Front device sector (now (bytes .entry)) (now (front .entry)) (now (back .entry)) ⌝ }
+    ensures { λ _. ⌜ now (back .exit) ≡ applied Back device sector (now (bytes .entry)) (now (front .entry)) (now (back .entry)) ⌝ }
+{
+    refusal::plain(sectors::apply(device, sector, bytes, front, back))
+}
+
 // Lays a record into an area of a copy in memory.
 #[no_mangle]
 pub extern "C" fn amseokbin_lay(copy: &mut [u8], area: u8, content: &[u8]) -> Refusal
@@ -248,13 +266,5 @@ pub extern "C" fn amseokbin_format(
     ensures { λ _. ⌜ now (front .exit) ≡ formatted (now (front .entry)) (now (front .entry)) (now (back .entry)) device (now (pool .entry)) (now (blockdev .entry)) time (now (content .entry)) ⌝ }
     ensures { λ _. ⌜ now (back .exit) ≡ formatted (now (back .entry)) (now (front .entry)) (now (back .entry)) device (now (pool .entry)) (now (blockdev .entry)) time (now (content .entry)) ⌝ }
 {
-    refusal::plain(format::format_copies(
-        front,
-        back,
-        device,
-        pool,
-        blockdev,
-        time,
-        content,
-    ))
+    refusal::plain(format::format_copies(front, back, device, pool, blockdev, time, content))
 }

@@ -2,6 +2,7 @@
 // answer as a struct of the header, by value: first the refusal; where that has a number every other field is zero.
 mod blocks;
 mod copies;
+mod formats;
 mod mends;
 mod records;
 mod room;

@@ -70,7 +70,11 @@ fn tell_segment(a: Found) -> SegmentAnswer
 
 // The segment at a position, counted from 0.
 #[no_mangle]
-pub extern "C" fn amseokbin_record_segment(device: Device, content: &[u8], position: u64) -> SegmentAnswer
+pub extern "C" fn amseokbin_record_segment(
+    device: Device,
+    content: &[u8],
+    position: u64,
+) -> SegmentAnswer
     ensures { λ r. ⌜ r ≡ Told.segmentAnswer (segmentAnswer device (now (content .entry)) position) ⌝ }
 {
     tell_segment(record::read_segment(device, content, position as usize))
@@ -94,7 +98,12 @@ fn tell_segments(a: Counted) -> CountAnswer
 
 // The segments from a position on, as many as a table has room for: kind, start, length in sectors for each.
 #[no_mangle]
-pub extern "C" fn amseokbin_record_segments(device: Device, content: &[u8], position: u64, table: &mut [u64]) -> CountAnswer
+pub extern "C" fn amseokbin_record_segments(
+    device: Device,
+    content: &[u8],
+    position: u64,
+    table: &mut [u64],
+) -> CountAnswer
     ensures { λ r. ⌜ r ≡ Told.countedAnswer (segmentsAnswer device (now (content .entry)) position (length (now (table .entry)))) ⌝ }
     ensures { λ _. ⌜ now (table .exit) ≡ segmentsLeft device (now (content .entry)) position (now (table .entry)) ⌝ }
 {
@@ -128,7 +137,11 @@ fn tell_put(a: Put) -> LengthAnswer
 
 // Puts a segment at a position of a record that was begun in a buffer.
 #[no_mangle]
-pub extern "C" fn amseokbin_record_put(content: &mut [u8], position: u64, segment: Segment) -> LengthAnswer
+pub extern "C" fn amseokbin_record_put(
+    content: &mut [u8],
+    position: u64,
+    segment: Segment,
+) -> LengthAnswer
     ensures { λ r. ⌜ r ≡ Told.putAnswer (putAnswer (now (content .entry)) position) ⌝ }
     ensures { λ _. ⌜ now (content .exit) ≡ putLeft (now (content .entry)) position segment ⌝ }
 {

@@ -59,7 +59,11 @@ fn tell_runs(a: RunCount) -> CountAnswer
 
 // The free runs, ascending, to a table of runs.
 #[no_mangle]
-pub extern "C" fn amseokbin_free_runs(device: Device, content: &[u8], table: &mut [Run]) -> CountAnswer
+pub extern "C" fn amseokbin_free_runs(
+    device: Device,
+    content: &[u8],
+    table: &mut [Run],
+) -> CountAnswer
     ensures { λ r. ⌜ r ≡ Told.runsAnswer (tableAnswer device (now (content .entry)) (length (now (table .entry)))) ⌝ }
     ensures { λ _. ⌜ now (table .exit) ≡ tableLeft device (now (content .entry)) (now (table .entry)) ⌝ }
 {
@@ -161,7 +165,12 @@ fn tell_release(a: Released) -> LengthAnswer
 
 // Removes the segment at a position: the new record to a buffer.
 #[no_mangle]
-pub extern "C" fn amseokbin_release(device: Device, content: &[u8], position: u64, changed: &mut [u8]) -> LengthAnswer
+pub extern "C" fn amseokbin_release(
+    device: Device,
+    content: &[u8],
+    position: u64,
+    changed: &mut [u8],
+) -> LengthAnswer
     ensures { λ r. ⌜ r ≡ Told.releasedAnswer (releaseAnswer device (now (content .entry)) position (length (now (changed .entry)))) ⌝ }
     ensures { λ _. ⌜ now (changed .exit) ≡ releaseLeft device (now (content .entry)) position (now (changed .entry)) ⌝ }
 {

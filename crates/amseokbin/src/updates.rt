@@ -4,11 +4,11 @@ ghost use Rattle.refusal.specs.Refusals.{plain};
 ghost use Rattle.update.specs.Update.{updateNumber};
 ghost use Rattle.update.specs.Plan as Update;
 ghost use Rattle.amseokbin.specs.Plans.{storeAnswer, updateFrom, updateOf, noUpdate, updateAnswer};
-use crate::copies;
-use crate::storing;
 use crate::StoreAnswer;
 use crate::UpdateAnswer;
 use crate::UpdatePlan;
+use crate::copies;
+use crate::storing;
 use block::Holding;
 use block::Time;
 use refusal::Refusal;
@@ -17,7 +17,12 @@ use update::Planned;
 
 // Whether an update is refused.
 #[no_mangle]
-pub extern "C" fn amseokbin_update_check(front: &[u8], back: &[u8], time: Time, content: &[u8]) -> Refusal
+pub extern "C" fn amseokbin_update_check(
+    front: &[u8],
+    back: &[u8],
+    time: Time,
+    content: &[u8],
+) -> Refusal
     ensures { λ r. ⌜ r ≡ plain (updateNumber (now (front .entry)) (now (back .entry)) time (now (content .entry))) ⌝ }
 {
     refusal::plain(update::check(front, back, time, content))
@@ -84,7 +89,12 @@ fn tell_plan(a: Planned) -> UpdateAnswer
 
 // Works an update out.
 #[no_mangle]
-pub extern "C" fn amseokbin_update_plan(front: &[u8], back: &[u8], time: Time, content: &[u8]) -> UpdateAnswer
+pub extern "C" fn amseokbin_update_plan(
+    front: &[u8],
+    back: &[u8],
+    time: Time,
+    content: &[u8],
+) -> UpdateAnswer
     ensures { λ r. ⌜ r ≡ updateAnswer (Update.planned (now (front .entry)) (now (back .entry)) time (now (content .entry))) ⌝ }
 {
     tell_plan(update::work_out(front, back, time, content))

@@ -68,7 +68,7 @@ module _ (out : List ℕ) (i : ℕ) (g : Segment) where
               let t : first (putTests out i) ≡ 0 = tests true (fits-yes out (place out i) itemBytes h) in (
                 ap (λ (k : ℕ). Put.Length (k + itemBytes)) a ∙ answer-yes (Put.Length (place out i + itemBytes)) Put.Refused 0 (first (putTests out i)) (sym t) refl,
                 (ew ∙ ap (λ (k : ℕ). splice out k (segmentBytes g)) a)
-                ∙ answer-yes (splice out (place out i) (segmentBytes g)) (λ (k : ℕ). out) 0 (first (putTests out i)) (sym t) refl,
+                    ∙ answer-yes (splice out (place out i) (segmentBytes g)) (λ (k : ℕ). out) 0 (first (putTests out i)) (sym t) refl,
               )
           | no h ↦
               let o : n ≡ 1 = en ∙ write-short out at itemBytes (short (omega arith)) in
