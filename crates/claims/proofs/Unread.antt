@@ -13,19 +13,20 @@ use Rattle.layout.specs.declared.Side.the-variants.{Front, Back}
 use Rattle.layout.specs.declared.Area.{Area}
 use Rattle.layout.specs.declared.Area.the-variants.{A}
 use Rattle.layout.specs.Limits.{lengthAllowed}
-use Rattle.layout.specs.Places.{areaSector, copyBytes}
+use Rattle.layout.specs.Places.{blockSector, areaSector, copyBytes}
 use Rattle.block.specs.declared.Time.{Time}
-use Rattle.block.specs.declared.Entry.the-variants.{Used}
+use Rattle.block.specs.declared.Holding.{Holding}
+use Rattle.block.specs.declared.Entry.the-variants.{Unused, Used}
 use Rattle.block.specs.declared.BlockFields.{BlockFields}
 use Rattle.block.specs.declared.Verdict.the-variants as Verdict
 use Rattle.block.specs.Block.{deviceOf, poolOf, blockdevOf, fieldsOf}
-use Rattle.block.specs.Writing.{blockOf, writeTests, written}
+use Rattle.block.specs.Writing.{holdingOf, blockOf, writeTests, written}
 use Rattle.discovery.specs.declared.Finding.{Finding}
 use Rattle.discovery.specs.declared.Other.{Other}
 use Rattle.discovery.specs.declared.Answer.{Answer}
 use Rattle.discovery.specs.declared.Answer.the-variants as Answer
 use Rattle.copy.specs.Copy.{isCopy, blockIn, areaBytes, entryIn, otherArea, otherSide, whole, newest, readingIn}
-use Rattle.discovery.specs.Discovery.{discovery, inStep, copyOn, recordBytes}
+use Rattle.discovery.specs.Discovery.{sized, discovery, inStep, copyOn, recordBytes}
 use Rattle.discovery.specs.Newest.{timeAt}
 use Rattle.discovery.proofs.Latest.{newest-found}
 use Rattle.crash.specs.Crash.{Groups, copyFrom}
@@ -36,17 +37,15 @@ use Rattle.update.specs.declared.Planned.the-variants as Planned
 use Rattle.stores.specs.declared.Given.{Given}
 use Rattle.stores.specs.declared.Given.the-variants as Given
 use Rattle.update.specs.Update.{testsAfter, numberAfter, updateNumber, newBlock, updateGroups}
-use Rattle.stores.specs.Stores.{holdingFor, withEntry, recordStores, blockStore}
-use Rattle.update.specs.Plan.{planFor, planOf, planned, storesIn, sidesAnswer, sidesBytes}
-use Rattle.stores.specs.Given.{sectorIn, within, unlessRefused, blockAnswer, blockBytes, blockGiven, blockLeft, partAnswer, partBytes, partTests, partGiven, partLeft, lentRight}
+use Rattle.stores.specs.Stores.{sectorsOf, holdingFor, withEntry, recordStores, blockStore}
+use Rattle.update.specs.Plan.{planFor, planOf, planned, sectorsIn, storesIn, partOn, sidesAnswer, sidesBytes}
+use Rattle.stores.specs.Given.{sectorIn, within, unlessRefused, blockAnswer, blockBytes, blockGiven, blockLeft, partAnswer, partBytes, partTests, partGiven, partLeft}
 use Rattle.update.specs.Plan as Update
-use Rattle.mend.specs.declared.Last.{Last}
-use Rattle.mend.specs.declared.Last.the-variants as Last
 use Rattle.mend.specs.declared.Rewrite.{Rewrite}
 use Rattle.mend.specs.declared.Mending.{Mending}
 use Rattle.mend.specs.declared.Mending.the-variants as Mending
 use Rattle.mend.specs.Mend.{blockLike, emptied, refilled, blanked, laterWhole, lastGroup, rewriting, groupsAfter, mendGroups}
-use Rattle.mend.specs.Plan.{rewriteOf, mendingAfter, mending, lastAnswer, lastBytes, rewriteAnswer, rewriteBytes, mendAnswer, mendBytes}
+use Rattle.mend.specs.Plan.{rewriteOf, mendingAfter, mending, planStores, partFor, rewriteAnswer, rewriteBytes, neededTests, noneNumber}
 use Rattle.mend.specs.Plan as Mend
 use Rattle.sectors.specs.Sectors.{known, settled}
 use Rattle.sectors.specs.Demand.{SameCopy, SameBoth}
@@ -55,10 +54,9 @@ use Rattle.sectors.proofs.Alone.{fields-of, whole-same, block-bytes, alone}
 use Rattle.sectors.proofs.Placed.{placed}
 use Rattle.sectors.proofs.Demand.{settled-same}
 
--- three tests in a row, with answers that are the same
-three : {T : Type 0} (p q r : Bool) {x y z u v w : T} (n : T) → x ≡ u → y ≡ v → z ≡ w → cond p x (cond q y (cond r z n)) ≡ cond p u (cond q v (cond r w n))
-three {T} p q r n d e f =
-    ap₂ (λ (s t : T). cond p s t) d (ap₂ (λ (s t : T). cond q s t) e (ap (λ (s : T). cond r s n) f))
+-- two tests in a row, with answers that are the same
+two : {T : Type 0} (p q : Bool) {x y z u v w : T} → x ≡ u → y ≡ v → z ≡ w → cond p x (cond q y z) ≡ cond p u (cond q v w)
+two {T} p q d e f = ap₂ (λ (s t : T). cond p s t) d (ap₂ (λ (s t : T). cond q s t) e f)
 
 -- one copy, whose block has the same bytes, and which has the size of a copy or not as the other
 module _ (c e : List ℕ) (h : blockIn e ≡ blockIn c) (z : isCopy e ≡ isCopy c) where
@@ -94,24 +92,34 @@ module _ (c e : List ℕ) (h : blockIn e ≡ blockIn c) (z : isCopy e ≡ isCopy
     part-left : partLeft p k e r j out ≡ partLeft p k c q j out
     part-left = ap₂ (λ (n : ℕ) (a : List ℕ). cond (eqb n 0) a out) part-number part-bytes
 
-  last-answer : (l : Last) (out : List ℕ) → lastAnswer l e out ≡ lastAnswer l c out
-  last-answer Last.Absent out = refl
-  last-answer (Last.Blank s g) out = block-given s g out
-
-  last-bytes : (l : Last) (out : List ℕ) → lastBytes l e out ≡ lastBytes l c out
-  last-bytes Last.Absent out = refl
-  last-bytes (Last.Blank s g) out = block-left g out
-
   module _ (p : Rewrite) (i : ℕ) (out : List ℕ) (d : areaBytes e (p .area) (p .bytes) ≡ areaBytes c (p .area) (p .bytes)) where
-    rewrite-answer : rewriteAnswer p e i out ≡ rewriteAnswer p c i out
-    rewrite-answer =
-        three (eqb i 0) (leb i (p .sectors + 1)) (leb i (p .sectors + 2)) (Given.Refused noStore) (block-given (p .part .block) (p .empty) out)
-        (part-given (p .part) (p .sectors) (areaBytes e (p .area) (p .bytes)) (areaBytes c (p .area) (p .bytes)) (i - 1) out d) (last-answer (p .last) out)
+    abbrev x : BlockFields
+    x = fieldsOf (blockIn c)
 
-    rewrite-bytes : rewriteBytes p e i out ≡ rewriteBytes p c i out
+    rewrite-answer : rewriteAnswer p (fieldsOf (blockIn e)) e i out ≡ rewriteAnswer p (fieldsOf (blockIn c)) c i out
+    rewrite-answer =
+        ap (λ (s : List ℕ). rewriteAnswer p (fieldsOf s) e i out) h
+        ∙ two (eqb i 0) (leb i (sectorsOf (p .bytes) + 1)) (block-given (blockSector (otherSide (p .kept)) (x .device)) (emptied (x .device)) out)
+        (part-given (partFor (otherSide (p .kept)) (p .area) x) (sectorsOf (p .bytes)) (areaBytes e (p .area) (p .bytes)) (areaBytes c (p .area) (p .bytes)) (i - 1) out d)
+        (block-given (blockSector (p .kept) (x .device)) (withEntry x (otherArea (p .area)) Unused) out)
+
+    rewrite-bytes : rewriteBytes p (fieldsOf (blockIn e)) e i out ≡ rewriteBytes p (fieldsOf (blockIn c)) c i out
     rewrite-bytes =
-        three (eqb i 0) (leb i (p .sectors + 1)) (leb i (p .sectors + 2)) out (block-left (p .empty) out)
-        (part-left (p .part) (p .sectors) (areaBytes e (p .area) (p .bytes)) (areaBytes c (p .area) (p .bytes)) (i - 1) out d) (last-bytes (p .last) out)
+        ap (λ (s : List ℕ). rewriteBytes p (fieldsOf s) e i out) h
+        ∙ two (eqb i 0) (leb i (sectorsOf (p .bytes) + 1)) (block-left (emptied (x .device)) out)
+        (part-left (partFor (otherSide (p .kept)) (p .area) x) (sectorsOf (p .bytes)) (areaBytes e (p .area) (p .bytes)) (areaBytes c (p .area) (p .bytes)) (i - 1) out d)
+        (block-left (withEntry x (otherArea (p .area)) Unused) out)
+
+  -- one side of an update's plan with that copy
+  module _ (w : Side) (x : Area) (q : Holding) (k : ℕ) (r : List ℕ) (j : ℕ) (out : List ℕ) where
+    abbrev from : List ℕ → Part
+    from s = record { area = areaSector w x (deviceOf s); block = blockSector w (deviceOf s); fields = withEntry (fieldsOf s) x (Used q) }
+
+    side-given : partGiven (partOn w x q e) k e r j out ≡ partGiven (partOn w x q c) k c r j out
+    side-given = ap (λ (s : List ℕ). partGiven (from s) k e r j out) h ∙ part-given (partOn w x q c) k r r j out refl
+
+    side-left : partLeft (partOn w x q e) k e r j out ≡ partLeft (partOn w x q c) k c r j out
+    side-left = ap (λ (s : List ℕ). partLeft (from s) k e r j out) h ∙ part-left (partOn w x q c) k r r j out refl
 
   -- and whose newest area is whole or not the same
   module _ (l : laterWhole e ≡ laterWhole c) where
@@ -143,8 +151,8 @@ module _ {f b g k : List ℕ} (sf : SameCopy f g) (sb : SameCopy b k) (hf : bloc
   block-on Front = hf
   block-on Back = hb
 
-  lent-same : (out : List ℕ) → lentRight g k out ≡ lentRight f b out
-  lent-same out = ap₂ (λ (s t : Bool). (s && t) && eqb (length out) 512) zf zb
+  sized-same : sized g k ≡ sized f b
+  sized-same = ap₂ (λ (s t : Bool). s && t) zf zb
 
   copy-at : (s : Side) → isCopy (copyOn s g k) ≡ isCopy (copyOn s f b)
   copy-at Front = zf
@@ -165,34 +173,48 @@ module _ {f b g k : List ℕ} (sf : SameCopy f g) (sb : SameCopy b k) (hf : bloc
       go (Answer.Found q o) e =
           ap (λ (s : Bool). cond s Mending.InStep (Mending.Needed (rewriteOf q))) (same .step)
 
+  -- a store of a mend m of the first copies
   module _ (i : ℕ) (out : List ℕ) where
-    mend-given : (mendAnswer (mending f b) g k i out ≡ mendAnswer (mending f b) f b i out) × (mendBytes (mending f b) g k i out ≡ mendBytes (mending f b) f b i out)
+    abbrev Alike : Mending → Type 0
+    Alike m = (Mend.storeAnswer m g k i out ≡ Mend.storeAnswer m f b i out) × (Mend.storeBytes m g k i out ≡ Mend.storeBytes m f b i out)
+
+    none-given : (Given.Refused (noneNumber g k (length out)) ≡ Given.Refused (noneNumber f b (length out))) × (out ≡ out)
+    none-given = (ap (λ (s : Bool). Given.Refused (cond (s && eqb (length out) 512) noStore sliceSize)) sized-same, refl)
+
+    needed-given : (q : Finding) (o : Other) → discovery f b ≡ Answer.Found q o → Alike (Mending.Needed (rewriteOf q))
+    needed-given q o e =
+        let number : first (neededTests (rewriteOf q) g k (copyOn (q .side) g k) i out) ≡ first (neededTests (rewriteOf q) f b (copyOn (q .side) f b) i out) =
+        ap₂
+        (λ (s : Bool) (c : List ℕ). first
+        ((s && eqb (length out) 512 elseRefuse sliceSize)
+        ∷ (lengthAllowed (holdingOf (entryIn (fieldsOf c) (q .area)) .bytes) elseRefuse recordLength)
+        ∷ (eqb (holdingOf (entryIn (fieldsOf c) (q .area)) .bytes) (q .bytes) elseRefuse sliceSize)
+        ∷ (ltb i (planStores (rewriteOf q)) elseRefuse noStore)
+        ∷ []))
+        sized-same (block-on (q .side)) in (
+          ap₂ (λ (n : ℕ) (a : Given). cond (eqb n 0) a (Given.Refused n)) number
+          (rewrite-answer (copyOn (q .side) f b) (copyOn (q .side) g k) (block-on (q .side)) (copy-at (q .side)) (rewriteOf q) i out (same .bytes q o e)),
+          ap₂ (λ (n : ℕ) (a : List ℕ). cond (eqb n 0) a out) number
+          (rewrite-bytes (copyOn (q .side) f b) (copyOn (q .side) g k) (block-on (q .side)) (copy-at (q .side)) (rewriteOf q) i out (same .bytes q o e)),
+        )
+
+    mend-given : Alike (mending f b)
     unfolding mending
     mend-given = go (discovery f b) refl
       where
-        go : (a : Answer) → discovery f b ≡ a
-            → (mendAnswer (mendingAfter a f b) g k i out ≡ mendAnswer (mendingAfter a f b) f b i out) × (mendBytes (mendingAfter a f b) g k i out ≡ mendBytes (mendingAfter a f b) f b i out)
-        go (Answer.Refused n) e = (refl, refl)
+        go : (a : Answer) → discovery f b ≡ a → Alike (mendingAfter a f b)
+        go (Answer.Refused n) e = none-given
         go (Answer.Found q o) e = each (inStep f b)
           where
-            each : (s : Bool)
-                → (mendAnswer (cond s Mending.InStep (Mending.Needed (rewriteOf q))) g k i out ≡ mendAnswer (cond s Mending.InStep (Mending.Needed (rewriteOf q))) f b i out)
-                × (mendBytes (cond s Mending.InStep (Mending.Needed (rewriteOf q))) g k i out ≡ mendBytes (cond s Mending.InStep (Mending.Needed (rewriteOf q))) f b i out)
-            each true = (refl, refl)
-            each false = (
-              rewrite-answer (copyOn (q .side) f b) (copyOn (q .side) g k) (block-on (q .side)) (copy-at (q .side)) (rewriteOf q) i out (same .bytes q o e),
-              rewrite-bytes (copyOn (q .side) f b) (copyOn (q .side) g k) (block-on (q .side)) (copy-at (q .side)) (rewriteOf q) i out (same .bytes q o e),
-            )
+            each : (s : Bool) → Alike (cond s Mending.InStep (Mending.Needed (rewriteOf q)))
+            each true = none-given
+            each false = needed-given q o e
 
   mend-place : (i : ℕ) (out : List ℕ) → Mend.storeAnswer (mending g k) g k i out ≡ Mend.storeAnswer (mending f b) f b i out
-  mend-place i out =
-      ap₂ (λ (t : Bool) (a : Given). cond t a (Given.Refused sliceSize)) (lent-same out)
-      (ap (λ (m : Mending). mendAnswer m g k i out) mends ∙ mend-given i out .0)
+  mend-place i out = ap (λ (m : Mending). Mend.storeAnswer m g k i out) mends ∙ mend-given i out .0
 
   mend-bytes : (i : ℕ) (out : List ℕ) → Mend.storeBytes (mending g k) g k i out ≡ Mend.storeBytes (mending f b) f b i out
-  mend-bytes i out =
-      ap₂ (λ (t : Bool) (a : List ℕ). cond t a out) (lent-same out)
-      (ap (λ (m : Mending). mendBytes m g k i out) mends ∙ mend-given i out .1)
+  mend-bytes i out = ap (λ (m : Mending). Mend.storeBytes m g k i out) mends ∙ mend-given i out .1
 
   mend-groups : mendGroups g k ≡ mendGroups f b
   unfolding mendGroups
@@ -222,23 +244,28 @@ module _ {f b g k : List ℕ} (sf : SameCopy f g) (sb : SameCopy b k) (hf : bloc
   module _ (p : Plan) (r : List ℕ) (i : ℕ) (out : List ℕ) where
     sides-answer : sidesAnswer p g k r i out ≡ sidesAnswer p f b r i out
     sides-answer =
-        ap₂ (λ (x y : Given). cond (leb i (p .sectors)) x y) (part-given f g hf zf (p .front) (p .sectors) r r i out refl)
-        (part-given b k hb zb (p .back) (p .sectors) r r (i - (p .sectors + 1)) out refl)
+        ap₂ (λ (x y : Given). cond (leb i (sectorsIn p)) x y) (side-given f g hf zf Front (p .front) (p .entry) (sectorsIn p) r i out)
+        (side-given b k hb zb Back (p .back) (p .entry) (sectorsIn p) r (i - (sectorsIn p + 1)) out)
 
     sides-bytes : sidesBytes p g k r i out ≡ sidesBytes p f b r i out
     sides-bytes =
-        ap₂ (λ (x y : List ℕ). cond (leb i (p .sectors)) x y) (part-left f g hf zf (p .front) (p .sectors) r r i out refl)
-        (part-left b k hb zb (p .back) (p .sectors) r r (i - (p .sectors + 1)) out refl)
+        ap₂ (λ (x y : List ℕ). cond (leb i (sectorsIn p)) x y) (side-left f g hf zf Front (p .front) (p .entry) (sectorsIn p) r i out)
+        (side-left b k hb zb Back (p .back) (p .entry) (sectorsIn p) r (i - (sectorsIn p + 1)) out)
 
     abbrev tests-of : Bool → List Test
-    tests-of t = (t elseRefuse sliceSize) ∷ (lengthAllowed (length r) elseRefuse recordLength) ∷ (ltb i (storesIn p) elseRefuse noStore) ∷ []
+    tests-of t =
+        (t && eqb (length out) 512 elseRefuse sliceSize)
+        ∷ (lengthAllowed (length r) elseRefuse recordLength)
+        ∷ (eqb (length r) (p .entry .bytes) elseRefuse sliceSize)
+        ∷ (ltb i (storesIn p) elseRefuse noStore)
+        ∷ []
 
     update-place : Update.storeAnswer p g k r i out ≡ Update.storeAnswer p f b r i out
     update-place =
-        ap₂ (λ (t : Bool) (a : Given). cond (eqb (first (tests-of t)) 0) a (Given.Refused (first (tests-of t)))) (lent-same out) sides-answer
+        ap₂ (λ (t : Bool) (a : Given). cond (eqb (first (tests-of t)) 0) a (Given.Refused (first (tests-of t)))) sized-same sides-answer
 
     update-bytes : Update.storeBytes p g k r i out ≡ Update.storeBytes p f b r i out
-    update-bytes = ap₂ (λ (t : Bool) (a : List ℕ). cond (eqb (first (tests-of t)) 0) a out) (lent-same out) sides-bytes
+    update-bytes = ap₂ (λ (t : Bool) (a : List ℕ). cond (eqb (first (tests-of t)) 0) a out) sized-same sides-bytes
 
   update-groups : (t : Time) (r : List ℕ) → updateGroups g k t r ≡ updateGroups f b t r
   unfolding updateGroups newBlock

@@ -189,7 +189,7 @@ pub(crate) fn run(i: usize) -> u8 {
 // The version.
 pub(crate) fn version() -> u8 {
     facts::unless(
-        put(true, b"amseokbin 0.1, for the Stratis 0.6 layout\n"),
+        put(true, b"amseokbin 0.2, for the Stratis 0.6 layout\n"),
         facts::FAILED,
     )
 }

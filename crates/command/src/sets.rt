@@ -15,9 +15,6 @@ pub(crate) const STRIDE: usize = 16 + layout::SECTOR_BYTES;
 
 pub(crate) const BYTES: usize = ENTRIES * STRIDE;
 
-// The sectors of a copy's two areas.
-const AREAS: usize = copies::SECTORS - copies::HEADER;
-
 // The entries of the two blocks.
 pub(crate) const FRONT_BLOCK: usize = 1;
 
@@ -127,36 +124,16 @@ pub(crate) fn placed(set: &[u8], d: Device) -> bool {
     all
 }
 
-// The entry that is written at a step: the back's areas, its header, the front's areas, its header. A block is written after the
-// areas that it names.
-fn entry_of(step: usize) -> usize {
-    if step < AREAS {
-        return step + copies::SECTORS + copies::HEADER;
-    }
-    if step < copies::SECTORS {
-        return step - AREAS + copies::SECTORS;
-    }
-    if step < copies::SECTORS + AREAS {
-        return step - copies::SECTORS + copies::HEADER;
-    }
-    step - copies::SECTORS - AREAS
-}
-
-// Whether a flush is due after a step: after the areas and after the header of each copy.
-fn flush_due(step: usize) -> bool {
-    let back = (step == AREAS - 1) | (step == copies::SECTORS - 1);
-    back | ((step == copies::SECTORS + AREAS - 1) | (step == ENTRIES - 1))
-}
-
-// Writes the entry of a step, where it was read, with a flush where one is due; whether that went well.
+// Writes the entry of a step, in the order of formatting's stores, where it was read, with a flush where one is due; whether that went
+// well.
 fn write_step(fd: i32, path: &[u8], set: &[u8], step: usize) -> bool {
-    let k = entry_of(step);
+    let k = format::position(step as u64);
     if was_read(set, k) {
         if !storing::write(fd, path, sector_of(set, k), bytes_at(set, k)) {
             return false;
         }
     }
-    storing::flush(fd, path, flush_due(step))
+    storing::flush(fd, path, format::flush(step as u64))
 }
 
 // Writes a set to the drive, up to the first write or flush that fails; whether all went well.

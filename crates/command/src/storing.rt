@@ -43,6 +43,14 @@ fn group(w: Work, i: u64) -> u8 {
     }
 }
 
+// Whether a flush belongs after a store.
+fn flush_after(w: Work, i: u64) -> bool {
+    match w {
+        Work::Change(p) => update::flush(p, i),
+        Work::Repair(m) => mend::flush(m, i),
+    }
+}
+
 // A store by its number.
 fn given(w: Work, f: &[u8], b: &[u8], r: &[u8], i: u64, out: &mut [u8]) -> Given {
     match w {
@@ -140,10 +148,7 @@ fn write_store(fd: i32, path: &[u8], w: Work, i: u64, list: &[u8]) -> bool {
     ) {
         return false;
     }
-    if i == 18446744073709551615 {
-        return false;
-    }
-    flush(fd, path, group(w, i) != group(w, i + 1))
+    flush(fd, path, flush_after(w, i))
 }
 
 // Writes all stores of the list, up to the first that fails; whether all went well. A flush comes first, so that what the copies were
@@ -213,7 +218,8 @@ fn add_part(t: Text, n: u64, j: u64) -> Text {
 fn part_of(w: Work, i: u64) -> u64 {
     match w {
         Work::Change(p) => {
-            let k = p.sectors as u64;
+            let e = p.entry;
+            let k = stores::sectors(e.bytes) as u64;
             if i <= k {
                 return i;
             }
