@@ -1,3 +1,4 @@
 -- The claims, proved.
 pub mod Chain
 pub mod Unread
+pub mod InMemory

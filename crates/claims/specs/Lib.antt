@@ -1,3 +1,4 @@
 -- What holds of the crates together.
 pub mod Chain
 pub mod Unread
+pub mod InMemory
