@@ -4,3 +4,4 @@ pub mod Copies
 pub mod Records
 pub mod Room
 pub mod Plans
+pub mod Demand

@@ -193,9 +193,9 @@ module _ {f b g k : List ℕ} (sf : SameCopy f g) (sb : SameCopy b k) (hf : bloc
         ∷ []))
         sized-same (block-on (q .side)) in (
           ap₂ (λ (n : ℕ) (a : Given). cond (eqb n 0) a (Given.Refused n)) number
-          (rewrite-answer (copyOn (q .side) f b) (copyOn (q .side) g k) (block-on (q .side)) (copy-at (q .side)) (rewriteOf q) i out (same .bytes q o e)),
+              (rewrite-answer (copyOn (q .side) f b) (copyOn (q .side) g k) (block-on (q .side)) (copy-at (q .side)) (rewriteOf q) i out (same .bytes q o e)),
           ap₂ (λ (n : ℕ) (a : List ℕ). cond (eqb n 0) a out) number
-          (rewrite-bytes (copyOn (q .side) f b) (copyOn (q .side) g k) (block-on (q .side)) (copy-at (q .side)) (rewriteOf q) i out (same .bytes q o e)),
+              (rewrite-bytes (copyOn (q .side) f b) (copyOn (q .side) g k) (block-on (q .side)) (copy-at (q .side)) (rewriteOf q) i out (same .bytes q o e)),
         )
 
     mend-given : Alike (mending f b)

@@ -14,8 +14,8 @@ use Rattle.endian.proofs.Parts.{splice-short, write-fits, write-short}
 use Rattle.segments.specs.declared.Segment.{Segment}
 use Rattle.items.specs.declared.Put.{Put}
 use Rattle.items.specs.declared.Put.the-variants as Put
-use Rattle.items.specs.Head.{headOf, headAllowed, itemBytes}
-use Rattle.items.specs.Making.{segmentBytes, place, putTests, putAnswer, putLeft}
+use Rattle.items.specs.Head.{itemBytes}
+use Rattle.items.specs.Making.{segmentBytes, place, begins, putTests, putAnswer, putLeft}
 use Rattle.items.proofs.Making.{length-segment}
 
 fits-yes : (s : List ℕ) (a n : ℕ) → a + n ≤ length s → fits s a n ≡ true
@@ -33,14 +33,14 @@ module _ (out : List ℕ) (i : ℕ) (g : Segment) where
     answer-no (splice out (place out i) (segmentBytes g)) (λ (k : ℕ). out) n (first (putTests out i)) e z,
   )
 
-  pub put-no-head : headAllowed (headOf out) ≡ false → (Put.Refused 17 ≡ putAnswer out i) × (out ≡ putLeft out i g)
-  put-no-head h = put-refused 17 (sym (first-fail (headAllowed (headOf out)) 17 _ h)) (λ z. omega arith)
+  pub put-no-head : begins out ≡ false → (Put.Refused 17 ≡ putAnswer out i) × (out ≡ putLeft out i g)
+  put-no-head h = put-refused 17 (sym (first-fail (begins out) 17 _ h)) (λ z. omega arith)
 
-  module _ (y : headAllowed (headOf out) ≡ true) (at : ℕ) (e : at ≡ min (place out i) (length out)) (n : ℕ) (en : n ≡ writeNumber out at itemBytes)
+  module _ (y : begins out ≡ true) (at : ℕ) (e : at ≡ min (place out i) (length out)) (n : ℕ) (en : n ≡ writeNumber out at itemBytes)
       (w : List ℕ) (ew : w ≡ splice out at (segmentBytes g)) where
     tests : (b : Bool) → fits out (place out i) itemBytes ≡ b → first (putTests out i) ≡ cond b 0 1
-    tests true h = first-pass (headAllowed (headOf out)) 17 _ y ∙ (first-pass (fits out (place out i) itemBytes) 1 [] h ∙ first-nil)
-    tests false h = first-pass (headAllowed (headOf out)) 17 _ y ∙ first-fail (fits out (place out i) itemBytes) 1 [] h
+    tests true h = first-pass (begins out) 17 _ y ∙ (first-pass (fits out (place out i) itemBytes) 1 [] h ∙ first-nil)
+    tests false h = first-pass (begins out) 17 _ y ∙ first-fail (fits out (place out i) itemBytes) 1 [] h
 
     fitting : place out i + itemBytes ≤ length out → at ≡ place out i
     fitting h = omega arith

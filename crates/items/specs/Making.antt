@@ -1,12 +1,12 @@
 -- Making a record: the bytes of a head and of segments one after the other.
 use Prim.Native.Nat.{ℕ, _+_, _*_}
-use mathlib.Core.Bool.{cond}
+use mathlib.Core.Bool.{Bool, cond, _&&_}
 use mathlib.Core.List.{List, [], _∷_, _++_}
-use lib.Dec.{eqb}
-use lib.ListN.{take, drop}
+use lib.Dec.{eqb, leb}
+use lib.ListN.{length, take, drop}
 use Rattle.refusal.specs.Numbers.{recordForm, sliceSize}
 use Rattle.refusal.specs.Tests.{Test, _elseRefuse_, first}
-use Rattle.endian.specs.Bytes.{toLe, splice, fits}
+use Rattle.endian.specs.Bytes.{le, toLe, window, splice, fits}
 use Rattle.segments.specs.declared.Segment.{Segment}
 use Rattle.items.specs.declared.Head.{Head}
 use Rattle.items.specs.declared.Put.{Put}
@@ -49,10 +49,14 @@ beginTests out h = (fits out 0 (headSize h) elseRefuse sliceSize) ∷ (headAllow
 abbrev pub begun : List ℕ → Head → List ℕ
 begun out h = unless (first (beginTests out h)) (splice out 0 (headBytes h)) out
 
--- A segment put at position i of a record that was begun in out: 17 where there is no head within its limits, then 1 for too little room. The
+-- s begins with a head: of the length of its kind, all of it there, and within its limits
+unfoldable pub begins : List ℕ → Bool
+begins s = eqb (le (window s 0 2)) (headSize (headOf s)) && (leb (headSize (headOf s)) (length s) && headAllowed (headOf s))
+
+-- A segment put at position i of a record that was begun in out: 17 where out does not begin with a head, then 1 for too little room. The
 -- answer is the length of the record that ends with it.
 abbrev pub putTests : List ℕ → ℕ → List Test
-putTests out i = (headAllowed (headOf out) elseRefuse recordForm) ∷ (fits out (place out i) itemBytes elseRefuse sliceSize) ∷ []
+putTests out i = (begins out elseRefuse recordForm) ∷ (fits out (place out i) itemBytes elseRefuse sliceSize) ∷ []
 
 abbrev pub putAnswer : List ℕ → ℕ → Put
 putAnswer out i = cond (eqb (first (putTests out i)) 0) (Put.Length (place out i + itemBytes)) (Put.Refused (first (putTests out i)))

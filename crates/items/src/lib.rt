@@ -13,7 +13,7 @@ ghost use Rattle.segments.specs.Segments.{nth};
 ghost use Rattle.items.specs.declared.Head.the-variants.{Plain};
 ghost use Rattle.items.specs.Head.{itemOf, isSegment, headOf, headSize, headBytes, blockSize, blockSizeAllowed, headAllowed, headRight, allows, rangeFor, itemBytes, mostSegments};
 ghost use Rattle.items.specs.Items.{itemsOf, segmentOf, segmentsIn, segments, itemRight, framed, wellFormed};
-ghost use Rattle.items.specs.Making.{segmentBytes, place, beginTests, begun, putAnswer, putLeft};
+ghost use Rattle.items.specs.Making.{segmentBytes, place, beginTests, begun, begins, putAnswer, putLeft};
 
 // Bytes of a segment's item.
 pub const ITEM_BYTES: usize = 20;
@@ -339,13 +339,23 @@ pub fn put_segment(out: &mut [u8], at: usize, g: Segment) -> u8
     refusal::NONE
 }
 
+// Whether s begins with a head: of the length of its kind, all of it there, and within its limits.
+fn begins(s: &[u8]) -> bool
+    ensures { λ r. ⌜ r ≡ begins (now (s .entry)) ⌝ }
+{
+    let h = head_of(s);
+    let n = head_size(h);
+    let whole = (n <= s.len()) & head_allowed(h);
+    (endian::read_u16(s, 0) as usize == n) & whole
+}
+
 // Puts a segment at position i of a record that was begun in out; the record that ends with it then has so many bytes. 17 where out does
-// not begin with a head within its limits, 1, last, where there is no room; then out stays.
+// not begin with a head, 1, last, where there is no room; then out stays.
 pub fn put_at(out: &mut [u8], i: usize, g: Segment) -> Put
     ensures { λ r. ⌜ r ≡ putAnswer (now (out .entry)) i ⌝ }
     ensures { λ _. ⌜ now (out .exit) ≡ putLeft (now (out .entry)) i g ⌝ }
 {
-    if !head_allowed(head_of(out)) {
+    if !begins(out) {
         return Put::Refused(refusal::RECORD_FORM);
     }
     let at = place_in(out, i);

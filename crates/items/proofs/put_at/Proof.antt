@@ -1,23 +1,19 @@
 -- `items::put_at` meets its contract.
-use mathlib.Core.Path.{ap, sym, _∙_}
+use mathlib.Core.Path.{sym, _∙_}
 use borrow.Author.Tests.{not-true, not-false}
-use Rattle.items.specs.Head.{headAllowed}
 use Rattle.items.proofs.Putting.{put-no-head, put-no-room, put-done}
 use borrow.Author.Needs.{needs}
 use Rattle.items.proofs.put_at.Statement.{statement}
 use Rattle.items.proofs.put_at.Tie as tie
 
-head-of-requires : tie.Need-head-of-requires
-head-of-requires c κs = search needs
-
-head-allowed-requires : tie.Need-head-allowed-requires
-head-allowed-requires c κs = search needs
+begins-requires : tie.Need-begins-requires
+begins-requires c κs = search needs
 
 same-length : tie.Need-same-length
 same-length c = search needs
 
 returns : tie.Need-returns
-returns c = put-no-head (c .before .before .before .before .before .args .out .now) (c .before .before .before .before .before .args .i) (c .before .before .before .before .before .args .g) (sym (c .before .head-allowed .ensures ∙ ap headAllowed (c .before .before .head-of .ensures)) ∙ not-true (c .before .head-allowed .result) (c .if1 .taken))
+returns c = put-no-head (c .before .before .before .before .args .out .now) (c .before .before .before .before .args .i) (c .before .before .before .before .args .g) (sym (c .before .begins .ensures) ∙ not-true (c .before .begins .result) (c .if1 .taken))
 
 place-in-requires : tie.Need-place-in-requires
 place-in-requires c κs = search needs
@@ -29,29 +25,28 @@ same-length-2 : tie.Need-same-length-2
 same-length-2 c = search needs
 
 returns-2 : tie.Need-returns-2
-returns-2 c = put-no-room (c .before .before .before .before .before .before .before .before .before .before .before .before .args .out .now) (c .before .before .before .before .before .before .before .before .before .before .before .before .args .i) (c .before .before .before .before .before .before .before .before .before .before .before .before .args .g) (sym (c .before .before .before .before .before .before .before .before .head-allowed .ensures ∙ ap headAllowed (c .before .before .before .before .before .before .before .before .before .head-of .ensures)) ∙ not-false (c .before .before .before .before .before .before .before .before .head-allowed .result) (c .before .before .before .before .before .before .before .if1 .left)) (c .before .before .before .before .before .place-in .result) (c .before .before .before .before .before .place-in .ensures) (c .before .before .before .put-segment .result) (c .before .before .before .put-segment .ensures .0) _ (c .before .before .before .put-segment .ensures .1) (c .if2 .taken)
+returns-2 c = put-no-room (c .before .before .before .before .before .before .before .before .before .before .before .args .out .now) (c .before .before .before .before .before .before .before .before .before .before .before .args .i) (c .before .before .before .before .before .before .before .before .before .before .before .args .g) (sym (c .before .before .before .before .before .before .before .before .begins .ensures) ∙ not-false (c .before .before .before .before .before .before .before .before .begins .result) (c .before .before .before .before .before .before .before .if1 .left)) (c .before .before .before .before .before .place-in .result) (c .before .before .before .before .before .place-in .ensures) (c .before .before .before .put-segment .result) (c .before .before .before .put-segment .ensures .0) _ (c .before .before .before .put-segment .ensures .1) (c .if2 .taken)
 
-add-t15 : tie.Need-add-t15
-add-t15 c = search needs
+add-t14 : tie.Need-add-t14
+add-t14 c = search needs
 
 same-length-3 : tie.Need-same-length-3
 same-length-3 c = search needs
 
 returns-3 : tie.Need-returns-3
-returns-3 c = put-done (c .before .before .before .before .before .before .before .before .before .before .before .before .args .out .now) (c .before .before .before .before .before .before .before .before .before .before .before .before .args .i) (c .before .before .before .before .before .before .before .before .before .before .before .before .args .g) (sym (c .before .before .before .before .before .before .before .before .head-allowed .ensures ∙ ap headAllowed (c .before .before .before .before .before .before .before .before .before .head-of .ensures)) ∙ not-false (c .before .before .before .before .before .before .before .before .head-allowed .result) (c .before .before .before .before .before .before .before .if1 .left)) (c .before .before .before .before .before .place-in .result) (c .before .before .before .before .before .place-in .ensures) (c .before .before .before .put-segment .result) (c .before .before .before .put-segment .ensures .0) _ (c .before .before .before .put-segment .ensures .1) (c .if2 .left)
+returns-3 c = put-done (c .before .before .before .before .before .before .before .before .before .before .before .args .out .now) (c .before .before .before .before .before .before .before .before .before .before .before .args .i) (c .before .before .before .before .before .before .before .before .before .before .before .args .g) (sym (c .before .before .before .before .before .before .before .before .begins .ensures) ∙ not-false (c .before .before .before .before .before .before .before .before .begins .result) (c .before .before .before .before .before .before .before .if1 .left)) (c .before .before .before .before .before .place-in .result) (c .before .before .before .before .before .place-in .ensures) (c .before .before .before .put-segment .result) (c .before .before .before .put-segment .ensures .0) _ (c .before .before .before .put-segment .ensures .1) (c .if2 .left)
 
 pub put-at-spec : {M : Type 1} → statement M
 put-at-spec =
     tie.close
     (tie.spec
-    head-of-requires
-    head-allowed-requires
+    begins-requires
     same-length
     returns
     place-in-requires
     put-segment-requires
     same-length-2
     returns-2
-    add-t15
+    add-t14
     same-length-3
     returns-3)
