@@ -217,6 +217,16 @@ fn sizes_in_c_are_those_of_the_table() {
     }
 }
 
+/// The stack of every function is measured.
+#[test]
+fn every_function_is_in_stack_c() {
+    let stack = include_str!("../../stack.c");
+    for declaration in statements().iter().filter_map(|statement| function(statement)) {
+        let name = declaration.trim_start_matches("fn").split('(').next().expect("a name");
+        assert!(stack.contains(&format!("{name}(")), "tests/stack.c does not call {name}");
+    }
+}
+
 /// Each name and number that the header defines or enumerates.
 fn numbers() -> Vec<(String, u64)> {
     let code = code();
