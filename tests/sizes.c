@@ -336,6 +336,48 @@ static void plans(void)
     LOOK(amseokbin_mend_count(mend) == 0), LOOK(amseokbin_mend_group(mend, 0) == AMSEOKBIN_NO_GROUP);
 }
 
+/* What lies between the fields of a struct that goes in is the caller's, and may be anything. */
+#define FILLED(type, name) \
+    struct type name;      \
+    memset(&name, 0xff, sizeof name)
+
+static void padding(void)
+{
+    FILLED(amseokbin_time, early);
+    FILLED(amseokbin_time, late);
+    FILLED(amseokbin_segment, segment);
+    FILLED(amseokbin_update, plan);
+    FILLED(amseokbin_block, block);
+    struct amseokbin_block_answer read;
+    struct amseokbin_update_answer update;
+    struct amseokbin_store_answer store;
+
+    early.seconds = 1000000000, early.nanoseconds = 8;
+    late.seconds = 1000000000, late.nanoseconds = 9;
+    LOOK(amseokbin_later(late, early)), LOOK(!amseokbin_later(early, late)), LOOK(!amseokbin_later(late, late));
+    OK(amseokbin_record_begin(record, sizeof record, 256));
+    segment.kind = AMSEOKBIN_SPARE, segment.start = 3000, segment.sectors = 50;
+    OK(amseokbin_record_put(record, sizeof record, 0, segment).refusal);
+    LOOK(number_at(record + 10, 2) == 3 && number_at(record + 12, 8) == 3000 && number_at(record + 20, 8) == 50);
+    OK(amseokbin_format(COPIES, device, pool, 32, blockdev, 32, early, record, 28));
+    OK(amseokbin_update_check(COPIES, late, record, 28));
+    update = amseokbin_update_plan(COPIES, late, record, 28);
+    OK(update.refusal), LOOK(update.plan.entry.seconds == 1000000000 && update.plan.entry.nanoseconds == 9);
+    plan.entry.seconds = 1000000000, plan.entry.nanoseconds = 9, plan.entry.bytes = 28;
+    plan.entry.checksum = update.plan.entry.checksum, plan.front = AMSEOKBIN_AREA_B, plan.back = AMSEOKBIN_AREA_B;
+    LOOK(amseokbin_update_count(plan) == 4), LOOK(amseokbin_update_group(plan, 1) == 1);
+    store = amseokbin_update_store(plan, COPIES, record, 28, 3, bytes, sizeof bytes);
+    OK(store.refusal), LOOK(store.sector == 2999993);
+    read = amseokbin_block_read(bytes, sizeof bytes);
+    OK(read.refusal), LOOK(read.block.b.checksum == plan.entry.checksum && read.block.b.nanoseconds == 9);
+    block.device = device, memcpy(block.pool, pool, 32), memcpy(block.blockdev, blockdev, 32);
+    block.a.seconds = 1, block.a.nanoseconds = 2, block.a.bytes = 3, block.a.checksum = 4;
+    block.b.seconds = 5, block.b.nanoseconds = 6, block.b.bytes = 7, block.b.checksum = 8;
+    OK(amseokbin_block_write(block, bytes, sizeof bytes));
+    read = amseokbin_block_read(bytes, sizeof bytes);
+    OK(read.refusal), LOOK(same_block(read.block, block));
+}
+
 int main(void)
 {
     sizes();
@@ -344,6 +386,7 @@ int main(void)
     records();
     copies();
     plans();
+    padding();
     if (failed > 0) {
         fprintf(stderr, "sizes: %d of %d are not as they should be\n", failed, looked_at);
         return 1;

@@ -191,6 +191,25 @@ fn structs_are_those_of_the_header() {
     assert_eq!(header, source);
 }
 
+/// The example in Rust repeats some of the header, with names of its own.
+#[test]
+fn the_example_is_as_the_header() {
+    let example = include_str!("../../../examples/discover.rs");
+    let own = [("Refused", "Refusal"), ("EntryFields", "Entry"), ("BlockFields", "Block"), ("FoundAnswer", "Found")];
+    let renamed = |text: String| own.iter().fold(text, |text, (ours, own)| text.replace(ours, own));
+    let statements = statements();
+    let structs: Vec<String> = statements.iter().filter_map(|statement| structure(statement)).map(renamed).collect();
+    let functions: Vec<String> = statements.iter().filter_map(|statement| function(statement)).map(renamed).collect();
+    let (own_structs, own_functions) = (structs_of(example), functions_of(example));
+    assert_eq!((own_structs.len(), own_functions.len()), (7, 2), "the example could not be read");
+    for structure in own_structs {
+        assert!(structs.contains(&structure), "not as in the header: {structure}");
+    }
+    for function in own_functions {
+        assert!(functions.contains(&function), "not as in the header: {function}");
+    }
+}
+
 #[test]
 fn every_statement_of_the_header_was_read() {
     for statement in statements() {
