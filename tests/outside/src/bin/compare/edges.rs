@@ -255,4 +255,10 @@ fn records(edge: &mut Edge, rng: &mut Rng) {
     Model.record_begin(&mut buffer, 128);
     let segment = SegmentFields { kind: 2, start: rng.next(), sectors };
     edge.bytes("record_put", [&buffer], |api, [record]| api.record_put(record, position, segment));
+    // Less than a head, and no more than one.
+    for length in [1, 3, 5, 7, 9] {
+        edge.bytes("record_put", [&buffer[..length]], |api, [record]| api.record_put(record, 0, segment));
+        edge.bytes("record_begin", [&buffer[..length]], |api, [record]| api.record_begin(record, 256));
+        edge.bytes("record_check", [&buffer[..length]], |api, [record]| api.record_check(device, record));
+    }
 }
