@@ -1,7 +1,7 @@
 /*
  * Finds the newest record in a dump of two copies: 40,960 bytes, the front copy and then the back.
  *
- *     cc -std=c99 -Wall -Wextra -O2 -Iinclude -o discover examples/discover.c target/staticlib/libcapi.a
+ *     cc -std=c99 -Wall -Wextra -O2 -Iinclude -o discover examples/discover.c target/staticlib/libamseokbin.a
  *     ./discover DUMP
  *
  * Prints one line: `found`, copy, area, length, seconds, nanoseconds, and `both` or the other copy's refusal number; or
@@ -38,24 +38,22 @@ static int read_dump(const char *name)
     return 0;
 }
 
-static void print_found(const uint64_t *found)
+static void print_found(struct amseokbin_found_answer found)
 {
-    const char *side = found[AMSEOKBIN_F_SIDE] == AMSEOKBIN_FRONT ? "front" : "back";
-    const char *area = found[AMSEOKBIN_F_AREA] == AMSEOKBIN_AREA_A ? "a" : "b";
-    printf("found %s %s %" PRIu64 " %" PRIu64 " %" PRIu64 " ", side, area, found[AMSEOKBIN_F_BYTES],
-           found[AMSEOKBIN_F_SECONDS], found[AMSEOKBIN_F_NANOSECONDS]);
-    if (found[AMSEOKBIN_F_OTHER] == 0)
+    const char *side = found.side == AMSEOKBIN_FRONT ? "front" : "back";
+    const char *area = found.area == AMSEOKBIN_AREA_A ? "a" : "b";
+    printf("found %s %s %" PRIu32 " %" PRIu64 " %" PRIu32 " ", side, area, found.bytes, found.time.seconds,
+           found.time.nanoseconds);
+    if (found.other == AMSEOKBIN_OK)
         printf("both\n");
     else
-        printf("%" PRIu64 "\n", found[AMSEOKBIN_F_OTHER]);
+        printf("%d\n", found.other);
 }
 
-static void print_refusal(uint8_t number)
+static void print_refusal(struct amseokbin_refusal refusal)
 {
-    uint8_t words[AMSEOKBIN_WORDS];
-    uint64_t used[1] = {0};
-    amseokbin_refusal_words(number, words, sizeof words, used, 1);
-    printf("refused %d: %.*s\n", number, (int)used[0], (const char *)words);
+    struct amseokbin_words words = amseokbin_refusal_words(refusal.number);
+    printf("refused %d: %.*s\n", refusal.number, (int)words.used, (const char *)words.bytes);
 }
 
 int main(int argc, char **argv)
@@ -66,11 +64,10 @@ int main(int argc, char **argv)
     }
     if (read_dump(argv[1]) != 0)
         return 2;
-    uint64_t found[AMSEOKBIN_FOUND];
-    uint8_t refusal = amseokbin_discover(dump, AMSEOKBIN_COPY, dump + AMSEOKBIN_COPY, AMSEOKBIN_COPY,
-                                         found, AMSEOKBIN_FOUND);
-    if (refusal != AMSEOKBIN_OK) {
-        print_refusal(refusal);
+    struct amseokbin_found_answer found =
+        amseokbin_discover(dump, AMSEOKBIN_COPY, dump + AMSEOKBIN_COPY, AMSEOKBIN_COPY);
+    if (found.refusal.number != AMSEOKBIN_OK) {
+        print_refusal(found.refusal);
         return 1;
     }
     print_found(found);

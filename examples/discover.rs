@@ -1,6 +1,6 @@
 //! Finds the newest record in a dump of two copies: 40,960 bytes, the front copy and then the back.
 //!
-//!     rustc --edition 2021 -O -L native=target/staticlib -l static=capi -o discover examples/discover.rs
+//!     rustc --edition 2021 -O -L native=target/staticlib -l static=amseokbin -o discover examples/discover.rs
 //!     ./discover DUMP
 //!
 //! Prints one line: `found`, copy, area, length, seconds, nanoseconds, and `both` or the other copy's refusal number; or
@@ -11,49 +11,85 @@ use std::fs;
 use std::process::ExitCode;
 
 const COPY: usize = 20_480;
-/// Copy, area, length, seconds, nanoseconds, and the other copy's refusal number or 0.
-const FOUND: usize = 6;
+const UUID: usize = 32;
 /// Room for the words of every refusal number.
 const WORDS: usize = 80;
 
+// The structs of include/amseokbin.h that the two calls answer, field by field. Not all of them are looked at here.
+
+#[repr(C)]
+struct Refusal {
+    number: u8,
+    first: u64,
+    second: u64,
+}
+
+#[repr(C)]
+struct Device {
+    sectors: u64,
+    metadata: u32,
+    reserved: u32,
+}
+
+#[repr(C)]
+struct Time {
+    seconds: u64,
+    nanoseconds: u32,
+}
+
+#[repr(C)]
+struct Entry {
+    seconds: u64,
+    nanoseconds: u32,
+    bytes: u32,
+    checksum: u32,
+}
+
+#[repr(C)]
+struct Block {
+    device: Device,
+    a: Entry,
+    b: Entry,
+    pool: [u8; UUID],
+    blockdev: [u8; UUID],
+}
+
+#[repr(C)]
+struct Found {
+    refusal: Refusal,
+    side: u8,
+    area: u8,
+    other: u8,
+    bytes: u32,
+    time: Time,
+    block: Block,
+}
+
+#[repr(C)]
+struct Words {
+    bytes: [u8; WORDS],
+    used: usize,
+}
+
 extern "C" {
-    fn amseokbin_discover(
-        front: *const u8,
-        front_length: usize,
-        back: *const u8,
-        back_length: usize,
-        found: *mut u64,
-        found_length: usize,
-    ) -> u8;
-    fn amseokbin_refusal_words(
-        number: u8,
-        words: *mut u8,
-        words_length: usize,
-        used: *mut u64,
-        used_length: usize,
-    ) -> u8;
+    fn amseokbin_discover(front: *const u8, front_length: usize, back: *const u8, back_length: usize) -> Found;
+    fn amseokbin_refusal_words(number: u8) -> Words;
 }
 
 /// The newest whole record of two copies, or the refusal number.
-fn discover(front: &[u8], back: &[u8]) -> Result<[u64; FOUND], u8> {
-    let mut found = [0; FOUND];
-    let refusal = unsafe {
-        amseokbin_discover(front.as_ptr(), front.len(), back.as_ptr(), back.len(), found.as_mut_ptr(), found.len())
-    };
-    if refusal == 0 {
-        Ok(found)
-    } else {
-        Err(refusal)
+fn discover(front: &[u8], back: &[u8]) -> Result<Found, u8> {
+    // Both slices are there for their lengths, and the call changes nothing.
+    let found = unsafe { amseokbin_discover(front.as_ptr(), front.len(), back.as_ptr(), back.len()) };
+    match found.refusal.number {
+        0 => Ok(found),
+        number => Err(number),
     }
 }
 
 /// What a refusal number says.
 fn refusal_words(number: u8) -> String {
-    let (mut words, mut used) = ([0; WORDS], [0]);
-    let refusal =
-        unsafe { amseokbin_refusal_words(number, words.as_mut_ptr(), words.len(), used.as_mut_ptr(), used.len()) };
-    let length = if refusal == 0 { used[0] as usize } else { 0 };
-    String::from_utf8_lossy(&words[..length]).into_owned()
+    let words = unsafe { amseokbin_refusal_words(number) };
+    String::from_utf8_lossy(&words.bytes[..words.used]).into_owned()
 }
 
 fn main() -> ExitCode {
@@ -75,7 +111,7 @@ fn main() -> ExitCode {
     }
     let (front, back) = dump.split_at(COPY);
     match discover(front, back) {
-        Ok([side, area, bytes, seconds, nanoseconds, other]) => {
+        Ok(Found { side, area, other, bytes, time: Time { seconds, nanoseconds }, .. }) => {
             let side = if side == 0 { "front" } else { "back" };
             let area = if area == 0 { "a" } else { "b" };
             let other = if other == 0 { "both".to_string() } else { other.to_string() };

@@ -8,7 +8,7 @@
 
 #include "amseokbin.h"
 
-enum { ROOM = 1 << 18, MOST = 16 * 1024, SEGMENTS = 409, FILL = 0xa5 };
+enum { ROOM = 1 << 18, MOST = 16 * 1024, SEGMENTS = AMSEOKBIN_MOST_SEGMENTS, FILL = 0xa5 };
 
 static unsigned char stack[ROOM];
 static ucontext_t outside, inside;
@@ -17,67 +17,97 @@ static int answer;
 
 static uint8_t front[AMSEOKBIN_COPY], back[AMSEOKBIN_COPY];
 static uint8_t record[AMSEOKBIN_RECORD], clash[AMSEOKBIN_RECORD], changed[AMSEOKBIN_RECORD], bytes[AMSEOKBIN_SECTOR];
-static uint8_t update[AMSEOKBIN_UPDATE_PLAN], mend[AMSEOKBIN_MEND_PLAN];
-static uint8_t pool[AMSEOKBIN_UUID], device[AMSEOKBIN_UUID];
-static uint64_t numbers[3 * SEGMENTS], found[AMSEOKBIN_FOUND], pair[2], one[1];
-static struct amseokbin_run table[SEGMENTS + 1];
+static uint64_t numbers[AMSEOKBIN_SEGMENT_TABLE];
+static struct amseokbin_run table[AMSEOKBIN_MOST_RUNS];
+static struct amseokbin_update update;
+static struct amseokbin_mend mend;
+static struct amseokbin_block block;
 static const uint8_t uuid[] = "0123456789abcdef0123456789abcdef";
-static const uint64_t S = (uint64_t)1 << 40;
-static const uint32_t L = 16384, R = 65536;
-static const size_t length = 8 + 20 * SEGMENTS;
+static const struct amseokbin_device device = {(uint64_t)1 << 40, AMSEOKBIN_MOST_METADATA, AMSEOKBIN_MOST_RESERVED};
+static const struct amseokbin_time first = {10, 5}, second = {11, 0};
+static const size_t length = AMSEOKBIN_HEAD + AMSEOKBIN_SEGMENT * SEGMENTS;
 
 #define COPIES front, sizeof front, back, sizeof back
-#define DEVICE S, L, R
+#define RECORD record, length
 
 static int nothing(void) { return 0; }
-static int saying(void) { return amseokbin_refusal_words(13, changed, AMSEOKBIN_WORDS, one, 1); }
-static int summing(void) { return amseokbin_checksum(record, length) == 0; }
-static int summing_on(void) { return amseokbin_checksum_continued(1, record, length) == 0; }
-static int checking(void) { return amseokbin_record_check(DEVICE, record, length); }
-static int clashing(void) { return amseokbin_record_check(DEVICE, clash, length); }
-static int heading(void) { return amseokbin_record_head(DEVICE, record, length, pair, 2); }
-static int taking_one(void) { return amseokbin_record_segment(DEVICE, record, length, 7, numbers, 3); }
+static int versioned(void) { return amseokbin_version() != AMSEOKBIN_VERSION; }
+static int saying(void) { return amseokbin_refusal_words(13).used == 0; }
+static int summing(void) { return amseokbin_checksum(RECORD) == 0; }
+static int summing_on(void) { return amseokbin_checksum_continued(1, RECORD) == 0; }
+static int comparing(void) { return !amseokbin_later(second, first); }
+static int locating(void) { return amseokbin_locate_blocks(device.sectors).refusal.number; }
+static int placing(void) { return amseokbin_places(device).refusal.number; }
+static int checking(void) { return amseokbin_record_check(device, RECORD).number; }
+static int clashing(void) { return amseokbin_record_check(device, clash, length).number; }
+static int heading(void) { return amseokbin_record_head(device, RECORD).refusal.number; }
+static int taking_one(void) { return amseokbin_record_segment(device, RECORD, 7).refusal.number; }
 static int handing_on(void) {
-    return amseokbin_record_segments(DEVICE, record, length, 0, numbers, sizeof numbers / 8, one, 1);
+    return amseokbin_record_segments(device, RECORD, 0, numbers, AMSEOKBIN_SEGMENT_TABLE).refusal.number;
 }
-static int beginning(void) { return amseokbin_record_begin(changed, sizeof changed, 128); }
-static int totalling(void) { return amseokbin_free_total(DEVICE, record, length, one, 1); }
-static int running_free(void) { return amseokbin_free_runs(DEVICE, record, length, numbers, sizeof numbers / 8, one, 1); }
-static int running_table(void) {
-    return amseokbin_free_run_table(DEVICE, record, length, table, SEGMENTS + 1, one, 1);
+static int beginning(void) { return amseokbin_record_begin(changed, sizeof changed, 128).number; }
+static int putting(void) {
+    const struct amseokbin_segment segment = {AMSEOKBIN_SPARE, 1, 2};
+    return amseokbin_record_put(changed, sizeof changed, SEGMENTS - 1, segment).refusal.number;
 }
+static int totalling(void) { return amseokbin_free_total(device, RECORD).refusal.number; }
+static int running_free(void) {
+    return amseokbin_free_runs(device, RECORD, table, AMSEOKBIN_MOST_RUNS).refusal.number;
+}
+static int counting_runs(void) { return amseokbin_run_count(device, RECORD).refusal.number; }
+static int running_one(void) { return amseokbin_run_at(device, RECORD, SEGMENTS - 1).refusal.number; }
+static int fitting(void) { return amseokbin_first_fit(device, RECORD, 20000).refusal.number; }
 static int allocating(void) {
-    return amseokbin_allocate(DEVICE, record, length - 20, 2, 20000, changed, sizeof changed, pair, 2);
+    return amseokbin_allocate(device, record, length - 20, 2, 20000, changed, sizeof changed).refusal.number;
 }
-static int releasing(void) { return amseokbin_release(DEVICE, record, length, 7, changed, sizeof changed, one, 1); }
-static int placing(void) { return amseokbin_places(DEVICE, numbers, AMSEOKBIN_PLACES); }
-static int formatting(void) { return amseokbin_format(COPIES, DEVICE, uuid, 32, uuid, 32, 10, 5, record, length); }
-static int laying(void) { return amseokbin_lay(front, sizeof front, true, record, length); }
+static int releasing(void) { return amseokbin_release(device, RECORD, 7, changed, sizeof changed).refusal.number; }
+static int formatting(void) { return amseokbin_format(COPIES, device, uuid, 32, uuid, 32, first, RECORD).number; }
+static int format_counting(void) { return amseokbin_format_count() != AMSEOKBIN_FORMAT_STORES; }
+static int format_grouping(void) { return amseokbin_format_group(32) != 1; }
+static int format_storing(void) {
+    return amseokbin_format_store(device, COPIES, 79, bytes, sizeof bytes).refusal.number;
+}
+static int laying(void) { return amseokbin_lay(front, sizeof front, AMSEOKBIN_AREA_B, RECORD).number; }
 static int reading_block(void) {
-    return amseokbin_block_read(front + 512, 512, numbers, AMSEOKBIN_BLOCK_NUMBERS, pool, 32, device, 32);
+    const struct amseokbin_block_answer read = amseokbin_block_read(front + AMSEOKBIN_BLOCK_OFFSET, AMSEOKBIN_SECTOR);
+    block = read.block;
+    return read.refusal.number;
 }
-static int writing_block(void) {
-    return amseokbin_block_write(DEVICE, 10, 5, 8188, 1, 11, 0, 8188, 2, pool, 32, device, 32, bytes, sizeof bytes);
-}
+static int writing_block(void) { return amseokbin_block_write(block, bytes, sizeof bytes).number; }
 static int reading_copy(void) {
-    return amseokbin_copy_read(front, sizeof front, numbers, AMSEOKBIN_COPY_NUMBERS, pool, 32, device, 32) ||
-           numbers[AMSEOKBIN_C_PRESENT] != AMSEOKBIN_PRESENT_A;
+    const struct amseokbin_copy_answer read = amseokbin_copy_read(front, sizeof front);
+    return read.refusal.number || read.present != AMSEOKBIN_PRESENT_A;
 }
-static int discovering(void) { return amseokbin_discover(COPIES, found, AMSEOKBIN_FOUND); }
-static int reading(void) { return amseokbin_read_found(COPIES, changed, sizeof changed, found, AMSEOKBIN_FOUND); }
-static int stepping(void) { return amseokbin_in_step(COPIES, one, 1) || one[0] != 1; }
-static int testing(void) { return amseokbin_update_check(COPIES, 11, 0, record, length); }
-static int planning(void) { return amseokbin_update_plan(COPIES, 11, 0, record, length, update, sizeof update); }
-static int counting(void) { return amseokbin_update_count(update, sizeof update) != 34; }
-static int grouping(void) { return amseokbin_update_group(update, sizeof update, 16) != 1; }
+static int discovering(void) { return amseokbin_discover(COPIES).refusal.number; }
+static int reading(void) { return amseokbin_read_found(COPIES, changed, sizeof changed).refusal.number; }
+static int stepping(void) { return !amseokbin_in_step(COPIES).in_step; }
+static int testing(void) { return amseokbin_update_check(COPIES, second, RECORD).number; }
+static int planning(void) {
+    const struct amseokbin_update_answer planned = amseokbin_update_plan(COPIES, second, RECORD);
+    update = planned.plan;
+    return planned.refusal.number;
+}
+static int counting(void) { return amseokbin_update_count(update) != AMSEOKBIN_MOST_UPDATE_STORES; }
+static int grouping(void) { return amseokbin_update_group(update, 16) != 1; }
 static int storing(void) {
-    return amseokbin_update_store(update, sizeof update, COPIES, record, length, 16, bytes, sizeof bytes, one, 1);
+    return amseokbin_update_store(update, COPIES, RECORD, 0, bytes, sizeof bytes).refusal.number;
 }
-static int mending(void) { return amseokbin_mend_plan(COPIES, mend, sizeof mend); }
-static int mend_counting(void) { return amseokbin_mend_count(mend, sizeof mend) != 18; }
-static int mend_grouping(void) { return amseokbin_mend_group(mend, sizeof mend, 17) != 2; }
-static int mend_storing(void) {
-    return amseokbin_mend_store(mend, sizeof mend, COPIES, 0, bytes, sizeof bytes, one, 1);
+static int storing_block(void) {
+    return amseokbin_update_store(update, COPIES, RECORD, 16, bytes, sizeof bytes).refusal.number;
+}
+static int applying(void) {
+    return amseokbin_apply(device, device.sectors - 8 - AMSEOKBIN_MOST_METADATA, bytes, sizeof bytes, COPIES).number;
+}
+static int mending(void) {
+    const struct amseokbin_mend_answer planned = amseokbin_mend_plan(COPIES);
+    mend = planned.plan;
+    return planned.refusal.number;
+}
+static int mend_counting(void) { return amseokbin_mend_count(mend) != AMSEOKBIN_MOST_MEND_STORES - 1; }
+static int mend_grouping(void) { return amseokbin_mend_group(mend, 17) != 2; }
+static int mend_storing(void) { return amseokbin_mend_store(mend, COPIES, 0, bytes, sizeof bytes).refusal.number; }
+static int mend_storing_record(void) {
+    return amseokbin_mend_store(mend, COPIES, 1, bytes, sizeof bytes).refusal.number;
 }
 
 static void go(void) {
@@ -109,22 +139,31 @@ int main(int words, char **word) {
         int (*call)(void);
         int expected;
     } calls[] = {
+        {"version", versioned, 0},
         {"refusal_words", saying, 0},
         {"checksum", summing, 0},
         {"checksum_continued", summing_on, 0},
+        {"later", comparing, 0},
+        {"locate_blocks", locating, 0},
+        {"places", placing, 0},
         {"record_check", checking, 0},
         {"record_check, 19", clashing, 19},
         {"record_head", heading, 0},
         {"record_segment", taking_one, 0},
         {"record_segments", handing_on, 0},
         {"record_begin", beginning, 0},
+        {"record_put", putting, 0},
         {"free_total", totalling, 0},
         {"free_runs", running_free, 0},
-        {"free_run_table", running_table, 0},
+        {"run_count", counting_runs, 0},
+        {"run_at", running_one, 0},
+        {"first_fit", fitting, 0},
         {"allocate", allocating, 0},
         {"release", releasing, 0},
-        {"places", placing, 0},
         {"format", formatting, 0},
+        {"format_count", format_counting, 0},
+        {"format_group", format_grouping, 0},
+        {"format_store", format_storing, 0},
         {"lay", laying, 0},
         {"block_read", reading_block, 0},
         {"block_write", writing_block, 0},
@@ -136,22 +175,27 @@ int main(int words, char **word) {
         {"update_plan", planning, 0},
         {"update_count", counting, 0},
         {"update_group", grouping, 0},
-        {"update_store", storing, 0},
+        {"update_store, area", storing, 0},
+        {"update_store, block", storing_block, 0},
+        {"apply", applying, 0},
         {"mend_plan", mending, 0},
         {"mend_count", mend_counting, 0},
         {"mend_group", mend_grouping, 0},
-        {"mend_store", mend_storing, 0},
+        {"mend_store, block", mend_storing, 0},
+        {"mend_store, record", mend_storing_record, 0},
     };
     const int count = sizeof calls / sizeof calls[0];
     const int all = words == 2 && strcmp(word[1], "all") == 0;
     int most = 0, base;
     const char *which = "";
 
+    const uint64_t start = 8 + (uint64_t)device.metadata + device.reserved;
+
     put(record, 8, 2), put(record + 2, 16, 2), put(record + 4, 128, 4);
     for (int i = 0; i < SEGMENTS; i++) {
         uint8_t *item = record + 8 + 20 * i;
         put(item, 20, 2), put(item + 2, 2, 2);
-        put(item + 4, 8 + L + R + 10000 * (uint64_t)(i * 211 % SEGMENTS), 8), put(item + 12, 1 + 20 * i, 8);
+        put(item + 4, start + 10000 * (uint64_t)(i * 211 % SEGMENTS), 8), put(item + 12, 1 + 20 * i, 8);
     }
     memcpy(clash, record, length);
     memcpy(clash + length - 16, clash + length - 36, 16);

@@ -1,4 +1,4 @@
-//! Links the library's archive, libcapi.a, from the folder that AMSEOKBIN_LIB names or from ../../target/staticlib.
+//! Links the library's archive, libamseokbin.a, from the folder that AMSEOKBIN_LIB names or from ../../target/staticlib.
 
 use std::env;
 use std::path::{Path, PathBuf};
@@ -14,13 +14,13 @@ fn main() {
         Some(folder) => PathBuf::from(folder),
         None => Path::new(&package).join("../../target/staticlib"),
     };
-    let archive = folder.join("libcapi.a");
+    let archive = folder.join("libamseokbin.a");
     println!("cargo:rerun-if-changed={}", archive.display());
     if !archive.is_file() {
         eprintln!("error: {} is not there", archive.display());
-        eprintln!("Make it with `rt staticlib capi`, or name its folder in AMSEOKBIN_LIB.");
+        eprintln!("Make it with `rt staticlib amseokbin`, or name its folder in AMSEOKBIN_LIB.");
         exit(1);
     }
     println!("cargo:rustc-link-search=native={}", folder.display());
-    println!("cargo:rustc-link-lib=static=capi");
+    println!("cargo:rustc-link-lib=static=amseokbin");
 }

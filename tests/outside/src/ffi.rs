@@ -2,66 +2,20 @@
 
 use std::ptr::{null, null_mut};
 
-use crate::interface::{BlockNumbers, Device, FreeRun, Interface};
+use crate::interface::*;
 
 extern "C" {
-    fn amseokbin_refusal_words(
-        number: u8,
-        words: *mut u8,
-        words_length: usize,
-        used: *mut u64,
-        used_length: usize,
-    ) -> u8;
+    fn amseokbin_version() -> u32;
+    fn amseokbin_refusal_words(number: u8) -> Words;
     fn amseokbin_checksum(bytes: *const u8, length: usize) -> u32;
     fn amseokbin_checksum_continued(before: u32, bytes: *const u8, length: usize) -> u32;
-    fn amseokbin_block_read(
-        block: *const u8,
-        block_length: usize,
-        numbers: *mut u64,
-        numbers_length: usize,
-        pool: *mut u8,
-        pool_length: usize,
-        device: *mut u8,
-        device_length: usize,
-    ) -> u8;
-    fn amseokbin_block_write(
-        sectors: u64,
-        metadata: u32,
-        reserved: u32,
-        a_seconds: u64,
-        a_nanoseconds: u32,
-        a_bytes: u32,
-        a_crc: u32,
-        b_seconds: u64,
-        b_nanoseconds: u32,
-        b_bytes: u32,
-        b_crc: u32,
-        pool: *const u8,
-        pool_length: usize,
-        device: *const u8,
-        device_length: usize,
-        block: *mut u8,
-        block_length: usize,
-    ) -> u8;
-    fn amseokbin_places(sectors: u64, metadata: u32, reserved: u32, places: *mut u64, places_length: usize) -> u8;
-    fn amseokbin_copy_read(
-        copy: *const u8,
-        copy_length: usize,
-        numbers: *mut u64,
-        numbers_length: usize,
-        pool: *mut u8,
-        pool_length: usize,
-        device: *mut u8,
-        device_length: usize,
-    ) -> u8;
-    fn amseokbin_discover(
-        front: *const u8,
-        front_length: usize,
-        back: *const u8,
-        back_length: usize,
-        found: *mut u64,
-        found_length: usize,
-    ) -> u8;
+    fn amseokbin_later(time: Time, than: Time) -> bool;
+    fn amseokbin_locate_blocks(sectors: u64) -> BlocksAnswer;
+    fn amseokbin_places(device: Device) -> PlacesAnswer;
+    fn amseokbin_block_read(bytes: *const u8, bytes_length: usize) -> BlockAnswer;
+    fn amseokbin_block_write(block: BlockFields, bytes: *mut u8, bytes_length: usize) -> Refused;
+    fn amseokbin_copy_read(copy: *const u8, copy_length: usize) -> CopyAnswer;
+    fn amseokbin_discover(front: *const u8, front_length: usize, back: *const u8, back_length: usize) -> FoundAnswer;
     fn amseokbin_read_found(
         front: *const u8,
         front_length: usize,
@@ -69,44 +23,41 @@ extern "C" {
         back_length: usize,
         record: *mut u8,
         record_length: usize,
-        found: *mut u64,
-        found_length: usize,
-    ) -> u8;
-    fn amseokbin_in_step(
-        front: *const u8,
+    ) -> FoundAnswer;
+    fn amseokbin_in_step(front: *const u8, front_length: usize, back: *const u8, back_length: usize) -> StepAnswer;
+    fn amseokbin_apply(
+        device: Device,
+        sector: u64,
+        bytes: *const u8,
+        bytes_length: usize,
+        front: *mut u8,
         front_length: usize,
-        back: *const u8,
+        back: *mut u8,
         back_length: usize,
-        step: *mut u64,
-        step_length: usize,
-    ) -> u8;
+    ) -> Refused;
+    fn amseokbin_lay(copy: *mut u8, copy_length: usize, area: u8, record: *const u8, record_length: usize) -> Refused;
     fn amseokbin_update_check(
         front: *const u8,
         front_length: usize,
         back: *const u8,
         back_length: usize,
-        seconds: u64,
-        nanoseconds: u32,
+        time: Time,
         record: *const u8,
         record_length: usize,
-    ) -> u8;
+    ) -> Refused;
     fn amseokbin_update_plan(
         front: *const u8,
         front_length: usize,
         back: *const u8,
         back_length: usize,
-        seconds: u64,
-        nanoseconds: u32,
+        time: Time,
         record: *const u8,
         record_length: usize,
-        plan: *mut u8,
-        plan_length: usize,
-    ) -> u8;
-    fn amseokbin_update_count(plan: *const u8, plan_length: usize) -> u64;
-    fn amseokbin_update_group(plan: *const u8, plan_length: usize, number: u64) -> u8;
+    ) -> UpdateAnswer;
+    fn amseokbin_update_count(plan: UpdatePlan) -> u64;
+    fn amseokbin_update_group(plan: UpdatePlan, number: u64) -> u8;
     fn amseokbin_update_store(
-        plan: *const u8,
-        plan_length: usize,
+        plan: UpdatePlan,
         front: *const u8,
         front_length: usize,
         back: *const u8,
@@ -116,40 +67,25 @@ extern "C" {
         number: u64,
         bytes: *mut u8,
         bytes_length: usize,
-        sector: *mut u64,
-        sector_length: usize,
-    ) -> u8;
-    fn amseokbin_lay(copy: *mut u8, copy_length: usize, area_b: bool, record: *const u8, record_length: usize) -> u8;
+    ) -> StoreAnswer;
     fn amseokbin_format(
         front: *mut u8,
         front_length: usize,
         back: *mut u8,
         back_length: usize,
-        sectors: u64,
-        metadata: u32,
-        reserved: u32,
+        device: Device,
         pool: *const u8,
         pool_length: usize,
-        device: *const u8,
-        device_length: usize,
-        seconds: u64,
-        nanoseconds: u32,
+        blockdev: *const u8,
+        blockdev_length: usize,
+        time: Time,
         record: *const u8,
         record_length: usize,
-    ) -> u8;
-    fn amseokbin_mend_plan(
-        front: *const u8,
-        front_length: usize,
-        back: *const u8,
-        back_length: usize,
-        plan: *mut u8,
-        plan_length: usize,
-    ) -> u8;
-    fn amseokbin_mend_count(plan: *const u8, plan_length: usize) -> u64;
-    fn amseokbin_mend_group(plan: *const u8, plan_length: usize, number: u64) -> u8;
-    fn amseokbin_mend_store(
-        plan: *const u8,
-        plan_length: usize,
+    ) -> Refused;
+    fn amseokbin_format_count() -> u64;
+    fn amseokbin_format_group(number: u64) -> u8;
+    fn amseokbin_format_store(
+        device: Device,
         front: *const u8,
         front_length: usize,
         back: *const u8,
@@ -157,104 +93,71 @@ extern "C" {
         number: u64,
         bytes: *mut u8,
         bytes_length: usize,
-        sector: *mut u64,
-        sector_length: usize,
-    ) -> u8;
-    fn amseokbin_record_check(
-        sectors: u64,
-        metadata: u32,
-        reserved: u32,
-        record: *const u8,
-        record_length: usize,
-    ) -> u8;
-    fn amseokbin_record_head(
-        sectors: u64,
-        metadata: u32,
-        reserved: u32,
-        record: *const u8,
-        record_length: usize,
-        head: *mut u64,
-        head_length: usize,
-    ) -> u8;
+    ) -> StoreAnswer;
+    fn amseokbin_mend_plan(front: *const u8, front_length: usize, back: *const u8, back_length: usize) -> MendAnswer;
+    fn amseokbin_mend_count(plan: MendPlan) -> u64;
+    fn amseokbin_mend_group(plan: MendPlan, number: u64) -> u8;
+    fn amseokbin_mend_store(
+        plan: MendPlan,
+        front: *const u8,
+        front_length: usize,
+        back: *const u8,
+        back_length: usize,
+        number: u64,
+        bytes: *mut u8,
+        bytes_length: usize,
+    ) -> StoreAnswer;
+    fn amseokbin_record_check(device: Device, record: *const u8, record_length: usize) -> Refused;
+    fn amseokbin_record_head(device: Device, record: *const u8, record_length: usize) -> HeadAnswer;
     fn amseokbin_record_segment(
-        sectors: u64,
-        metadata: u32,
-        reserved: u32,
+        device: Device,
         record: *const u8,
         record_length: usize,
         position: u64,
-        segment: *mut u64,
-        segment_length: usize,
-    ) -> u8;
+    ) -> SegmentAnswer;
     fn amseokbin_record_segments(
-        sectors: u64,
-        metadata: u32,
-        reserved: u32,
+        device: Device,
         record: *const u8,
         record_length: usize,
         position: u64,
         table: *mut u64,
         table_length: usize,
-        count: *mut u64,
-        count_length: usize,
-    ) -> u8;
-    fn amseokbin_record_begin(record: *mut u8, record_length: usize, block_size: u32) -> u8;
-    fn amseokbin_free_total(
-        sectors: u64,
-        metadata: u32,
-        reserved: u32,
-        record: *const u8,
+    ) -> CountAnswer;
+    fn amseokbin_record_begin(record: *mut u8, record_length: usize, block_size: u32) -> Refused;
+    fn amseokbin_record_put(
+        record: *mut u8,
         record_length: usize,
-        total: *mut u64,
-        total_length: usize,
-    ) -> u8;
+        position: u64,
+        segment: SegmentFields,
+    ) -> LengthAnswer;
+    fn amseokbin_free_total(device: Device, record: *const u8, record_length: usize) -> TotalAnswer;
     fn amseokbin_free_runs(
-        sectors: u64,
-        metadata: u32,
-        reserved: u32,
-        record: *const u8,
-        record_length: usize,
-        table: *mut u64,
-        table_length: usize,
-        count: *mut u64,
-        count_length: usize,
-    ) -> u8;
-    fn amseokbin_free_run_table(
-        sectors: u64,
-        metadata: u32,
-        reserved: u32,
+        device: Device,
         record: *const u8,
         record_length: usize,
         table: *mut FreeRun,
         entries: usize,
-        count: *mut u64,
-        count_length: usize,
-    ) -> u8;
+    ) -> CountAnswer;
+    fn amseokbin_run_count(device: Device, record: *const u8, record_length: usize) -> CountAnswer;
+    fn amseokbin_run_at(device: Device, record: *const u8, record_length: usize, number: u64) -> RunAnswer;
+    fn amseokbin_first_fit(device: Device, record: *const u8, record_length: usize, sectors: u64) -> RunAnswer;
     fn amseokbin_allocate(
-        sectors: u64,
-        metadata: u32,
-        reserved: u32,
+        device: Device,
         record: *const u8,
         record_length: usize,
         kind: u16,
-        length: u64,
+        sectors: u64,
         changed: *mut u8,
         changed_length: usize,
-        answer: *mut u64,
-        answer_length: usize,
-    ) -> u8;
+    ) -> AllocationAnswer;
     fn amseokbin_release(
-        sectors: u64,
-        metadata: u32,
-        reserved: u32,
+        device: Device,
         record: *const u8,
         record_length: usize,
         position: u64,
         changed: *mut u8,
         changed_length: usize,
-        answer: *mut u64,
-        answer_length: usize,
-    ) -> u8;
+    ) -> LengthAnswer;
 }
 
 /// Where a slice begins. An empty one is passed as a null pointer, which the interface allows.
@@ -284,8 +187,12 @@ impl Interface for Library {
         "library"
     }
 
-    fn refusal_words(&self, number: u8, words: &mut [u8], used: &mut [u64]) -> u8 {
-        unsafe { amseokbin_refusal_words(number, start_mut(words), words.len(), start_mut(used), used.len()) }
+    fn version(&self) -> u32 {
+        unsafe { amseokbin_version() }
+    }
+
+    fn refusal_words(&self, number: u8) -> Words {
+        unsafe { amseokbin_refusal_words(number) }
     }
 
     fn checksum(&self, bytes: &[u8]) -> u32 {
@@ -296,149 +203,103 @@ impl Interface for Library {
         unsafe { amseokbin_checksum_continued(before, start(bytes), bytes.len()) }
     }
 
-    fn block_read(&self, block: &[u8], numbers: &mut [u64], pool: &mut [u8], device: &mut [u8]) -> u8 {
+    fn later(&self, time: Time, than: Time) -> bool {
+        unsafe { amseokbin_later(time, than) }
+    }
+
+    fn locate_blocks(&self, sectors: u64) -> BlocksAnswer {
+        unsafe { amseokbin_locate_blocks(sectors) }
+    }
+
+    fn places(&self, device: Device) -> PlacesAnswer {
+        unsafe { amseokbin_places(device) }
+    }
+
+    fn block_read(&self, bytes: &[u8]) -> BlockAnswer {
+        unsafe { amseokbin_block_read(start(bytes), bytes.len()) }
+    }
+
+    fn block_write(&self, block: BlockFields, bytes: &mut [u8]) -> Refused {
+        unsafe { amseokbin_block_write(block, start_mut(bytes), bytes.len()) }
+    }
+
+    fn copy_read(&self, copy: &[u8]) -> CopyAnswer {
+        unsafe { amseokbin_copy_read(start(copy), copy.len()) }
+    }
+
+    fn discover(&self, front: &[u8], back: &[u8]) -> FoundAnswer {
+        unsafe { amseokbin_discover(start(front), front.len(), start(back), back.len()) }
+    }
+
+    fn read_found(&self, front: &[u8], back: &[u8], record: &mut [u8]) -> FoundAnswer {
         unsafe {
-            amseokbin_block_read(
-                start(block),
-                block.len(),
-                start_mut(numbers),
-                numbers.len(),
-                start_mut(pool),
-                pool.len(),
-                start_mut(device),
-                device.len(),
-            )
+            amseokbin_read_found(start(front), front.len(), start(back), back.len(), start_mut(record), record.len())
         }
     }
 
-    fn block_write(&self, numbers: &BlockNumbers, pool: &[u8], device: &[u8], block: &mut [u8]) -> u8 {
+    fn in_step(&self, front: &[u8], back: &[u8]) -> StepAnswer {
+        unsafe { amseokbin_in_step(start(front), front.len(), start(back), back.len()) }
+    }
+
+    fn apply(&self, device: Device, sector: u64, bytes: &[u8], front: &mut [u8], back: &mut [u8]) -> Refused {
         unsafe {
-            amseokbin_block_write(
-                numbers.sectors,
-                numbers.metadata,
-                numbers.reserved,
-                numbers.a_seconds,
-                numbers.a_nanoseconds,
-                numbers.a_bytes,
-                numbers.a_crc,
-                numbers.b_seconds,
-                numbers.b_nanoseconds,
-                numbers.b_bytes,
-                numbers.b_crc,
-                start(pool),
-                pool.len(),
-                start(device),
-                device.len(),
-                start_mut(block),
-                block.len(),
-            )
-        }
-    }
-
-    fn places(&self, device: &Device, places: &mut [u64]) -> u8 {
-        unsafe { amseokbin_places(device.sectors, device.metadata, device.reserved, start_mut(places), places.len()) }
-    }
-
-    fn copy_read(&self, copy: &[u8], numbers: &mut [u64], pool: &mut [u8], device: &mut [u8]) -> u8 {
-        unsafe {
-            amseokbin_copy_read(
-                start(copy),
-                copy.len(),
-                start_mut(numbers),
-                numbers.len(),
-                start_mut(pool),
-                pool.len(),
-                start_mut(device),
-                device.len(),
-            )
-        }
-    }
-
-    fn discover(&self, front: &[u8], back: &[u8], found: &mut [u64]) -> u8 {
-        unsafe { amseokbin_discover(start(front), front.len(), start(back), back.len(), start_mut(found), found.len()) }
-    }
-
-    fn read_found(&self, front: &[u8], back: &[u8], record: &mut [u8], found: &mut [u64]) -> u8 {
-        unsafe {
-            amseokbin_read_found(
-                start(front),
+            amseokbin_apply(
+                device,
+                sector,
+                start(bytes),
+                bytes.len(),
+                start_mut(front),
                 front.len(),
-                start(back),
+                start_mut(back),
                 back.len(),
-                start_mut(record),
-                record.len(),
-                start_mut(found),
-                found.len(),
             )
         }
     }
 
-    fn in_step(&self, front: &[u8], back: &[u8], step: &mut [u64]) -> u8 {
-        unsafe { amseokbin_in_step(start(front), front.len(), start(back), back.len(), start_mut(step), step.len()) }
+    fn lay(&self, copy: &mut [u8], area: u8, record: &[u8]) -> Refused {
+        unsafe { amseokbin_lay(start_mut(copy), copy.len(), area, start(record), record.len()) }
     }
 
-    fn update_check(&self, front: &[u8], back: &[u8], seconds: u64, nanoseconds: u32, record: &[u8]) -> u8 {
+    fn update_check(&self, front: &[u8], back: &[u8], time: Time, record: &[u8]) -> Refused {
         unsafe {
             amseokbin_update_check(
                 start(front),
                 front.len(),
                 start(back),
                 back.len(),
-                seconds,
-                nanoseconds,
+                time,
                 start(record),
                 record.len(),
             )
         }
     }
 
-    fn update_plan(
-        &self,
-        front: &[u8],
-        back: &[u8],
-        seconds: u64,
-        nanoseconds: u32,
-        record: &[u8],
-        plan: &mut [u8],
-    ) -> u8 {
+    fn update_plan(&self, front: &[u8], back: &[u8], time: Time, record: &[u8]) -> UpdateAnswer {
         unsafe {
-            amseokbin_update_plan(
-                start(front),
-                front.len(),
-                start(back),
-                back.len(),
-                seconds,
-                nanoseconds,
-                start(record),
-                record.len(),
-                start_mut(plan),
-                plan.len(),
-            )
+            amseokbin_update_plan(start(front), front.len(), start(back), back.len(), time, start(record), record.len())
         }
     }
 
-    fn update_count(&self, plan: &[u8]) -> u64 {
-        unsafe { amseokbin_update_count(start(plan), plan.len()) }
+    fn update_count(&self, plan: UpdatePlan) -> u64 {
+        unsafe { amseokbin_update_count(plan) }
     }
 
-    fn update_group(&self, plan: &[u8], number: u64) -> u8 {
-        unsafe { amseokbin_update_group(start(plan), plan.len(), number) }
+    fn update_group(&self, plan: UpdatePlan, number: u64) -> u8 {
+        unsafe { amseokbin_update_group(plan, number) }
     }
 
     fn update_store(
         &self,
-        plan: &[u8],
+        plan: UpdatePlan,
         front: &[u8],
         back: &[u8],
         record: &[u8],
         number: u64,
         bytes: &mut [u8],
-        sector: &mut [u64],
-    ) -> u8 {
+    ) -> StoreAnswer {
         unsafe {
             amseokbin_update_store(
-                start(plan),
-                plan.len(),
+                plan,
                 start(front),
                 front.len(),
                 start(back),
@@ -448,73 +309,50 @@ impl Interface for Library {
                 number,
                 start_mut(bytes),
                 bytes.len(),
-                start_mut(sector),
-                sector.len(),
             )
         }
-    }
-
-    fn lay(&self, copy: &mut [u8], area_b: bool, record: &[u8]) -> u8 {
-        unsafe { amseokbin_lay(start_mut(copy), copy.len(), area_b, start(record), record.len()) }
     }
 
     fn format(
         &self,
         front: &mut [u8],
         back: &mut [u8],
-        numbers: &Device,
+        device: Device,
         pool: &[u8],
-        device: &[u8],
-        seconds: u64,
-        nanoseconds: u32,
+        blockdev: &[u8],
+        time: Time,
         record: &[u8],
-    ) -> u8 {
+    ) -> Refused {
         unsafe {
             amseokbin_format(
                 start_mut(front),
                 front.len(),
                 start_mut(back),
                 back.len(),
-                numbers.sectors,
-                numbers.metadata,
-                numbers.reserved,
+                device,
                 start(pool),
                 pool.len(),
-                start(device),
-                device.len(),
-                seconds,
-                nanoseconds,
+                start(blockdev),
+                blockdev.len(),
+                time,
                 start(record),
                 record.len(),
             )
         }
     }
 
-    fn mend_plan(&self, front: &[u8], back: &[u8], plan: &mut [u8]) -> u8 {
-        unsafe { amseokbin_mend_plan(start(front), front.len(), start(back), back.len(), start_mut(plan), plan.len()) }
+    fn format_count(&self) -> u64 {
+        unsafe { amseokbin_format_count() }
     }
 
-    fn mend_count(&self, plan: &[u8]) -> u64 {
-        unsafe { amseokbin_mend_count(start(plan), plan.len()) }
+    fn format_group(&self, number: u64) -> u8 {
+        unsafe { amseokbin_format_group(number) }
     }
 
-    fn mend_group(&self, plan: &[u8], number: u64) -> u8 {
-        unsafe { amseokbin_mend_group(start(plan), plan.len(), number) }
-    }
-
-    fn mend_store(
-        &self,
-        plan: &[u8],
-        front: &[u8],
-        back: &[u8],
-        number: u64,
-        bytes: &mut [u8],
-        sector: &mut [u64],
-    ) -> u8 {
+    fn format_store(&self, device: Device, front: &[u8], back: &[u8], number: u64, bytes: &mut [u8]) -> StoreAnswer {
         unsafe {
-            amseokbin_mend_store(
-                start(plan),
-                plan.len(),
+            amseokbin_format_store(
+                device,
                 start(front),
                 front.len(),
                 start(back),
@@ -522,159 +360,90 @@ impl Interface for Library {
                 number,
                 start_mut(bytes),
                 bytes.len(),
-                start_mut(sector),
-                sector.len(),
             )
         }
     }
 
-    fn record_check(&self, device: &Device, record: &[u8]) -> u8 {
-        unsafe { amseokbin_record_check(device.sectors, device.metadata, device.reserved, start(record), record.len()) }
+    fn mend_plan(&self, front: &[u8], back: &[u8]) -> MendAnswer {
+        unsafe { amseokbin_mend_plan(start(front), front.len(), start(back), back.len()) }
     }
 
-    fn record_head(&self, device: &Device, record: &[u8], head: &mut [u64]) -> u8 {
+    fn mend_count(&self, plan: MendPlan) -> u64 {
+        unsafe { amseokbin_mend_count(plan) }
+    }
+
+    fn mend_group(&self, plan: MendPlan, number: u64) -> u8 {
+        unsafe { amseokbin_mend_group(plan, number) }
+    }
+
+    fn mend_store(&self, plan: MendPlan, front: &[u8], back: &[u8], number: u64, bytes: &mut [u8]) -> StoreAnswer {
         unsafe {
-            amseokbin_record_head(
-                device.sectors,
-                device.metadata,
-                device.reserved,
-                start(record),
-                record.len(),
-                start_mut(head),
-                head.len(),
+            amseokbin_mend_store(
+                plan,
+                start(front),
+                front.len(),
+                start(back),
+                back.len(),
+                number,
+                start_mut(bytes),
+                bytes.len(),
             )
         }
     }
 
-    fn record_segment(&self, device: &Device, record: &[u8], position: u64, segment: &mut [u64]) -> u8 {
+    fn record_check(&self, device: Device, record: &[u8]) -> Refused {
+        unsafe { amseokbin_record_check(device, start(record), record.len()) }
+    }
+
+    fn record_head(&self, device: Device, record: &[u8]) -> HeadAnswer {
+        unsafe { amseokbin_record_head(device, start(record), record.len()) }
+    }
+
+    fn record_segment(&self, device: Device, record: &[u8], position: u64) -> SegmentAnswer {
+        unsafe { amseokbin_record_segment(device, start(record), record.len(), position) }
+    }
+
+    fn record_segments(&self, device: Device, record: &[u8], position: u64, table: &mut [u64]) -> CountAnswer {
         unsafe {
-            amseokbin_record_segment(
-                device.sectors,
-                device.metadata,
-                device.reserved,
-                start(record),
-                record.len(),
-                position,
-                start_mut(segment),
-                segment.len(),
-            )
+            amseokbin_record_segments(device, start(record), record.len(), position, start_mut(table), table.len())
         }
     }
 
-    fn record_segments(
-        &self,
-        device: &Device,
-        record: &[u8],
-        position: u64,
-        table: &mut [u64],
-        count: &mut [u64],
-    ) -> u8 {
-        unsafe {
-            amseokbin_record_segments(
-                device.sectors,
-                device.metadata,
-                device.reserved,
-                start(record),
-                record.len(),
-                position,
-                start_mut(table),
-                table.len(),
-                start_mut(count),
-                count.len(),
-            )
-        }
-    }
-
-    fn record_begin(&self, record: &mut [u8], block_size: u32) -> u8 {
+    fn record_begin(&self, record: &mut [u8], block_size: u32) -> Refused {
         unsafe { amseokbin_record_begin(start_mut(record), record.len(), block_size) }
     }
 
-    fn free_total(&self, device: &Device, record: &[u8], total: &mut [u64]) -> u8 {
+    fn record_put(&self, record: &mut [u8], position: u64, segment: SegmentFields) -> LengthAnswer {
+        unsafe { amseokbin_record_put(start_mut(record), record.len(), position, segment) }
+    }
+
+    fn free_total(&self, device: Device, record: &[u8]) -> TotalAnswer {
+        unsafe { amseokbin_free_total(device, start(record), record.len()) }
+    }
+
+    fn free_runs(&self, device: Device, record: &[u8], table: &mut [FreeRun]) -> CountAnswer {
+        unsafe { amseokbin_free_runs(device, start(record), record.len(), start_mut(table), table.len()) }
+    }
+
+    fn run_count(&self, device: Device, record: &[u8]) -> CountAnswer {
+        unsafe { amseokbin_run_count(device, start(record), record.len()) }
+    }
+
+    fn run_at(&self, device: Device, record: &[u8], number: u64) -> RunAnswer {
+        unsafe { amseokbin_run_at(device, start(record), record.len(), number) }
+    }
+
+    fn first_fit(&self, device: Device, record: &[u8], sectors: u64) -> RunAnswer {
+        unsafe { amseokbin_first_fit(device, start(record), record.len(), sectors) }
+    }
+
+    fn allocate(&self, device: Device, record: &[u8], kind: u16, sectors: u64, changed: &mut [u8]) -> AllocationAnswer {
         unsafe {
-            amseokbin_free_total(
-                device.sectors,
-                device.metadata,
-                device.reserved,
-                start(record),
-                record.len(),
-                start_mut(total),
-                total.len(),
-            )
+            amseokbin_allocate(device, start(record), record.len(), kind, sectors, start_mut(changed), changed.len())
         }
     }
 
-    fn free_runs(&self, device: &Device, record: &[u8], table: &mut [u64], count: &mut [u64]) -> u8 {
-        unsafe {
-            amseokbin_free_runs(
-                device.sectors,
-                device.metadata,
-                device.reserved,
-                start(record),
-                record.len(),
-                start_mut(table),
-                table.len(),
-                start_mut(count),
-                count.len(),
-            )
-        }
-    }
-
-    fn free_run_table(&self, device: &Device, record: &[u8], table: &mut [FreeRun], runs: &mut [u64]) -> u8 {
-        unsafe {
-            amseokbin_free_run_table(
-                device.sectors,
-                device.metadata,
-                device.reserved,
-                start(record),
-                record.len(),
-                start_mut(table),
-                table.len(),
-                start_mut(runs),
-                runs.len(),
-            )
-        }
-    }
-
-    fn allocate(
-        &self,
-        device: &Device,
-        record: &[u8],
-        kind: u16,
-        length: u64,
-        changed: &mut [u8],
-        answer: &mut [u64],
-    ) -> u8 {
-        unsafe {
-            amseokbin_allocate(
-                device.sectors,
-                device.metadata,
-                device.reserved,
-                start(record),
-                record.len(),
-                kind,
-                length,
-                start_mut(changed),
-                changed.len(),
-                start_mut(answer),
-                answer.len(),
-            )
-        }
-    }
-
-    fn release(&self, device: &Device, record: &[u8], position: u64, changed: &mut [u8], answer: &mut [u64]) -> u8 {
-        unsafe {
-            amseokbin_release(
-                device.sectors,
-                device.metadata,
-                device.reserved,
-                start(record),
-                record.len(),
-                position,
-                start_mut(changed),
-                changed.len(),
-                start_mut(answer),
-                answer.len(),
-            )
-        }
+    fn release(&self, device: Device, record: &[u8], position: u64, changed: &mut [u8]) -> LengthAnswer {
+        unsafe { amseokbin_release(device, start(record), record.len(), position, start_mut(changed), changed.len()) }
     }
 }

@@ -1,5 +1,6 @@
 //! Tests of the library from outside: the C interface, an independent implementation, and what the test programs share.
 
+pub mod disk;
 pub mod ffi;
 pub mod guard;
 #[cfg(test)]
@@ -11,3 +12,4 @@ pub mod rng;
 pub mod sample;
 #[cfg(feature = "self-test")]
 pub mod stand_in;
+mod structs;

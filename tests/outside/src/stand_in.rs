@@ -2,7 +2,7 @@
 
 use std::slice::{from_raw_parts, from_raw_parts_mut};
 
-use crate::interface::{BlockNumbers, Device, FreeRun, Interface};
+use crate::interface::*;
 use crate::model::Model;
 
 unsafe fn shared<'a, T>(items: *const T, length: usize) -> &'a [T] {
@@ -22,14 +22,13 @@ unsafe fn unique<'a, T>(items: *mut T, length: usize) -> &'a mut [T] {
 }
 
 #[no_mangle]
-unsafe extern "C" fn amseokbin_refusal_words(
-    number: u8,
-    words: *mut u8,
-    words_length: usize,
-    used: *mut u64,
-    used_length: usize,
-) -> u8 {
-    Model.refusal_words(number, unique(words, words_length), unique(used, used_length))
+unsafe extern "C" fn amseokbin_version() -> u32 {
+    Model.version()
+}
+
+#[no_mangle]
+unsafe extern "C" fn amseokbin_refusal_words(number: u8) -> Words {
+    Model.refusal_words(number)
 }
 
 #[no_mangle]
@@ -43,92 +42,33 @@ unsafe extern "C" fn amseokbin_checksum_continued(before: u32, bytes: *const u8,
 }
 
 #[no_mangle]
-unsafe extern "C" fn amseokbin_block_read(
-    block: *const u8,
-    block_length: usize,
-    numbers: *mut u64,
-    numbers_length: usize,
-    pool: *mut u8,
-    pool_length: usize,
-    device: *mut u8,
-    device_length: usize,
-) -> u8 {
-    Model.block_read(
-        shared(block, block_length),
-        unique(numbers, numbers_length),
-        unique(pool, pool_length),
-        unique(device, device_length),
-    )
+unsafe extern "C" fn amseokbin_later(time: Time, than: Time) -> bool {
+    Model.later(time, than)
 }
 
 #[no_mangle]
-unsafe extern "C" fn amseokbin_block_write(
-    sectors: u64,
-    metadata: u32,
-    reserved: u32,
-    a_seconds: u64,
-    a_nanoseconds: u32,
-    a_bytes: u32,
-    a_crc: u32,
-    b_seconds: u64,
-    b_nanoseconds: u32,
-    b_bytes: u32,
-    b_crc: u32,
-    pool: *const u8,
-    pool_length: usize,
-    device: *const u8,
-    device_length: usize,
-    block: *mut u8,
-    block_length: usize,
-) -> u8 {
-    Model.block_write(
-        &BlockNumbers {
-            sectors,
-            metadata,
-            reserved,
-            a_seconds,
-            a_nanoseconds,
-            a_bytes,
-            a_crc,
-            b_seconds,
-            b_nanoseconds,
-            b_bytes,
-            b_crc,
-        },
-        shared(pool, pool_length),
-        shared(device, device_length),
-        unique(block, block_length),
-    )
+unsafe extern "C" fn amseokbin_locate_blocks(sectors: u64) -> BlocksAnswer {
+    Model.locate_blocks(sectors)
 }
 
 #[no_mangle]
-unsafe extern "C" fn amseokbin_places(
-    sectors: u64,
-    metadata: u32,
-    reserved: u32,
-    places: *mut u64,
-    places_length: usize,
-) -> u8 {
-    Model.places(&Device { sectors, metadata, reserved }, unique(places, places_length))
+unsafe extern "C" fn amseokbin_places(device: Device) -> PlacesAnswer {
+    Model.places(device)
 }
 
 #[no_mangle]
-unsafe extern "C" fn amseokbin_copy_read(
-    copy: *const u8,
-    copy_length: usize,
-    numbers: *mut u64,
-    numbers_length: usize,
-    pool: *mut u8,
-    pool_length: usize,
-    device: *mut u8,
-    device_length: usize,
-) -> u8 {
-    Model.copy_read(
-        shared(copy, copy_length),
-        unique(numbers, numbers_length),
-        unique(pool, pool_length),
-        unique(device, device_length),
-    )
+unsafe extern "C" fn amseokbin_block_read(bytes: *const u8, bytes_length: usize) -> BlockAnswer {
+    Model.block_read(shared(bytes, bytes_length))
+}
+
+#[no_mangle]
+unsafe extern "C" fn amseokbin_block_write(block: BlockFields, bytes: *mut u8, bytes_length: usize) -> Refused {
+    Model.block_write(block, unique(bytes, bytes_length))
+}
+
+#[no_mangle]
+unsafe extern "C" fn amseokbin_copy_read(copy: *const u8, copy_length: usize) -> CopyAnswer {
+    Model.copy_read(shared(copy, copy_length))
 }
 
 #[no_mangle]
@@ -137,10 +77,8 @@ unsafe extern "C" fn amseokbin_discover(
     front_length: usize,
     back: *const u8,
     back_length: usize,
-    found: *mut u64,
-    found_length: usize,
-) -> u8 {
-    Model.discover(shared(front, front_length), shared(back, back_length), unique(found, found_length))
+) -> FoundAnswer {
+    Model.discover(shared(front, front_length), shared(back, back_length))
 }
 
 #[no_mangle]
@@ -151,15 +89,8 @@ unsafe extern "C" fn amseokbin_read_found(
     back_length: usize,
     record: *mut u8,
     record_length: usize,
-    found: *mut u64,
-    found_length: usize,
-) -> u8 {
-    Model.read_found(
-        shared(front, front_length),
-        shared(back, back_length),
-        unique(record, record_length),
-        unique(found, found_length),
-    )
+) -> FoundAnswer {
+    Model.read_found(shared(front, front_length), shared(back, back_length), unique(record, record_length))
 }
 
 #[no_mangle]
@@ -168,10 +99,33 @@ unsafe extern "C" fn amseokbin_in_step(
     front_length: usize,
     back: *const u8,
     back_length: usize,
-    step: *mut u64,
-    step_length: usize,
-) -> u8 {
-    Model.in_step(shared(front, front_length), shared(back, back_length), unique(step, step_length))
+) -> StepAnswer {
+    Model.in_step(shared(front, front_length), shared(back, back_length))
+}
+
+#[no_mangle]
+unsafe extern "C" fn amseokbin_apply(
+    device: Device,
+    sector: u64,
+    bytes: *const u8,
+    bytes_length: usize,
+    front: *mut u8,
+    front_length: usize,
+    back: *mut u8,
+    back_length: usize,
+) -> Refused {
+    Model.apply(device, sector, shared(bytes, bytes_length), unique(front, front_length), unique(back, back_length))
+}
+
+#[no_mangle]
+unsafe extern "C" fn amseokbin_lay(
+    copy: *mut u8,
+    copy_length: usize,
+    area: u8,
+    record: *const u8,
+    record_length: usize,
+) -> Refused {
+    Model.lay(unique(copy, copy_length), area, shared(record, record_length))
 }
 
 #[no_mangle]
@@ -180,18 +134,11 @@ unsafe extern "C" fn amseokbin_update_check(
     front_length: usize,
     back: *const u8,
     back_length: usize,
-    seconds: u64,
-    nanoseconds: u32,
+    time: Time,
     record: *const u8,
     record_length: usize,
-) -> u8 {
-    Model.update_check(
-        shared(front, front_length),
-        shared(back, back_length),
-        seconds,
-        nanoseconds,
-        shared(record, record_length),
-    )
+) -> Refused {
+    Model.update_check(shared(front, front_length), shared(back, back_length), time, shared(record, record_length))
 }
 
 #[no_mangle]
@@ -200,37 +147,26 @@ unsafe extern "C" fn amseokbin_update_plan(
     front_length: usize,
     back: *const u8,
     back_length: usize,
-    seconds: u64,
-    nanoseconds: u32,
+    time: Time,
     record: *const u8,
     record_length: usize,
-    plan: *mut u8,
-    plan_length: usize,
-) -> u8 {
-    Model.update_plan(
-        shared(front, front_length),
-        shared(back, back_length),
-        seconds,
-        nanoseconds,
-        shared(record, record_length),
-        unique(plan, plan_length),
-    )
+) -> UpdateAnswer {
+    Model.update_plan(shared(front, front_length), shared(back, back_length), time, shared(record, record_length))
 }
 
 #[no_mangle]
-unsafe extern "C" fn amseokbin_update_count(plan: *const u8, plan_length: usize) -> u64 {
-    Model.update_count(shared(plan, plan_length))
+unsafe extern "C" fn amseokbin_update_count(plan: UpdatePlan) -> u64 {
+    Model.update_count(plan)
 }
 
 #[no_mangle]
-unsafe extern "C" fn amseokbin_update_group(plan: *const u8, plan_length: usize, number: u64) -> u8 {
-    Model.update_group(shared(plan, plan_length), number)
+unsafe extern "C" fn amseokbin_update_group(plan: UpdatePlan, number: u64) -> u8 {
+    Model.update_group(plan, number)
 }
 
 #[no_mangle]
 unsafe extern "C" fn amseokbin_update_store(
-    plan: *const u8,
-    plan_length: usize,
+    plan: UpdatePlan,
     front: *const u8,
     front_length: usize,
     back: *const u8,
@@ -240,29 +176,15 @@ unsafe extern "C" fn amseokbin_update_store(
     number: u64,
     bytes: *mut u8,
     bytes_length: usize,
-    sector: *mut u64,
-    sector_length: usize,
-) -> u8 {
+) -> StoreAnswer {
     Model.update_store(
-        shared(plan, plan_length),
+        plan,
         shared(front, front_length),
         shared(back, back_length),
         shared(record, record_length),
         number,
         unique(bytes, bytes_length),
-        unique(sector, sector_length),
     )
-}
-
-#[no_mangle]
-unsafe extern "C" fn amseokbin_lay(
-    copy: *mut u8,
-    copy_length: usize,
-    area_b: bool,
-    record: *const u8,
-    record_length: usize,
-) -> u8 {
-    Model.lay(unique(copy, copy_length), area_b, shared(record, record_length))
 }
 
 #[no_mangle]
@@ -271,27 +193,53 @@ unsafe extern "C" fn amseokbin_format(
     front_length: usize,
     back: *mut u8,
     back_length: usize,
-    sectors: u64,
-    metadata: u32,
-    reserved: u32,
+    device: Device,
     pool: *const u8,
     pool_length: usize,
-    device: *const u8,
-    device_length: usize,
-    seconds: u64,
-    nanoseconds: u32,
+    blockdev: *const u8,
+    blockdev_length: usize,
+    time: Time,
     record: *const u8,
     record_length: usize,
-) -> u8 {
+) -> Refused {
     Model.format(
         unique(front, front_length),
         unique(back, back_length),
-        &Device { sectors, metadata, reserved },
+        device,
         shared(pool, pool_length),
-        shared(device, device_length),
-        seconds,
-        nanoseconds,
+        shared(blockdev, blockdev_length),
+        time,
         shared(record, record_length),
+    )
+}
+
+#[no_mangle]
+unsafe extern "C" fn amseokbin_format_count() -> u64 {
+    Model.format_count()
+}
+
+#[no_mangle]
+unsafe extern "C" fn amseokbin_format_group(number: u64) -> u8 {
+    Model.format_group(number)
+}
+
+#[no_mangle]
+unsafe extern "C" fn amseokbin_format_store(
+    device: Device,
+    front: *const u8,
+    front_length: usize,
+    back: *const u8,
+    back_length: usize,
+    number: u64,
+    bytes: *mut u8,
+    bytes_length: usize,
+) -> StoreAnswer {
+    Model.format_store(
+        device,
+        shared(front, front_length),
+        shared(back, back_length),
+        number,
+        unique(bytes, bytes_length),
     )
 }
 
@@ -301,26 +249,23 @@ unsafe extern "C" fn amseokbin_mend_plan(
     front_length: usize,
     back: *const u8,
     back_length: usize,
-    plan: *mut u8,
-    plan_length: usize,
-) -> u8 {
-    Model.mend_plan(shared(front, front_length), shared(back, back_length), unique(plan, plan_length))
+) -> MendAnswer {
+    Model.mend_plan(shared(front, front_length), shared(back, back_length))
 }
 
 #[no_mangle]
-unsafe extern "C" fn amseokbin_mend_count(plan: *const u8, plan_length: usize) -> u64 {
-    Model.mend_count(shared(plan, plan_length))
+unsafe extern "C" fn amseokbin_mend_count(plan: MendPlan) -> u64 {
+    Model.mend_count(plan)
 }
 
 #[no_mangle]
-unsafe extern "C" fn amseokbin_mend_group(plan: *const u8, plan_length: usize, number: u64) -> u8 {
-    Model.mend_group(shared(plan, plan_length), number)
+unsafe extern "C" fn amseokbin_mend_group(plan: MendPlan, number: u64) -> u8 {
+    Model.mend_group(plan, number)
 }
 
 #[no_mangle]
 unsafe extern "C" fn amseokbin_mend_store(
-    plan: *const u8,
-    plan_length: usize,
+    plan: MendPlan,
     front: *const u8,
     front_length: usize,
     back: *const u8,
@@ -328,188 +273,119 @@ unsafe extern "C" fn amseokbin_mend_store(
     number: u64,
     bytes: *mut u8,
     bytes_length: usize,
-    sector: *mut u64,
-    sector_length: usize,
-) -> u8 {
-    Model.mend_store(
-        shared(plan, plan_length),
-        shared(front, front_length),
-        shared(back, back_length),
-        number,
-        unique(bytes, bytes_length),
-        unique(sector, sector_length),
-    )
+) -> StoreAnswer {
+    Model.mend_store(plan, shared(front, front_length), shared(back, back_length), number, unique(bytes, bytes_length))
 }
 
 #[no_mangle]
-unsafe extern "C" fn amseokbin_record_check(
-    sectors: u64,
-    metadata: u32,
-    reserved: u32,
-    record: *const u8,
-    record_length: usize,
-) -> u8 {
-    Model.record_check(&Device { sectors, metadata, reserved }, shared(record, record_length))
+unsafe extern "C" fn amseokbin_record_check(device: Device, record: *const u8, record_length: usize) -> Refused {
+    Model.record_check(device, shared(record, record_length))
 }
 
 #[no_mangle]
-unsafe extern "C" fn amseokbin_record_head(
-    sectors: u64,
-    metadata: u32,
-    reserved: u32,
-    record: *const u8,
-    record_length: usize,
-    head: *mut u64,
-    head_length: usize,
-) -> u8 {
-    Model.record_head(&Device { sectors, metadata, reserved }, shared(record, record_length), unique(head, head_length))
+unsafe extern "C" fn amseokbin_record_head(device: Device, record: *const u8, record_length: usize) -> HeadAnswer {
+    Model.record_head(device, shared(record, record_length))
 }
 
 #[no_mangle]
 unsafe extern "C" fn amseokbin_record_segment(
-    sectors: u64,
-    metadata: u32,
-    reserved: u32,
+    device: Device,
     record: *const u8,
     record_length: usize,
     position: u64,
-    segment: *mut u64,
-    segment_length: usize,
-) -> u8 {
-    Model.record_segment(
-        &Device { sectors, metadata, reserved },
-        shared(record, record_length),
-        position,
-        unique(segment, segment_length),
-    )
+) -> SegmentAnswer {
+    Model.record_segment(device, shared(record, record_length), position)
 }
 
 #[no_mangle]
 unsafe extern "C" fn amseokbin_record_segments(
-    sectors: u64,
-    metadata: u32,
-    reserved: u32,
+    device: Device,
     record: *const u8,
     record_length: usize,
     position: u64,
     table: *mut u64,
     table_length: usize,
-    count: *mut u64,
-    count_length: usize,
-) -> u8 {
-    Model.record_segments(
-        &Device { sectors, metadata, reserved },
-        shared(record, record_length),
-        position,
-        unique(table, table_length),
-        unique(count, count_length),
-    )
+) -> CountAnswer {
+    Model.record_segments(device, shared(record, record_length), position, unique(table, table_length))
 }
 
 #[no_mangle]
-unsafe extern "C" fn amseokbin_record_begin(record: *mut u8, record_length: usize, block_size: u32) -> u8 {
+unsafe extern "C" fn amseokbin_record_begin(record: *mut u8, record_length: usize, block_size: u32) -> Refused {
     Model.record_begin(unique(record, record_length), block_size)
 }
 
 #[no_mangle]
-unsafe extern "C" fn amseokbin_free_total(
-    sectors: u64,
-    metadata: u32,
-    reserved: u32,
-    record: *const u8,
+unsafe extern "C" fn amseokbin_record_put(
+    record: *mut u8,
     record_length: usize,
-    total: *mut u64,
-    total_length: usize,
-) -> u8 {
-    Model.free_total(
-        &Device { sectors, metadata, reserved },
-        shared(record, record_length),
-        unique(total, total_length),
-    )
+    position: u64,
+    segment: SegmentFields,
+) -> LengthAnswer {
+    Model.record_put(unique(record, record_length), position, segment)
+}
+
+#[no_mangle]
+unsafe extern "C" fn amseokbin_free_total(device: Device, record: *const u8, record_length: usize) -> TotalAnswer {
+    Model.free_total(device, shared(record, record_length))
 }
 
 #[no_mangle]
 unsafe extern "C" fn amseokbin_free_runs(
-    sectors: u64,
-    metadata: u32,
-    reserved: u32,
-    record: *const u8,
-    record_length: usize,
-    table: *mut u64,
-    table_length: usize,
-    count: *mut u64,
-    count_length: usize,
-) -> u8 {
-    Model.free_runs(
-        &Device { sectors, metadata, reserved },
-        shared(record, record_length),
-        unique(table, table_length),
-        unique(count, count_length),
-    )
-}
-
-#[no_mangle]
-unsafe extern "C" fn amseokbin_free_run_table(
-    sectors: u64,
-    metadata: u32,
-    reserved: u32,
+    device: Device,
     record: *const u8,
     record_length: usize,
     table: *mut FreeRun,
     entries: usize,
-    count: *mut u64,
-    count_length: usize,
-) -> u8 {
-    Model.free_run_table(
-        &Device { sectors, metadata, reserved },
-        shared(record, record_length),
-        unique(table, entries),
-        unique(count, count_length),
-    )
+) -> CountAnswer {
+    Model.free_runs(device, shared(record, record_length), unique(table, entries))
+}
+
+#[no_mangle]
+unsafe extern "C" fn amseokbin_run_count(device: Device, record: *const u8, record_length: usize) -> CountAnswer {
+    Model.run_count(device, shared(record, record_length))
+}
+
+#[no_mangle]
+unsafe extern "C" fn amseokbin_run_at(
+    device: Device,
+    record: *const u8,
+    record_length: usize,
+    number: u64,
+) -> RunAnswer {
+    Model.run_at(device, shared(record, record_length), number)
+}
+
+#[no_mangle]
+unsafe extern "C" fn amseokbin_first_fit(
+    device: Device,
+    record: *const u8,
+    record_length: usize,
+    sectors: u64,
+) -> RunAnswer {
+    Model.first_fit(device, shared(record, record_length), sectors)
 }
 
 #[no_mangle]
 unsafe extern "C" fn amseokbin_allocate(
-    sectors: u64,
-    metadata: u32,
-    reserved: u32,
+    device: Device,
     record: *const u8,
     record_length: usize,
     kind: u16,
-    length: u64,
+    sectors: u64,
     changed: *mut u8,
     changed_length: usize,
-    answer: *mut u64,
-    answer_length: usize,
-) -> u8 {
-    Model.allocate(
-        &Device { sectors, metadata, reserved },
-        shared(record, record_length),
-        kind,
-        length,
-        unique(changed, changed_length),
-        unique(answer, answer_length),
-    )
+) -> AllocationAnswer {
+    Model.allocate(device, shared(record, record_length), kind, sectors, unique(changed, changed_length))
 }
 
 #[no_mangle]
 unsafe extern "C" fn amseokbin_release(
-    sectors: u64,
-    metadata: u32,
-    reserved: u32,
+    device: Device,
     record: *const u8,
     record_length: usize,
     position: u64,
     changed: *mut u8,
     changed_length: usize,
-    answer: *mut u64,
-    answer_length: usize,
-) -> u8 {
-    Model.release(
-        &Device { sectors, metadata, reserved },
-        shared(record, record_length),
-        position,
-        unique(changed, changed_length),
-        unique(answer, answer_length),
-    )
+) -> LengthAnswer {
+    Model.release(device, shared(record, record_length), position, unique(changed, changed_length))
 }

@@ -6,7 +6,7 @@ use std::hint::black_box;
 use std::time::Instant;
 
 use outside::ffi::Library;
-use outside::interface::{FreeRun, Interface, BLOCK_NUMBERS, FOUND, MEND_PLAN, UPDATE_PLAN};
+use outside::interface::{Answer, FreeRun, Interface};
 use outside::model::block::{Identity, Time};
 use outside::model::layout::{Device, COPY, RECORD_LIMIT, SECTOR};
 use outside::model::record::{Segment, MAX_SEGMENTS};
@@ -37,7 +37,7 @@ fn main() {
     mend(&mut rng);
     record_clash(&mut rng);
     free_runs(&mut rng);
-    free_run_table(&mut rng);
+    apply(&mut rng);
 }
 
 /// Times a call by both and prints a row.
@@ -79,9 +79,11 @@ fn median(mut samples: Vec<f64>) -> f64 {
     samples[samples.len() / 2]
 }
 
-/// A call that must not be refused.
-fn answered(number: u8) {
-    assert_eq!(black_box(number), 0, "the call is refused");
+/// The answer of a call that must not be refused.
+fn answered<A: Answer>(answer: A) -> A {
+    let answer = black_box(answer);
+    assert_eq!(answer.number(), 0, "the call is refused");
+    answer
 }
 
 fn identity() -> Identity {
@@ -138,53 +140,48 @@ fn full_copies(rng: &mut Rng) -> [Vec<u8>; 2] {
 
 fn block(rng: &mut Rng) {
     let block = get_block(&full_copies(rng)[0]);
-    let (mut numbers, mut pool, mut device) = ([0; BLOCK_NUMBERS], [0; 32], [0; 32]);
     row("reading a block", |api| {
-        let block = black_box(&block);
-        answered(api.block_read(block, &mut numbers, &mut pool, &mut device));
-        black_box((&numbers, &pool, &device));
+        answered(api.block_read(black_box(&block)));
     });
 }
 
 fn discovery(rng: &mut Rng) {
     let [front, back] = full_copies(rng);
-    let mut found = [0; FOUND];
     row("discovery, 8192 bytes in all four areas", |api| {
-        answered(api.discover(black_box(&front), black_box(&back), &mut found));
-        black_box(&found);
+        answered(api.discover(black_box(&front), black_box(&back)));
     });
 }
 
 fn record_check(rng: &mut Rng) {
     let record = scattered(rng, MAX_SEGMENTS);
     row("checking a record of 409 segments", |api| {
-        answered(api.record_check(&DEVICE, black_box(&record)));
+        answered(api.record_check(DEVICE, black_box(&record)));
     });
 }
 
 fn record_segments(rng: &mut Rng) {
     let record = scattered(rng, MAX_SEGMENTS);
     let tables = [&Library as &dyn Interface, &Model].map(|api| {
-        let (mut table, mut count) = ([0; 3 * MAX_SEGMENTS], [0]);
-        answered(api.record_segments(&DEVICE, &record, 0, &mut table, &mut count));
-        (table, count)
+        let mut table = [0; 3 * MAX_SEGMENTS];
+        let answer = answered(api.record_segments(DEVICE, &record, 0, &mut table));
+        (table, answer.count)
     });
     assert_eq!(tables[0], tables[1]);
-    let (mut table, mut count) = ([0; 3 * MAX_SEGMENTS], [0]);
+    assert_eq!(tables[0].1, MAX_SEGMENTS as u64);
+    let mut table = [0; 3 * MAX_SEGMENTS];
     row("all 409 segments by one call", |api| {
-        answered(api.record_segments(&DEVICE, black_box(&record), 0, &mut table, &mut count));
-        black_box((&table, &count));
+        answered(api.record_segments(DEVICE, black_box(&record), 0, &mut table));
+        black_box(&table);
     });
-    assert_eq!(count, [MAX_SEGMENTS as u64]);
 }
 
 fn allocation(rng: &mut Rng) {
     let record = scattered(rng, MAX_SEGMENTS - 1);
-    let (mut changed, mut answer) = ([0; RECORD_LIMIT], [0; 2]);
+    let mut changed = [0; RECORD_LIMIT];
     // Only the last free run is long enough.
     row("allocation, 408 scattered segments, last run", |api| {
-        answered(api.allocate(&DEVICE, black_box(&record), 2, 20_000, &mut changed, &mut answer));
-        black_box((&changed, &answer));
+        answered(api.allocate(DEVICE, black_box(&record), 2, 20_000, &mut changed));
+        black_box(&changed);
     });
 }
 
@@ -193,16 +190,27 @@ fn update(rng: &mut Rng) {
     assert_eq!(front.len(), COPY);
     let record = scattered(rng, MAX_SEGMENTS);
     let name = format!("update of {} bytes: plan and all 34 stores", record.len());
-    let (mut plan, mut bytes, mut sector) = ([0; UPDATE_PLAN], [0; SECTOR], [0]);
+    let mut bytes = [0; SECTOR];
     row(&name, |api| {
         let (front, back, record) = (black_box(&front), black_box(&back), black_box(&record));
-        answered(api.update_plan(front, back, 12, 0, record, &mut plan));
-        let count = api.update_count(&plan);
+        let plan = answered(api.update_plan(front, back, time(12), record)).plan;
+        let count = api.update_count(plan);
         assert_eq!(count, 34);
         for number in 0..count {
-            answered(api.update_store(&plan, front, back, record, number, &mut bytes, &mut sector));
-            black_box((&bytes, &sector));
+            answered(api.update_store(plan, front, back, record, number, &mut bytes));
+            black_box(&bytes);
         }
+    });
+    // Into copies that have the record already: each store is asked for and applied as it would be to others.
+    let plan = Model.update_plan(&front, &back, time(12), &record).plan;
+    let (mut front, mut back) = (front, back);
+    row("update, stores applied", |api| {
+        let record = black_box(&record);
+        for number in 0..34 {
+            let store = answered(api.update_store(plan, &front, &back, record, number, &mut bytes));
+            answered(api.apply(DEVICE, store.sector, &bytes, &mut front, &mut back));
+        }
+        black_box((&front, &back));
     });
 }
 
@@ -214,15 +222,15 @@ fn mend(rng: &mut Rng) {
     let torn = copy(rng, &identity(), &[Area::Whole(time(10), old), Area::Torn(time(11), new)]);
     for (front, state, stores) in [(front, "later record in front", 18), (torn, "later entry torn", 19)] {
         let name = format!("mend, {state}: plan and all {stores} stores");
-        let (mut plan, mut bytes, mut sector) = ([0; MEND_PLAN], [0; SECTOR], [0]);
+        let mut bytes = [0; SECTOR];
         row(&name, |api| {
             let (front, back) = (black_box(&front), black_box(&back));
-            answered(api.mend_plan(front, back, &mut plan));
-            let count = api.mend_count(&plan);
+            let plan = answered(api.mend_plan(front, back)).plan;
+            let count = api.mend_count(plan);
             assert_eq!(count, stores);
             for number in 0..count {
-                answered(api.mend_store(&plan, front, back, number, &mut bytes, &mut sector));
-                black_box((&bytes, &sector));
+                answered(api.mend_store(plan, front, back, number, &mut bytes));
+                black_box(&bytes);
             }
         });
     }
@@ -233,8 +241,8 @@ fn record_clash(rng: &mut Rng) {
     for (position, place) in [(last, "last two"), (last / 2, "middle two")] {
         let record = clashing(rng, MAX_SEGMENTS, position);
         row(&format!("record refused with 19, {place} of 409"), |api| {
-            let number = black_box(api.record_check(&DEVICE, black_box(&record)));
-            assert_eq!(number, Refusal::SegmentClash.number());
+            let refused = black_box(api.record_check(DEVICE, black_box(&record)));
+            assert_eq!(refused.number, Refusal::SegmentClash.number());
         });
     }
 }
@@ -242,31 +250,25 @@ fn record_clash(rng: &mut Rng) {
 fn free_runs(rng: &mut Rng) {
     let record = scattered(rng, MAX_SEGMENTS);
     let tables = [&Library as &dyn Interface, &Model].map(|api| {
-        let (mut table, mut count) = ([0; 2 * MAX_SEGMENTS + 2], [0]);
-        answered(api.free_runs(&DEVICE, &record, &mut table, &mut count));
-        (table, count)
+        let mut table = [FreeRun::default(); MAX_SEGMENTS + 1];
+        let answer = answered(api.free_runs(DEVICE, &record, &mut table));
+        (table, answer.count)
     });
     assert_eq!(tables[0], tables[1]);
-    let (mut table, mut count) = ([0; 2 * MAX_SEGMENTS + 2], [0]);
-    row("free runs as numbers, 409 scattered segments", |api| {
-        answered(api.free_runs(&DEVICE, black_box(&record), &mut table, &mut count));
-        black_box((&table, &count));
+    assert_eq!(tables[0].1, MAX_SEGMENTS as u64);
+    let mut table = [FreeRun::default(); MAX_SEGMENTS + 1];
+    row("free runs as structs, 409 scattered segments", |api| {
+        answered(api.free_runs(DEVICE, black_box(&record), &mut table));
+        black_box(&table);
     });
-    assert_eq!(count, [MAX_SEGMENTS as u64]);
 }
 
-fn free_run_table(rng: &mut Rng) {
-    let record = scattered(rng, MAX_SEGMENTS);
-    let tables = [&Library as &dyn Interface, &Model].map(|api| {
-        let (mut table, mut runs) = ([FreeRun::default(); MAX_SEGMENTS + 1], [0]);
-        answered(api.free_run_table(&DEVICE, &record, &mut table, &mut runs));
-        (table, runs)
+fn apply(rng: &mut Rng) {
+    let [mut front, mut back] = full_copies(rng);
+    let bytes = rng.bytes(SECTOR);
+    let sector = DEVICE.area_sector(1, 1) + 7;
+    row("apply", |api| {
+        answered(api.apply(DEVICE, black_box(sector), black_box(&bytes), &mut front, &mut back));
+        black_box((&front, &back));
     });
-    assert_eq!(tables[0], tables[1]);
-    let (mut table, mut runs) = ([FreeRun::default(); MAX_SEGMENTS + 1], [0]);
-    row("free runs as structs, 409 scattered segments", |api| {
-        answered(api.free_run_table(&DEVICE, black_box(&record), &mut table, &mut runs));
-        black_box((&table, &runs));
-    });
-    assert_eq!(runs, [MAX_SEGMENTS as u64]);
 }

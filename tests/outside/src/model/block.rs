@@ -12,6 +12,7 @@ pub const MAX_NANOSECONDS: u32 = 999_999_999;
 
 pub type BlockBytes = [u8; SECTOR];
 
+#[repr(C)]
 #[derive(Clone, Copy, Debug, Default, PartialEq, Eq, PartialOrd, Ord)]
 pub struct Time {
     pub seconds: u64,
@@ -74,19 +75,25 @@ impl Block {
         require(block.len() == SECTOR, Refusal::SliceSize)?;
         require(block[4..20] == SIGNATURE, Refusal::Signature)?;
         require(u32_at(block, 0) == crc32(&block[4..]), Refusal::BlockCrc)?;
-        let device = Device { sectors: u64_at(block, 20), metadata: u32_at(block, 160), reserved: u32_at(block, 164) };
+        let read = Block::fields(block);
+        let device = &read.identity.device;
         device.check_sectors()?;
         let zero = [28..32, 116..128, 148..160, 168..512].map(|range| all_zero(&block[range]));
         require(zero == [true; 4], Refusal::NotZero)?;
         require(is_uuid(&block[32..64]) && is_uuid(&block[64..96]), Refusal::UuidByte)?;
         device.check_metadata()?;
         device.check_reserved()?;
-        let entries = ENTRY_OFFSET.map(|at| Entry::read(block, at));
-        check_entries(&entries)?;
+        check_entries(&read.entries)?;
+        Ok(read)
+    }
+
+    /// The fields of a block of 512 bytes, without a test.
+    pub fn fields(block: &[u8]) -> Block {
+        let device = Device { sectors: u64_at(block, 20), metadata: u32_at(block, 160), reserved: u32_at(block, 164) };
         let mut identity = Identity { device, pool_uuid: [0; 32], device_uuid: [0; 32] };
         identity.pool_uuid.copy_from_slice(&block[32..64]);
         identity.device_uuid.copy_from_slice(&block[64..96]);
-        Ok(Block { identity, entries })
+        Block { identity, entries: ENTRY_OFFSET.map(|at| Entry::read(block, at)) }
     }
 
     /// Writes a block. 4, 6 to 9.

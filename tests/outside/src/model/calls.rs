@@ -1,206 +1,226 @@
 //! The calls of the C interface, by the independent implementation.
 
-use super::block::{Block, Entry, Identity, Time};
+use super::block::{Block, Entry, Identity};
 use super::discovery::{self, Found, Pair, Reading};
-use super::format;
 use super::layout::{BACK, COPY, FRONT, SECTOR};
-use super::plan_bytes::{decode_mend, decode_update, encode_mend, encode_update, MEND_PLAN, UPDATE_PLAN};
-use super::record::{self, check, check_length, HEAD_BYTES, SEGMENT_BYTES};
+use super::mend::Mend;
+use super::record::{self, check, check_length, Segment, HEAD_BYTES, SEGMENT_BYTES};
 use super::refusal::{self, require, Refusal};
-use super::{crc, mend, room, update};
-use crate::interface::{BlockNumbers, Device, FreeRun, Interface, BLOCK_NUMBERS, COPY_NUMBERS, FOUND, PLACES};
+use super::update::Update;
+use super::{apply, crc, format, mend, room, update};
+use crate::interface::*;
 
 /// The independent implementation.
 pub struct Model;
 
-type Done = Result<(), Refusal>;
+type Done<T> = Result<T, Refusal>;
 
-fn number(done: Done) -> u8 {
-    done.err().map_or(0, Refusal::number)
+/// The answer of a call, or its refusal with zero in every other field.
+fn answer<A: Refusable>(done: Done<A>) -> A {
+    done.unwrap_or_else(|refusal| A::refusal(refusal.number()))
 }
 
-fn has_size<T>(slice: &[T], size: usize) -> Done {
+fn refused(done: Done<()>) -> Refused {
+    answer(done.map(|()| Refused::default()))
+}
+
+fn has_size<T>(slice: &[T], size: usize) -> Done<()> {
     require(slice.len() == size, Refusal::SliceSize)
 }
 
-fn has_room<T>(slice: &[T], size: usize) -> Done {
+fn has_room<T>(slice: &[T], size: usize) -> Done<()> {
     require(slice.len() >= size, Refusal::SliceSize)
 }
 
-fn uuid(bytes: &[u8]) -> Result<[u8; 32], Refusal> {
+fn uuid(bytes: &[u8]) -> Done<[u8; UUID]> {
     bytes.try_into().map_err(|_| Refusal::SliceSize)
 }
 
-fn found_numbers(found: &Found) -> [u64; FOUND] {
-    [
-        found.side as u64,
-        found.area as u64,
-        found.bytes as u64,
-        found.time.seconds,
-        u64::from(found.time.nanoseconds),
-        found.other.map_or(0, |refusal| u64::from(refusal.number())),
-    ]
+/// The side or the area, or yes, in a field that the caller made: every number but 0 is the second.
+fn second(field: u8) -> usize {
+    usize::from(field != 0)
 }
 
-fn block_numbers(block: &Block) -> [u64; BLOCK_NUMBERS] {
-    let Device { sectors, metadata, reserved } = block.identity.device;
-    let [a, b] = block.entries.map(|entry| {
-        [entry.time.seconds, u64::from(entry.time.nanoseconds), u64::from(entry.bytes), u64::from(entry.crc)]
-    });
-    let (metadata, reserved) = (u64::from(metadata), u64::from(reserved));
-    [sectors, metadata, reserved, a[0], a[1], a[2], a[3], b[0], b[1], b[2], b[3]]
-}
-
-fn refusal_words(number: u8, words: &mut [u8], used: &mut [u64]) -> Done {
-    has_size(used, 1)?;
-    let line = refusal::words(number).as_bytes();
-    has_room(words, line.len())?;
-    words[..line.len()].copy_from_slice(line);
-    used[0] = line.len() as u64;
-    Ok(())
-}
-
-fn block_read(block: &[u8], numbers: &mut [u64], pool: &mut [u8], device: &mut [u8]) -> Done {
-    has_size(numbers, BLOCK_NUMBERS)?;
-    has_size(pool, 32)?;
-    has_size(device, 32)?;
-    let read = Block::read(block)?;
-    numbers.copy_from_slice(&block_numbers(&read));
-    pool.copy_from_slice(&read.identity.pool_uuid);
-    device.copy_from_slice(&read.identity.device_uuid);
-    Ok(())
-}
-
-fn block_write(numbers: &BlockNumbers, pool: &[u8], device: &[u8], block: &mut [u8]) -> Done {
-    let n = numbers;
-    has_size(block, SECTOR)?;
-    let identity = Identity {
-        device: Device { sectors: n.sectors, metadata: n.metadata, reserved: n.reserved },
-        pool_uuid: uuid(pool)?,
-        device_uuid: uuid(device)?,
-    };
-    let entry = |seconds, nanoseconds, bytes, crc| Entry { time: Time { seconds, nanoseconds }, bytes, crc };
-    let entries = [
-        entry(n.a_seconds, n.a_nanoseconds, n.a_bytes, n.a_crc),
-        entry(n.b_seconds, n.b_nanoseconds, n.b_bytes, n.b_crc),
-    ];
-    block.copy_from_slice(&Block { identity, entries }.write()?);
-    Ok(())
-}
-
-fn places(device: &Device, places: &mut [u64]) -> Done {
-    has_size(places, PLACES)?;
-    device.check()?;
-    for (side, places) in [FRONT, BACK].into_iter().zip(places.chunks_exact_mut(5)) {
-        places.copy_from_slice(&[
-            device.header_sector(side),
-            device.block_sector(side),
-            device.area_sector(side, 0),
-            device.area_sector(side, 1),
-            device.reserved_sector(side),
-        ]);
+impl From<Entry> for EntryFields {
+    fn from(Entry { time, bytes, crc }: Entry) -> Self {
+        EntryFields { seconds: time.seconds, nanoseconds: time.nanoseconds, bytes, checksum: crc }
     }
-    places[10] = device.data_start();
-    places[11] = device.data_end();
+}
+
+impl From<EntryFields> for Entry {
+    fn from(entry: EntryFields) -> Self {
+        Entry { time: entry.time(), bytes: entry.bytes, crc: entry.checksum }
+    }
+}
+
+impl From<Block> for BlockFields {
+    fn from(Block { identity, entries }: Block) -> Self {
+        let Identity { device, pool_uuid, device_uuid } = identity;
+        let [a, b] = entries.map(EntryFields::from);
+        BlockFields { device, a, b, pool: pool_uuid, blockdev: device_uuid }
+    }
+}
+
+impl From<BlockFields> for Block {
+    fn from(BlockFields { device, a, b, pool, blockdev }: BlockFields) -> Self {
+        let identity = Identity { device, pool_uuid: pool, device_uuid: blockdev };
+        Block { identity, entries: [a.into(), b.into()] }
+    }
+}
+
+impl From<Update> for UpdatePlan {
+    fn from(Update { entry, areas: [front, back] }: Update) -> Self {
+        UpdatePlan { entry: entry.into(), front: front as u8, back: back as u8 }
+    }
+}
+
+impl From<UpdatePlan> for Update {
+    fn from(UpdatePlan { entry, front, back }: UpdatePlan) -> Self {
+        Update { entry: entry.into(), areas: [second(front), second(back)] }
+    }
+}
+
+impl From<Mend> for MendPlan {
+    fn from(Mend { needed, kept, area, bytes, last }: Mend) -> Self {
+        MendPlan { bytes, needed: needed.into(), kept: kept as u8, area: area as u8, last: last.into() }
+    }
+}
+
+impl From<MendPlan> for Mend {
+    fn from(MendPlan { bytes, needed, kept, area, last }: MendPlan) -> Self {
+        Mend { needed: needed != 0, kept: second(kept), area: second(area), bytes, last: last != 0 }
+    }
+}
+
+impl From<SegmentFields> for Segment {
+    fn from(SegmentFields { kind, start, sectors }: SegmentFields) -> Self {
+        Segment { kind, start, length: sectors }
+    }
+}
+
+impl From<Segment> for SegmentFields {
+    fn from(Segment { kind, start, length }: Segment) -> Self {
+        SegmentFields { kind, start, sectors: length }
+    }
+}
+
+impl From<room::Run> for FreeRun {
+    fn from(room::Run { start, length }: room::Run) -> Self {
+        FreeRun { start, sectors: length }
+    }
+}
+
+fn locate_blocks(sectors: u64) -> Done<BlocksAnswer> {
+    let device = Device { sectors, ..Device::default() };
+    device.check_sectors()?;
+    let (front, back) = (device.block_sector(FRONT), device.block_sector(BACK));
+    Ok(BlocksAnswer { front, back, ..Default::default() })
+}
+
+fn copy_map(device: &Device, side: usize) -> CopyMap {
+    CopyMap {
+        header: device.header_sector(side),
+        block: device.block_sector(side),
+        a: device.area_sector(side, 0),
+        b: device.area_sector(side, 1),
+        reserved: device.reserved_sector(side),
+    }
+}
+
+fn places(device: &Device) -> Done<PlacesAnswer> {
+    device.check()?;
+    let (front, back) = (copy_map(device, FRONT), copy_map(device, BACK));
+    let map = DeviceMap { front, back, start: device.data_start(), end: device.data_end() };
+    Ok(PlacesAnswer { map, ..Default::default() })
+}
+
+fn block_read(bytes: &[u8]) -> Done<BlockAnswer> {
+    Ok(BlockAnswer { block: Block::read(bytes)?.into(), ..Default::default() })
+}
+
+fn block_write(block: BlockFields, bytes: &mut [u8]) -> Done<()> {
+    has_size(bytes, SECTOR)?;
+    bytes.copy_from_slice(&Block::from(block).write()?);
     Ok(())
 }
 
-fn copy_read(copy: &[u8], numbers: &mut [u64], pool: &mut [u8], device: &mut [u8]) -> Done {
-    has_size(numbers, COPY_NUMBERS)?;
-    has_size(pool, 32)?;
-    has_size(device, 32)?;
+fn copy_read(copy: &[u8]) -> Done<CopyAnswer> {
     has_size(copy, COPY)?;
     let Reading { block, present } = discovery::read_copy(copy)?;
-    let whole = [0, 1].map(|area| u64::from(discovery::is_whole(copy, area, &block.entries[area])));
-    let (of_block, of_areas) = numbers.split_at_mut(BLOCK_NUMBERS);
-    of_block.copy_from_slice(&block_numbers(&block));
-    of_areas.copy_from_slice(&[whole[0], whole[1], present.map_or(0, |area| area as u64 + 1)]);
-    pool.copy_from_slice(&block.identity.pool_uuid);
-    device.copy_from_slice(&block.identity.device_uuid);
-    Ok(())
+    let [a_whole, b_whole] = [0, 1].map(|area| discovery::is_whole(copy, area, &block.entries[area]));
+    let present = present.map_or(0, |area| area as u8 + 1);
+    Ok(CopyAnswer { block: block.into(), a_whole, b_whole, present, ..Default::default() })
 }
 
-fn discover(front: &[u8], back: &[u8], numbers: &mut [u64]) -> Done {
-    has_size(numbers, FOUND)?;
-    let found = discovery::discover(front, back)?;
-    numbers.copy_from_slice(&found_numbers(&found));
-    Ok(())
+fn found_answer(found: &Found) -> FoundAnswer {
+    FoundAnswer {
+        refusal: Refused::default(),
+        side: found.side as u8,
+        area: found.area as u8,
+        other: found.other.map_or(0, Refusal::number),
+        bytes: found.bytes as u32,
+        time: found.time,
+        block: found.block.into(),
+    }
 }
 
-fn read_found(front: &[u8], back: &[u8], record: &mut [u8], numbers: &mut [u64]) -> Done {
-    has_size(numbers, FOUND)?;
+fn read_found(front: &[u8], back: &[u8], record: &mut [u8]) -> Done<FoundAnswer> {
     let found = discovery::discover(front, back)?;
     has_room(record, found.bytes)?;
     record[..found.bytes].copy_from_slice(found.record([front, back]));
-    numbers.copy_from_slice(&found_numbers(&found));
-    Ok(())
+    Ok(found_answer(&found))
 }
 
-fn in_step(front: &[u8], back: &[u8], step: &mut [u64]) -> Done {
-    has_size(step, 1)?;
-    step[0] = u64::from(Pair::read(front, back)?.in_step());
-    Ok(())
+fn in_step(front: &[u8], back: &[u8]) -> Done<StepAnswer> {
+    let in_step = Pair::read(front, back)?.in_step();
+    Ok(StepAnswer { in_step, ..Default::default() })
 }
 
-fn update_plan(front: &[u8], back: &[u8], time: Time, record: &[u8], plan: &mut [u8]) -> Done {
-    has_size(plan, UPDATE_PLAN)?;
-    encode_update(&update::plan(front, back, time, record)?, plan);
-    Ok(())
+fn update_plan(front: &[u8], back: &[u8], time: Time, record: &[u8]) -> Done<UpdateAnswer> {
+    let plan = update::plan(front, back, time, record)?.into();
+    Ok(UpdateAnswer { plan, ..Default::default() })
 }
 
-fn update_store(
-    plan: &[u8],
-    copies: [&[u8]; 2],
-    record: &[u8],
-    number: u64,
-    bytes: &mut [u8],
-    sector: &mut [u64],
-) -> Done {
-    has_size(plan, UPDATE_PLAN)?;
-    has_size(sector, 1)?;
+fn update_store(plan: &Update, copies: [&[u8]; 2], record: &[u8], number: u64, bytes: &mut [u8]) -> Done<StoreAnswer> {
     has_size(copies[0], COPY)?;
     has_size(copies[1], COPY)?;
     let bytes = bytes.try_into().map_err(|_| Refusal::SliceSize)?;
     check_length(record)?;
-    let plan = decode_update(plan).ok_or(Refusal::NoStore)?;
     has_size(record, plan.entry.bytes as usize)?;
-    sector[0] = plan.store(copies, record, number, bytes).ok_or(Refusal::NoStore)?;
-    Ok(())
+    let sector = plan.store(copies, record, number, bytes)?;
+    Ok(StoreAnswer { sector, flush: plan.flush(number), ..Default::default() })
 }
 
-fn mend_plan(front: &[u8], back: &[u8], plan: &mut [u8]) -> Done {
-    has_size(plan, MEND_PLAN)?;
-    encode_mend(&mend::plan(front, back)?, plan);
-    Ok(())
+fn format_store(device: &Device, copies: [&[u8]; 2], number: u64, bytes: &mut [u8]) -> Done<StoreAnswer> {
+    let bytes = bytes.try_into().map_err(|_| Refusal::SliceSize)?;
+    let (sector, flush) = apply::format_bytes(device, copies, number, bytes)?;
+    Ok(StoreAnswer { sector, flush, ..Default::default() })
 }
 
-fn mend_store(plan: &[u8], copies: [&[u8]; 2], number: u64, bytes: &mut [u8], sector: &mut [u64]) -> Done {
-    has_size(plan, MEND_PLAN)?;
-    has_size(sector, 1)?;
+fn mend_plan(front: &[u8], back: &[u8]) -> Done<MendAnswer> {
+    Ok(MendAnswer { plan: mend::plan(front, back)?.into(), ..Default::default() })
+}
+
+fn mend_store(plan: &Mend, copies: [&[u8]; 2], number: u64, bytes: &mut [u8]) -> Done<StoreAnswer> {
     has_size(copies[0], COPY)?;
     has_size(copies[1], COPY)?;
     let bytes = bytes.try_into().map_err(|_| Refusal::SliceSize)?;
-    sector[0] = decode_mend(plan).store(copies, number, bytes).ok_or(Refusal::NoStore)?;
-    Ok(())
+    let sector = plan.store(copies, number, bytes)?;
+    Ok(StoreAnswer { sector, flush: plan.flush(number), ..Default::default() })
 }
 
-fn record_head(device: &Device, record: &[u8], head: &mut [u64]) -> Done {
-    has_size(head, 2)?;
+fn record_head(device: &Device, record: &[u8]) -> Done<HeadAnswer> {
     let (record, _) = check(device, record)?;
-    head.copy_from_slice(&[u64::from(record.block_size()), record.count() as u64]);
-    Ok(())
+    Ok(HeadAnswer { block_size: record.block_size(), segments: record.count() as u64, ..Default::default() })
 }
 
-fn record_segment(device: &Device, record: &[u8], position: u64, answer: &mut [u64]) -> Done {
-    has_size(answer, 3)?;
+fn record_segment(device: &Device, record: &[u8], position: u64) -> Done<SegmentAnswer> {
     let (record, _) = check(device, record)?;
-    let segment = record.segment(position).ok_or(Refusal::NoSegment)?;
-    answer.copy_from_slice(&[u64::from(segment.kind), segment.start, segment.length]);
-    Ok(())
+    let segment = record.segment(position).ok_or(Refusal::NoSegment)?.into();
+    Ok(SegmentAnswer { segment, ..Default::default() })
 }
 
-fn record_segments(device: &Device, record: &[u8], position: u64, table: &mut [u64], count: &mut [u64]) -> Done {
-    has_size(count, 1)?;
+fn record_segments(device: &Device, record: &[u8], position: u64, table: &mut [u64]) -> Done<CountAnswer> {
     let (record, _) = check(device, record)?;
     let position = position.min(record.count() as u64) as usize;
     let left = record.count() - position;
@@ -209,68 +229,77 @@ fn record_segments(device: &Device, record: &[u8], position: u64, table: &mut [u
     for (segment, entry) in record.segments_from(position).zip(table.chunks_exact_mut(3)) {
         entry.copy_from_slice(&[u64::from(segment.kind), segment.start, segment.length]);
     }
-    count[0] = left.min(table.len() / 3) as u64;
-    Ok(())
+    Ok(CountAnswer { count: left.min(table.len() / 3) as u64, ..Default::default() })
 }
 
-fn record_begin(record: &mut [u8], block_size: u32) -> Done {
+fn record_begin(record: &mut [u8], block_size: u32) -> Done<()> {
     // The room needed does not depend on the answer, so the lowest number that applies is given.
     has_room(record, HEAD_BYTES)?;
     record[..HEAD_BYTES].copy_from_slice(&record::head(block_size)?);
     Ok(())
 }
 
-fn free_total(device: &Device, record: &[u8], total: &mut [u64]) -> Done {
-    has_size(total, 1)?;
+fn record_put(record: &mut [u8], position: u64, segment: SegmentFields) -> Done<LengthAnswer> {
+    require(record::begins_with_head(record), Refusal::RecordForm)?;
+    let end = u128::from(position) * SEGMENT_BYTES as u128 + (HEAD_BYTES + SEGMENT_BYTES) as u128;
+    require(end <= record.len() as u128, Refusal::SliceSize)?;
+    let end = end as usize;
+    record[end - SEGMENT_BYTES..end].copy_from_slice(&Segment::from(segment).item());
+    Ok(LengthAnswer { length: end as u64, ..Default::default() })
+}
+
+fn free_total(device: &Device, record: &[u8]) -> Done<TotalAnswer> {
     let (record, _) = check(device, record)?;
-    total[0] = room::free_total(device, &record);
-    Ok(())
+    Ok(TotalAnswer { sectors: room::free_total(device, &record), ..Default::default() })
 }
 
-fn free_runs(device: &Device, record: &[u8], table: &mut [u64], count: &mut [u64]) -> Done {
-    has_size(count, 1)?;
-    let (_, spans) = check(device, record)?;
-    let runs = room::free_runs(device, spans.as_slice()).count();
-    has_room(table, 2 * runs)?;
-    for (run, entry) in room::free_runs(device, spans.as_slice()).zip(table.chunks_exact_mut(2)) {
-        entry.copy_from_slice(&[run.start, run.length]);
-    }
-    count[0] = runs as u64;
-    Ok(())
-}
-
-fn free_run_table(device: &Device, record: &[u8], table: &mut [FreeRun], runs: &mut [u64]) -> Done {
-    has_size(runs, 1)?;
+fn free_runs(device: &Device, record: &[u8], table: &mut [FreeRun]) -> Done<CountAnswer> {
     let (_, spans) = check(device, record)?;
     let count = room::free_runs(device, spans.as_slice()).count();
     has_room(table, count)?;
     for (run, entry) in room::free_runs(device, spans.as_slice()).zip(table) {
-        *entry = FreeRun { start: run.start, sectors: run.length };
+        *entry = run.into();
     }
-    runs[0] = count as u64;
-    Ok(())
+    Ok(CountAnswer { count: count as u64, ..Default::default() })
 }
 
-fn allocate(device: &Device, record: &[u8], kind: u16, length: u64, changed: &mut [u8], answer: &mut [u64]) -> Done {
-    has_size(answer, 2)?;
-    let segment = room::allocate(device, record, kind, length)?;
-    let new_length = record.len() + SEGMENT_BYTES;
-    has_room(changed, new_length)?;
+fn run_count(device: &Device, record: &[u8]) -> Done<CountAnswer> {
+    let (_, spans) = check(device, record)?;
+    let count = room::free_runs(device, spans.as_slice()).count() as u64;
+    Ok(CountAnswer { count, ..Default::default() })
+}
+
+fn run_at(device: &Device, record: &[u8], number: u64) -> Done<RunAnswer> {
+    let (_, spans) = check(device, record)?;
+    let mut runs = (0..).zip(room::free_runs(device, spans.as_slice()));
+    let run = runs.find(|(index, _)| *index == number).map_or(FreeRun::default(), |(_, run)| run.into());
+    Ok(RunAnswer { run, ..Default::default() })
+}
+
+fn first_fit(device: &Device, record: &[u8], sectors: u64) -> Done<RunAnswer> {
+    let (_, spans) = check(device, record)?;
+    require(sectors > 0, Refusal::SegmentPlace)?;
+    let mut runs = room::free_runs(device, spans.as_slice());
+    let run = runs.find(|run| run.length >= sectors).ok_or(Refusal::NoRoom)?.into();
+    Ok(RunAnswer { run, ..Default::default() })
+}
+
+fn allocate(device: &Device, record: &[u8], kind: u16, sectors: u64, changed: &mut [u8]) -> Done<AllocationAnswer> {
+    let segment = room::allocate(device, record, kind, sectors)?;
+    let length = record.len() + SEGMENT_BYTES;
+    has_room(changed, length)?;
     changed[..record.len()].copy_from_slice(record);
-    changed[record.len()..new_length].copy_from_slice(&segment.item());
-    answer.copy_from_slice(&[segment.start, new_length as u64]);
-    Ok(())
+    changed[record.len()..length].copy_from_slice(&segment.item());
+    Ok(AllocationAnswer { start: segment.start, length: length as u64, ..Default::default() })
 }
 
-fn release(device: &Device, record: &[u8], position: u64, changed: &mut [u8], answer: &mut [u64]) -> Done {
-    has_size(answer, 1)?;
+fn release(device: &Device, record: &[u8], position: u64, changed: &mut [u8]) -> Done<LengthAnswer> {
     let at = room::release(device, record, position)?;
-    let new_length = record.len() - SEGMENT_BYTES;
-    has_room(changed, new_length)?;
+    let length = record.len() - SEGMENT_BYTES;
+    has_room(changed, length)?;
     changed[..at].copy_from_slice(&record[..at]);
-    changed[at..new_length].copy_from_slice(&record[at + SEGMENT_BYTES..]);
-    answer[0] = new_length as u64;
-    Ok(())
+    changed[at..length].copy_from_slice(&record[at + SEGMENT_BYTES..]);
+    Ok(LengthAnswer { length: length as u64, ..Default::default() })
 }
 
 impl Interface for Model {
@@ -278,8 +307,16 @@ impl Interface for Model {
         "model"
     }
 
-    fn refusal_words(&self, number: u8, words: &mut [u8], used: &mut [u64]) -> u8 {
-        self::number(refusal_words(number, words, used))
+    fn version(&self) -> u32 {
+        // Major and minor.
+        2
+    }
+
+    fn refusal_words(&self, number: u8) -> Words {
+        let line = refusal::words(number).as_bytes();
+        let mut bytes = [0; WORDS];
+        bytes[..line.len()].copy_from_slice(line);
+        Words { bytes, used: line.len() }
     }
 
     fn checksum(&self, bytes: &[u8]) -> u32 {
@@ -290,168 +327,170 @@ impl Interface for Model {
         crc::crc32_continued(before, bytes)
     }
 
-    fn block_read(&self, block: &[u8], numbers: &mut [u64], pool: &mut [u8], device: &mut [u8]) -> u8 {
-        number(block_read(block, numbers, pool, device))
+    fn later(&self, time: Time, than: Time) -> bool {
+        time > than
     }
 
-    fn block_write(&self, numbers: &BlockNumbers, pool: &[u8], device: &[u8], block: &mut [u8]) -> u8 {
-        number(block_write(numbers, pool, device, block))
+    fn locate_blocks(&self, sectors: u64) -> BlocksAnswer {
+        answer(locate_blocks(sectors))
     }
 
-    fn places(&self, device: &Device, answer: &mut [u64]) -> u8 {
-        number(places(device, answer))
+    fn places(&self, device: Device) -> PlacesAnswer {
+        answer(places(&device))
     }
 
-    fn copy_read(&self, copy: &[u8], numbers: &mut [u64], pool: &mut [u8], device: &mut [u8]) -> u8 {
-        number(copy_read(copy, numbers, pool, device))
+    fn block_read(&self, bytes: &[u8]) -> BlockAnswer {
+        answer(block_read(bytes))
     }
 
-    fn discover(&self, front: &[u8], back: &[u8], found: &mut [u64]) -> u8 {
-        number(discover(front, back, found))
+    fn block_write(&self, block: BlockFields, bytes: &mut [u8]) -> Refused {
+        refused(block_write(block, bytes))
     }
 
-    fn read_found(&self, front: &[u8], back: &[u8], record: &mut [u8], found: &mut [u64]) -> u8 {
-        number(read_found(front, back, record, found))
+    fn copy_read(&self, copy: &[u8]) -> CopyAnswer {
+        answer(copy_read(copy))
     }
 
-    fn in_step(&self, front: &[u8], back: &[u8], step: &mut [u64]) -> u8 {
-        number(in_step(front, back, step))
+    fn discover(&self, front: &[u8], back: &[u8]) -> FoundAnswer {
+        answer(discovery::discover(front, back).map(|found| found_answer(&found)))
     }
 
-    fn update_check(&self, front: &[u8], back: &[u8], seconds: u64, nanoseconds: u32, record: &[u8]) -> u8 {
-        number(update::plan(front, back, Time { seconds, nanoseconds }, record).map(|_| ()))
+    fn read_found(&self, front: &[u8], back: &[u8], record: &mut [u8]) -> FoundAnswer {
+        answer(read_found(front, back, record))
     }
 
-    fn update_plan(
-        &self,
-        front: &[u8],
-        back: &[u8],
-        seconds: u64,
-        nanoseconds: u32,
-        record: &[u8],
-        plan: &mut [u8],
-    ) -> u8 {
-        number(update_plan(front, back, Time { seconds, nanoseconds }, record, plan))
+    fn in_step(&self, front: &[u8], back: &[u8]) -> StepAnswer {
+        answer(in_step(front, back))
     }
 
-    fn update_count(&self, plan: &[u8]) -> u64 {
-        decode_update(plan).map_or(0, |plan| plan.count())
+    fn apply(&self, device: Device, sector: u64, bytes: &[u8], front: &mut [u8], back: &mut [u8]) -> Refused {
+        refused(apply::apply(&device, sector, bytes, [front, back]))
     }
 
-    fn update_group(&self, plan: &[u8], number: u64) -> u8 {
-        decode_update(plan).map_or(update::GROUPS, |plan| plan.group(number))
+    fn lay(&self, copy: &mut [u8], area: u8, record: &[u8]) -> Refused {
+        refused(format::lay(copy, second(area), record))
+    }
+
+    fn update_check(&self, front: &[u8], back: &[u8], time: Time, record: &[u8]) -> Refused {
+        refused(update::plan(front, back, time, record).map(|_| ()))
+    }
+
+    fn update_plan(&self, front: &[u8], back: &[u8], time: Time, record: &[u8]) -> UpdateAnswer {
+        answer(update_plan(front, back, time, record))
+    }
+
+    fn update_count(&self, plan: UpdatePlan) -> u64 {
+        Update::from(plan).count()
+    }
+
+    fn update_group(&self, plan: UpdatePlan, number: u64) -> u8 {
+        Update::from(plan).group(number)
     }
 
     fn update_store(
         &self,
-        plan: &[u8],
+        plan: UpdatePlan,
         front: &[u8],
         back: &[u8],
         record: &[u8],
-        store: u64,
+        number: u64,
         bytes: &mut [u8],
-        sector: &mut [u64],
-    ) -> u8 {
-        number(update_store(plan, [front, back], record, store, bytes, sector))
-    }
-
-    fn lay(&self, copy: &mut [u8], area_b: bool, record: &[u8]) -> u8 {
-        number(format::lay(copy, usize::from(area_b), record))
+    ) -> StoreAnswer {
+        answer(update_store(&plan.into(), [front, back], record, number, bytes))
     }
 
     fn format(
         &self,
         front: &mut [u8],
         back: &mut [u8],
-        numbers: &Device,
+        device: Device,
         pool: &[u8],
-        device: &[u8],
-        seconds: u64,
-        nanoseconds: u32,
+        blockdev: &[u8],
+        time: Time,
         record: &[u8],
-    ) -> u8 {
+    ) -> Refused {
         let identity =
-            uuid(pool).and_then(|pool_uuid| Ok(Identity { device: *numbers, pool_uuid, device_uuid: uuid(device)? }));
-        let time = Time { seconds, nanoseconds };
-        number(identity.and_then(|identity| format::format(front, back, &identity, time, record)))
+            uuid(pool).and_then(|pool_uuid| Ok(Identity { device, pool_uuid, device_uuid: uuid(blockdev)? }));
+        refused(identity.and_then(|identity| format::format(front, back, &identity, time, record)))
     }
 
-    fn mend_plan(&self, front: &[u8], back: &[u8], plan: &mut [u8]) -> u8 {
-        number(mend_plan(front, back, plan))
+    fn format_count(&self) -> u64 {
+        apply::format_count()
     }
 
-    fn mend_count(&self, plan: &[u8]) -> u64 {
-        decode_mend(plan).count()
+    fn format_group(&self, number: u64) -> u8 {
+        apply::format_store(number).map_or(NO_GROUP, |store| store.group)
     }
 
-    fn mend_group(&self, plan: &[u8], number: u64) -> u8 {
-        decode_mend(plan).group(number)
+    fn format_store(&self, device: Device, front: &[u8], back: &[u8], number: u64, bytes: &mut [u8]) -> StoreAnswer {
+        answer(format_store(&device, [front, back], number, bytes))
     }
 
-    fn mend_store(
-        &self,
-        plan: &[u8],
-        front: &[u8],
-        back: &[u8],
-        store: u64,
-        bytes: &mut [u8],
-        sector: &mut [u64],
-    ) -> u8 {
-        number(mend_store(plan, [front, back], store, bytes, sector))
+    fn mend_plan(&self, front: &[u8], back: &[u8]) -> MendAnswer {
+        answer(mend_plan(front, back))
     }
 
-    fn record_check(&self, device: &Device, record: &[u8]) -> u8 {
-        number(check(device, record).map(|_| ()))
+    fn mend_count(&self, plan: MendPlan) -> u64 {
+        Mend::from(plan).count()
     }
 
-    fn record_head(&self, device: &Device, record: &[u8], head: &mut [u64]) -> u8 {
-        number(record_head(device, record, head))
+    fn mend_group(&self, plan: MendPlan, number: u64) -> u8 {
+        Mend::from(plan).group(number)
     }
 
-    fn record_segment(&self, device: &Device, record: &[u8], position: u64, segment: &mut [u64]) -> u8 {
-        number(record_segment(device, record, position, segment))
+    fn mend_store(&self, plan: MendPlan, front: &[u8], back: &[u8], number: u64, bytes: &mut [u8]) -> StoreAnswer {
+        answer(mend_store(&plan.into(), [front, back], number, bytes))
     }
 
-    fn record_segments(
-        &self,
-        device: &Device,
-        record: &[u8],
-        position: u64,
-        table: &mut [u64],
-        count: &mut [u64],
-    ) -> u8 {
-        number(record_segments(device, record, position, table, count))
+    fn record_check(&self, device: Device, record: &[u8]) -> Refused {
+        refused(check(&device, record).map(|_| ()))
     }
 
-    fn record_begin(&self, record: &mut [u8], block_size: u32) -> u8 {
-        number(record_begin(record, block_size))
+    fn record_head(&self, device: Device, record: &[u8]) -> HeadAnswer {
+        answer(record_head(&device, record))
     }
 
-    fn free_total(&self, device: &Device, record: &[u8], total: &mut [u64]) -> u8 {
-        number(free_total(device, record, total))
+    fn record_segment(&self, device: Device, record: &[u8], position: u64) -> SegmentAnswer {
+        answer(record_segment(&device, record, position))
     }
 
-    fn free_runs(&self, device: &Device, record: &[u8], table: &mut [u64], count: &mut [u64]) -> u8 {
-        number(free_runs(device, record, table, count))
+    fn record_segments(&self, device: Device, record: &[u8], position: u64, table: &mut [u64]) -> CountAnswer {
+        answer(record_segments(&device, record, position, table))
     }
 
-    fn free_run_table(&self, device: &Device, record: &[u8], table: &mut [FreeRun], runs: &mut [u64]) -> u8 {
-        number(free_run_table(device, record, table, runs))
+    fn record_begin(&self, record: &mut [u8], block_size: u32) -> Refused {
+        refused(record_begin(record, block_size))
     }
 
-    fn allocate(
-        &self,
-        device: &Device,
-        record: &[u8],
-        kind: u16,
-        length: u64,
-        changed: &mut [u8],
-        answer: &mut [u64],
-    ) -> u8 {
-        number(allocate(device, record, kind, length, changed, answer))
+    fn record_put(&self, record: &mut [u8], position: u64, segment: SegmentFields) -> LengthAnswer {
+        answer(record_put(record, position, segment))
     }
 
-    fn release(&self, device: &Device, record: &[u8], position: u64, changed: &mut [u8], answer: &mut [u64]) -> u8 {
-        number(release(device, record, position, changed, answer))
+    fn free_total(&self, device: Device, record: &[u8]) -> TotalAnswer {
+        answer(free_total(&device, record))
+    }
+
+    fn free_runs(&self, device: Device, record: &[u8], table: &mut [FreeRun]) -> CountAnswer {
+        answer(free_runs(&device, record, table))
+    }
+
+    fn run_count(&self, device: Device, record: &[u8]) -> CountAnswer {
+        answer(run_count(&device, record))
+    }
+
+    fn run_at(&self, device: Device, record: &[u8], number: u64) -> RunAnswer {
+        answer(run_at(&device, record, number))
+    }
+
+    fn first_fit(&self, device: Device, record: &[u8], sectors: u64) -> RunAnswer {
+        answer(first_fit(&device, record, sectors))
+    }
+
+    fn allocate(&self, device: Device, record: &[u8], kind: u16, sectors: u64, changed: &mut [u8]) -> AllocationAnswer {
+        answer(allocate(&device, record, kind, sectors, changed))
+    }
+
+    fn release(&self, device: Device, record: &[u8], position: u64, changed: &mut [u8]) -> LengthAnswer {
+        answer(release(&device, record, position, changed))
     }
 }

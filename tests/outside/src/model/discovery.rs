@@ -20,6 +20,8 @@ pub struct Found {
     pub time: Time,
     /// The refusal of the other copy's block, if it was refused.
     pub other: Option<Refusal>,
+    /// The block of the copy that has the record.
+    pub block: Block,
 }
 
 impl Found {
@@ -131,7 +133,7 @@ fn single(side: usize, reading: &Reading, other: Refusal) -> Result<Found, Refus
 
 fn found(side: usize, area: usize, block: &Block, other: Option<Refusal>) -> Found {
     let entry = &block.entries[area];
-    Found { side, area, bytes: entry.bytes as usize, time: entry.time, other }
+    Found { side, area, bytes: entry.bytes as usize, time: entry.time, other, block: *block }
 }
 
 /// 1, 10 to 13.

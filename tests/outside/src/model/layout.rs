@@ -16,7 +16,8 @@ pub const FRONT: usize = 0;
 pub const BACK: usize = 1;
 
 /// S, L and R.
-#[derive(Clone, Copy, Debug, PartialEq, Eq)]
+#[repr(C)]
+#[derive(Clone, Copy, Debug, Default, PartialEq, Eq)]
 pub struct Device {
     pub sectors: u64,
     pub metadata: u32,
@@ -49,16 +50,30 @@ impl Device {
         self.check_reserved()
     }
 
-    // The places below are those of a device that `check` accepts.
+    // The sectors of blocks and areas are asked for any numbers, which a block that is not accepted may hold: a difference
+    // that would be negative is 0.
 
     /// The sector of the signature block, front or back.
     pub fn block_sector(&self, side: usize) -> u64 {
         if side == FRONT {
             1
         } else {
-            self.sectors - 7
+            self.sectors.saturating_sub(7)
         }
     }
+
+    /// The first sector of an area.
+    pub fn area_sector(&self, side: usize, area: usize) -> u64 {
+        let metadata = u64::from(self.metadata);
+        match (side, area) {
+            (FRONT, 0) => 8,
+            (FRONT, _) => 8 + metadata / 2,
+            (_, 0) => self.sectors.saturating_sub(8 + metadata),
+            _ => self.sectors.saturating_sub(8 + metadata / 2),
+        }
+    }
+
+    // The places below are those of a device that `check` accepts.
 
     /// The first of the header's 8 sectors.
     pub fn header_sector(&self, side: usize) -> u64 {
@@ -66,17 +81,6 @@ impl Device {
             0
         } else {
             self.sectors - 8
-        }
-    }
-
-    /// The first sector of an area.
-    pub fn area_sector(&self, side: usize, area: usize) -> u64 {
-        let metadata = u64::from(self.metadata);
-        let area_a = if side == FRONT { 8 } else { self.sectors - 8 - metadata };
-        if area == 0 {
-            area_a
-        } else {
-            area_a + metadata / 2
         }
     }
 

@@ -1,12 +1,12 @@
 //! An independent implementation, written from the rules of the layout alone.
 
+pub mod apply;
 pub mod block;
 pub mod crc;
 pub mod discovery;
 pub mod format;
 pub mod layout;
 pub mod mend;
-mod plan_bytes;
 pub mod record;
 pub mod refusal;
 pub mod room;

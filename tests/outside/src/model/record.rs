@@ -51,6 +51,14 @@ pub fn head(block_size: u32) -> Result<[u8; HEAD_BYTES], Refusal> {
     Ok(item)
 }
 
+/// The bytes begin with a head item that is within its limits.
+pub fn begins_with_head(bytes: &[u8]) -> bool {
+    bytes.len() >= HEAD_BYTES
+        && usize::from(u16_at(bytes, 0)) == HEAD_BYTES
+        && u16_at(bytes, 2) == HEAD_KIND
+        && is_block_size(u32_at(bytes, 4))
+}
+
 impl Segment {
     pub fn item(&self) -> [u8; SEGMENT_BYTES] {
         let mut item = [0; SEGMENT_BYTES];
@@ -94,13 +102,11 @@ impl<'a> Record<'a> {
     }
 
     fn is_well_formed(&self) -> bool {
-        let Some((head, items)) = self.bytes.split_at_checked(HEAD_BYTES) else {
+        let Some((_, items)) = self.bytes.split_at_checked(HEAD_BYTES) else {
             return false;
         };
         let is_segment = |item: &[u8]| usize::from(u16_at(item, 0)) == SEGMENT_BYTES && is_kind(u16_at(item, 2));
-        usize::from(u16_at(head, 0)) == HEAD_BYTES
-            && u16_at(head, 2) == HEAD_KIND
-            && is_block_size(u32_at(head, 4))
+        begins_with_head(self.bytes)
             && items.len().is_multiple_of(SEGMENT_BYTES)
             && items.chunks_exact(SEGMENT_BYTES).all(is_segment)
     }

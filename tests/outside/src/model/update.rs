@@ -1,17 +1,16 @@
 //! Updates: refusals, and the stores in their groups.
 
-use super::block::{put_entry, BlockBytes, Entry, Time, MAX_NANOSECONDS};
+use super::block::{Block, BlockBytes, Entry, Time, MAX_NANOSECONDS};
 use super::discovery::{block_of, Pair};
-use super::layout::{Device, BACK, FRONT, SECTOR};
+use super::layout::{BACK, FRONT, SECTOR};
 use super::record::check_record;
 use super::refusal::{require, Refusal};
 
 pub const GROUPS: u8 = 4;
 
-/// An update that is not refused.
+/// An update: the new entry. Its stores follow from it, the copies and the record, when they are asked for.
 #[derive(Clone, Copy, Debug, PartialEq, Eq)]
 pub struct Update {
-    pub device: Device,
     pub entry: Entry,
     /// The area that the record goes to, in the front and in the back.
     pub areas: [usize; 2],
@@ -30,9 +29,8 @@ pub fn plan(front: &[u8], back: &[u8], time: Time, record: &[u8]) -> Result<Upda
     let (Some(a), Some(b)) = (front.present, back.present) else {
         return Err(Refusal::NotInStep);
     };
-    let device = front.block.identity.device;
-    check_record(&device, record)?;
-    Ok(Update { device, entry: Entry::of_record(record, time), areas: [1 - a, 1 - b] })
+    check_record(&front.block.identity.device, record)?;
+    Ok(Update { entry: Entry::of_record(record, time), areas: [1 - a, 1 - b] })
 }
 
 /// The sectors that a record of that many bytes takes.
@@ -67,21 +65,34 @@ impl Update {
         }
     }
 
-    /// A store's bytes, and the sector that they go to. The copies and the record are those of the plan.
-    pub fn store(&self, copies: [&[u8]; 2], record: &[u8], number: u64, bytes: &mut BlockBytes) -> Option<u64> {
-        if number >= self.count() {
-            return None;
-        }
+    /// The store is the last of its group. It is one of the plan's.
+    pub fn flush(&self, number: u64) -> bool {
+        self.group(number) != self.group(number + 1)
+    }
+
+    /// A store's bytes, and the sector that they go to. The copies have their size, and the record the plan's length; the
+    /// copies are those that the plan was made of, perhaps with earlier stores applied, or any. 23, and the writer's 4, 6 to 9.
+    pub fn store(
+        &self,
+        copies: [&[u8]; 2],
+        record: &[u8],
+        number: u64,
+        bytes: &mut BlockBytes,
+    ) -> Result<u64, Refusal> {
+        require(number < self.count(), Refusal::NoStore)?;
         let half = self.record_sectors() + 1;
         let side = if number < half { FRONT } else { BACK };
         let (index, area) = (number % half, self.areas[side]);
+        let mut block = Block::fields(block_of(copies[side]));
+        let device = block.identity.device;
         if index < half - 1 {
+            let sector = device.area_sector(side, area).checked_add(index).ok_or(Refusal::NoStore)?;
             record_sector(record, index, bytes);
-            Some(self.device.area_sector(side, area) + index)
+            Ok(sector)
         } else {
-            bytes.copy_from_slice(block_of(copies[side]));
-            put_entry(bytes, area, &self.entry);
-            Some(self.device.block_sector(side))
+            block.entries[area] = self.entry;
+            *bytes = block.write()?;
+            Ok(device.block_sector(side))
         }
     }
 }

@@ -1,12 +1,12 @@
 //! Signature blocks and places.
 
-use outside::interface::{BlockNumbers, BLOCK_NUMBERS, PLACES};
+use outside::interface::BlockFields;
 use outside::lent::Lent;
-use outside::model::block::{Block, Entry};
-use outside::model::layout::SECTOR;
+use outside::model::block::Block;
+use outside::model::layout::{Device, SECTOR};
 use outside::rng::Rng;
 use outside::sample::blocks::{block, broken_entries, damage};
-use outside::sample::numbers::{any_device, break_device, not_hex, wrong_length};
+use outside::sample::numbers::{any_device, break_device, break_sectors, not_hex, spread, wrong_length};
 
 use crate::run::Run;
 
@@ -50,41 +50,17 @@ fn read(run: &mut Run, rng: &mut Rng) {
     let size = length(rng, SECTOR);
     bytes.resize(size, 0);
     let input = Lent::holding(rng, &bytes);
-    let pool = length(rng, 32);
-    let device = length(rng, 32);
-    let numbers = length(rng, BLOCK_NUMBERS);
-    let uuids = [Lent::random(rng, pool), Lent::random(rng, device)];
-    let numbers = [Lent::random(rng, numbers)];
-    let outcome = run.both("block_read", &[&input], uuids, numbers, |api, [pool, device], [numbers]| {
-        api.block_read(input.part(), numbers.part_mut(), pool.part_mut(), device.part_mut())
-    });
-    if outcome.answer == 0 {
-        write_again(run, rng, &input, &outcome.library);
+    let outcome = run.ask("block_read", &[&input], |api| api.block_read(input.part()));
+    if outcome.number() == 0 {
+        write_again(run, rng, &input, outcome.answer.block);
     }
 }
 
 /// Writing what was read gives the same 512 bytes.
-fn write_again(run: &mut Run, rng: &mut Rng, block: &Lent<u8>, read: &([Lent<u8>; 2], [Lent<u64>; 1])) {
-    let ([pool, device], [numbers]) = read;
-    let n = numbers.part();
-    let numbers = BlockNumbers {
-        sectors: n[0],
-        metadata: n[1] as u32,
-        reserved: n[2] as u32,
-        a_seconds: n[3],
-        a_nanoseconds: n[4] as u32,
-        a_bytes: n[5] as u32,
-        a_crc: n[6] as u32,
-        b_seconds: n[7],
-        b_nanoseconds: n[8] as u32,
-        b_bytes: n[9] as u32,
-        b_crc: n[10] as u32,
-    };
+fn write_again(run: &mut Run, rng: &mut Rng, block: &Lent<u8>, read: BlockFields) {
     let lent = [Lent::random(rng, SECTOR)];
-    let written = run.both("block_write", &[pool, device], lent, [], |api, [block], []| {
-        api.block_write(&numbers, pool.part(), device.part(), block.part_mut())
-    });
-    let same = written.answer == 0 && written.library.0[0].part() == block.part();
+    let written = run.both("block_write", &[], lent, [], |api, [bytes], []| api.block_write(read, bytes.part_mut()));
+    let same = written.number() == 0 && written.library.0[0].part() == block.part();
     run.require("block_write", same, "writing what was read gives other bytes");
 }
 
@@ -98,61 +74,17 @@ fn write(run: &mut Run, rng: &mut Rng) {
             _ => entries = broken_entries(rng),
         }
     }
-    let device = identity.device;
-    let [a, b] = entries;
-    let Entry { time: a_time, bytes: a_bytes, crc: a_crc } = a;
-    let Entry { time: b_time, bytes: b_bytes, crc: b_crc } = b;
-    let numbers = BlockNumbers {
-        sectors: device.sectors,
-        metadata: device.metadata,
-        reserved: device.reserved,
-        a_seconds: a_time.seconds,
-        a_nanoseconds: a_time.nanoseconds,
-        a_bytes,
-        a_crc,
-        b_seconds: b_time.seconds,
-        b_nanoseconds: b_time.nanoseconds,
-        b_bytes,
-        b_crc,
-    };
-    let pool = uuid_slice(rng, &identity.pool_uuid);
-    let device = uuid_slice(rng, &identity.device_uuid);
+    let block = BlockFields::from(Block { identity, entries });
     let size = length(rng, SECTOR);
     let lent = [Lent::random(rng, size)];
-    let outcome = run.both("block_write", &[&pool, &device], lent, [], |api, [block], []| {
-        api.block_write(&numbers, pool.part(), device.part(), block.part_mut())
-    });
-    if outcome.answer == 0 {
-        read_again(run, rng, &outcome.library.0[0], &numbers, [&pool, &device]);
+    let outcome = run.both("block_write", &[], lent, [], |api, [bytes], []| api.block_write(block, bytes.part_mut()));
+    if outcome.number() == 0 {
+        // Reading what was written gives the same fields.
+        let [bytes] = &outcome.library.0;
+        let read = run.ask("block_read", &[bytes], |api| api.block_read(bytes.part()));
+        let same = read.number() == 0 && read.answer.block == block;
+        run.require("block_read", same, "reading what was written gives other fields");
     }
-}
-
-/// Reading what was written gives the same fields.
-fn read_again(run: &mut Run, rng: &mut Rng, block: &Lent<u8>, numbers: &BlockNumbers, uuids: [&Lent<u8>; 2]) {
-    let lent = [Lent::random(rng, 32), Lent::random(rng, 32)];
-    let read = [Lent::random(rng, BLOCK_NUMBERS)];
-    let outcome = run.both("block_read", &[block], lent, read, |api, [pool, device], [read]| {
-        api.block_read(block.part(), read.part_mut(), pool.part_mut(), device.part_mut())
-    });
-    let ([pool, device], [read]) = &outcome.library;
-    let written = [
-        numbers.sectors,
-        numbers.metadata.into(),
-        numbers.reserved.into(),
-        numbers.a_seconds,
-        numbers.a_nanoseconds.into(),
-        numbers.a_bytes.into(),
-        numbers.a_crc.into(),
-        numbers.b_seconds,
-        numbers.b_nanoseconds.into(),
-        numbers.b_bytes.into(),
-        numbers.b_crc.into(),
-    ];
-    let same = outcome.answer == 0
-        && read.part() == written
-        && pool.part() == uuids[0].part()
-        && device.part() == uuids[1].part();
-    run.require("block_read", same, "reading what was written gives other fields");
 }
 
 /// A UUID in a slice that is at times too short or too long.
@@ -163,9 +95,18 @@ pub fn uuid_slice(rng: &mut Rng, uuid: &[u8; 32]) -> Lent<u8> {
     Lent::holding(rng, &bytes)
 }
 
+/// Places, and the blocks of a drive of any size. They agree where both are given.
 fn places(run: &mut Run, rng: &mut Rng) {
     let device = any_device(rng);
-    let size = length(rng, PLACES);
-    let lent = [Lent::random(rng, size)];
-    run.both("places", &[], [], lent, |api, [], [places]| api.places(&device, places.part_mut()));
+    let placed = run.ask("places", &[], |api| api.places(device));
+    let below = break_sectors(rng);
+    let any = spread(rng, 0, u64::MAX);
+    let sectors = rng.one_of(&[device.sectors, device.sectors, below, any, Device::MIN_SECTORS]);
+    let located = run.ask("locate_blocks", &[], |api| api.locate_blocks(sectors));
+    if placed.number() == 0 && sectors == device.sectors {
+        let map = placed.answer.map;
+        let same = (map.front.block, map.back.block) == (located.answer.front, located.answer.back);
+        run.require("locate_blocks", same, "the blocks lie elsewhere than the places say");
+        run.reached("locate_blocks, as the places say");
+    }
 }

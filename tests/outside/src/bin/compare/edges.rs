@@ -1,152 +1,183 @@
-//! Calls whose slices lie at the edge of memory that must not be touched.
+//! Calls whose slices lie at the edge of memory that must not be touched: of the right sizes, and each of them one too short and one
+//! too long.
 
 use std::cell::RefCell;
 
 use outside::ffi::Library;
 use outside::guard::Guarded;
-use outside::interface::{as_runs, Interface, BLOCK_NUMBERS, COPY_NUMBERS, FOUND, MEND_PLAN, PLACES, UPDATE_PLAN};
+use outside::interface::{Answer, FreeRun, Interface, SegmentFields, UUID};
+use outside::model::block::Block;
 use outside::model::layout::{COPY, RECORD_LIMIT, SECTOR};
-use outside::model::refusal;
 use outside::model::Model;
 use outside::rng::Rng;
 use outside::sample::blocks::block;
 use outside::sample::copies::{any_pair, in_step, payload};
-use outside::sample::numbers::{identity, later, time, wrong_length};
+use outside::sample::numbers::{identity, later, time};
 use outside::sample::records::{any_record, record, segment_count};
 
 use crate::run::Run;
 
 /// The memory of all cases.
 struct Room {
-    inputs: [Guarded<u8>; 3],
-    plan: Guarded<u8>,
-    outputs: [Guarded<u8>; 2],
-    numbers: [Guarded<u64>; 2],
+    bytes: [Guarded<u8>; 5],
+    numbers: Guarded<u64>,
+    runs: Guarded<FreeRun>,
 }
 
 thread_local! {
     static ROOM: RefCell<Room> = RefCell::new(Room {
-        inputs: [(); 3].map(|()| Guarded::new(2 * COPY + 2)),
-        plan: Guarded::new(2 * MEND_PLAN),
-        outputs: [(); 2].map(|()| Guarded::new(2 * COPY + 2)),
-        numbers: [(); 2].map(|()| Guarded::new(8_000)),
+        bytes: [(); 5].map(|()| Guarded::new(2 * COPY)),
+        numbers: Guarded::new(4_000),
+        runs: Guarded::new(1_000),
     });
 }
 
 pub fn case(run: &mut Run, rng: &mut Rng, _: u64) {
     ROOM.with_borrow_mut(|room| {
-        match rng.below(4) {
-            0 => blocks(run, rng, room),
-            1 => copies(run, rng, room),
-            2 => updates(run, rng, room),
-            _ => records(run, rng, room),
+        let mut edge = Edge { run, end: rng.coin(), room };
+        match rng.below(5) {
+            0 => blocks(&mut edge, rng),
+            1 => copies(&mut edge, rng),
+            2 => updates(&mut edge, rng),
+            3 => formats(&mut edge, rng),
+            _ => records(&mut edge, rng),
         }
         run.reached("slices at the edge of forbidden memory");
     });
 }
 
-/// Zeros of the right length, or at times of a wrong one.
-fn zeros<T: Copy + Default>(rng: &mut Rng, right: usize) -> Vec<T> {
-    let length = if rng.once_in(8) { wrong_length(rng, right) } else { right };
-    vec![T::default(); length]
+struct Edge<'a> {
+    run: &'a mut Run,
+    /// The slices end at the forbidden page, or begin at it.
+    end: bool,
+    room: &'a mut Room,
 }
 
-fn same(run: &mut Run, call: &str, library: u8, model: u8) {
-    let what = format!("library answers {library}, model {model} (slices at an edge)");
-    run.require(call, library == model, &what);
+/// Slices as they are, then each of them one shorter and one longer.
+fn sized(slices: &[&[u8]]) -> Vec<Vec<Vec<u8>>> {
+    let right: Vec<Vec<u8>> = slices.iter().map(|slice| slice.to_vec()).collect();
+    let mut all = vec![right.clone()];
+    for which in 0..slices.len() {
+        for length in [slices[which].len().checked_sub(1), Some(slices[which].len() + 1)] {
+            let Some(length) = length else {
+                continue;
+            };
+            let mut slices = right.clone();
+            slices[which].resize(length, 0);
+            all.push(slices);
+        }
+    }
+    all
 }
 
-fn blocks(run: &mut Run, rng: &mut Rng, room: &mut Room) {
-    let end = rng.coin();
-    let mut block = block(rng).encode().to_vec();
-    block.resize(zeros::<u8>(rng, SECTOR).len(), 0);
-    let (pool, device, numbers) = (zeros(rng, 32), zeros(rng, 32), zeros(rng, BLOCK_NUMBERS));
-    let [out_a, out_b] = &mut room.outputs;
-    let library = Library.block_read(
-        room.inputs[0].hold(&block, end),
-        room.numbers[0].hold(&numbers, end),
-        out_a.hold(&pool, end),
-        out_b.hold(&device, end),
-    );
-    let (mut numbers, mut pool, mut device) = (numbers, pool, device);
-    let model = Model.block_read(&block, &mut numbers, &mut pool, &mut device);
-    same(run, "block_read", library, model);
+impl Edge<'_> {
+    /// A call by both with these slices, and with each of them off by one. The answers and what is left in the slices are the same.
+    fn bytes<A: Answer, const N: usize>(
+        &mut self,
+        call: &str,
+        slices: [&[u8]; N],
+        f: impl Fn(&dyn Interface, [&mut [u8]; N]) -> A,
+    ) {
+        for slices in sized(&slices) {
+            let mut held = self.room.bytes.iter_mut().zip(&slices).map(|(room, slice)| room.hold(slice, self.end));
+            let mut held: [&mut [u8]; N] = std::array::from_fn(|_| held.next().expect("a slice"));
+            let library = f(&Library, held.each_mut().map(|slice| &mut **slice));
+            let mut left = slices.clone();
+            let mut parts = left.iter_mut();
+            let model = f(&Model, std::array::from_fn(|_| &mut parts.next().expect("a slice")[..]));
+            let same = held.iter().zip(&left).all(|(held, left)| **held == left[..]);
+            let sizes: Vec<usize> = slices.iter().map(Vec::len).collect();
+            same_answers(self.run, call, library, model, &sizes);
+            self.run.require(call, same, "leaves other bytes in a slice at an edge");
+        }
+    }
 
-    let identity = identity(rng);
-    let places: Vec<u64> = zeros(rng, PLACES);
-    let library = Library.places(&identity.device, room.numbers[0].hold(&places, end));
-    same(run, "places", library, Model.places(&identity.device, &mut places.clone()));
-    let bytes = rng.index(2 * COPY);
-    let bytes = rng.bytes(bytes);
-    let checksum = Library.checksum(room.inputs[0].hold(&bytes, end));
-    run.require("checksum", checksum == Model.checksum(&bytes), "differs (slice at an edge)");
+    /// The same with a table of numbers.
+    fn numbers<A: Answer>(
+        &mut self,
+        call: &str,
+        slice: &[u8],
+        right: usize,
+        f: impl Fn(&dyn Interface, &[u8], &mut [u64]) -> A,
+    ) {
+        for length in [right.saturating_sub(1), right, right + 1] {
+            let mut table = vec![7; length];
+            let held_table = self.room.numbers.hold(&table, self.end);
+            let library = f(&Library, self.room.bytes[0].hold(slice, self.end), held_table);
+            let model = f(&Model, slice, &mut table);
+            same_answers(self.run, call, library, model, &[slice.len(), length]);
+            self.run.require(call, held_table == table, "leaves other numbers in a table at an edge");
+        }
+    }
 
-    let count = segment_count(rng);
-    let record = record(rng, &identity.device, count);
-    let (front, back): (Vec<u8>, Vec<u8>) = (zeros(rng, COPY), zeros(rng, COPY));
-    let [out_a, out_b] = &mut room.outputs;
-    let [in_a, in_b, in_c] = &mut room.inputs;
-    let library = Library.format(
-        out_a.hold(&front, end),
-        out_b.hold(&back, end),
-        &identity.device,
-        in_a.hold(&identity.pool_uuid, end),
-        in_b.hold(&identity.device_uuid, end),
-        5,
-        6,
-        in_c.hold(&record, end),
-    );
-    let right = front.len() == COPY && back.len() == COPY;
-    same(run, "format", library, u8::from(!right));
-    let library = Library.lay(out_a.hold(&front, end), rng.coin(), in_c.hold(&record, end));
-    same(run, "lay", library, u8::from(front.len() != COPY));
-
-    let number = rng.next() as u8;
-    let mut words: Vec<u8> = zeros(rng, refusal::words(number).len());
-    let library = Library.refusal_words(number, out_a.hold(&words, end), room.numbers[0].hold(&[0], end));
-    same(run, "refusal_words", library, Model.refusal_words(number, &mut words, &mut [0]));
-}
-
-fn copies(run: &mut Run, rng: &mut Rng, room: &mut Room) {
-    let end = rng.coin();
-    let (_, [front, back]) = any_pair(rng);
-    let [in_a, in_b, _] = &mut room.inputs;
-    let (held_front, held_back) = (&*in_a.hold(&front, end), &*in_b.hold(&back, end));
-    let (mut pool, mut device, mut numbers) = (zeros(rng, 32), zeros(rng, 32), zeros(rng, COPY_NUMBERS));
-    let [out_a, out_b] = &mut room.outputs;
-    let held_numbers = room.numbers[0].hold(&numbers, end);
-    let library = Library.copy_read(held_front, held_numbers, out_a.hold(&pool, end), out_b.hold(&device, end));
-    same(run, "copy_read", library, Model.copy_read(&front, &mut numbers, &mut pool, &mut device));
-    let mut found = zeros(rng, FOUND);
-    let library = Library.discover(held_front, held_back, room.numbers[0].hold(&found, end));
-    same(run, "discover", library, Model.discover(&front, &back, &mut found));
-    let size = if library == 0 { found[2] as usize } else { rng.index(RECORD_LIMIT) };
-    let mut record: Vec<u8> = zeros(rng, size);
-    let library = Library.read_found(
-        held_front,
-        held_back,
-        room.outputs[0].hold(&record, end),
-        room.numbers[0].hold(&found, end),
-    );
-    same(run, "read_found", library, Model.read_found(&front, &back, &mut record, &mut found));
-    let mut step: Vec<u64> = zeros(rng, 1);
-    let held_step = room.numbers[0].hold(&step, end);
-    let library = Library.in_step(held_front, held_back, held_step);
-    same(run, "in_step", library, Model.in_step(&front, &back, &mut step));
-    run.require("in_step", *held_step == *step, "tells another answer (slices at an edge)");
-
-    let plan = room.plan.hold(&[0; MEND_PLAN], end);
-    let library = Library.mend_plan(held_front, held_back, plan);
-    same(run, "mend_plan", library, Model.mend_plan(&front, &back, &mut [0; MEND_PLAN]));
-    for number in 0..Library.mend_count(plan) + 1 {
-        let bytes = room.outputs[0].hold(&[0; SECTOR], end);
-        let sector = room.numbers[0].hold(&[0], end);
-        Library.mend_store(plan, held_front, held_back, number, bytes, sector);
+    /// The same with a table of runs.
+    fn runs<A: Answer>(
+        &mut self,
+        call: &str,
+        slice: &[u8],
+        right: usize,
+        f: impl Fn(&dyn Interface, &[u8], &mut [FreeRun]) -> A,
+    ) {
+        for length in [right.saturating_sub(1), right, right + 1] {
+            let mut table = vec![FreeRun { start: 7, sectors: 8 }; length];
+            let held_table = self.room.runs.hold(&table, self.end);
+            let library = f(&Library, self.room.bytes[0].hold(slice, self.end), held_table);
+            let model = f(&Model, slice, &mut table);
+            same_answers(self.run, call, library, model, &[slice.len(), length]);
+            self.run.require(call, held_table == table, "leaves other runs in a table at an edge");
+        }
     }
 }
 
-fn updates(run: &mut Run, rng: &mut Rng, room: &mut Room) {
-    let end = rng.coin();
+fn same_answers<A: Answer>(run: &mut Run, call: &str, library: A, model: A, sizes: &[usize]) {
+    if library != model {
+        let what = format!("library answers {library:?}, model {model:?} (slices at an edge, sizes {sizes:?})");
+        run.require(call, false, &what);
+    }
+}
+
+fn blocks(edge: &mut Edge, rng: &mut Rng) {
+    let block: Block = block(rng);
+    edge.bytes("block_read", [&block.encode()], |api, [bytes]| api.block_read(bytes));
+    edge.bytes("block_write", [&[7; SECTOR]], |api, [bytes]| api.block_write(block.into(), bytes));
+    let length = rng.index(2 * COPY - 1);
+    let bytes = rng.bytes(length);
+    let before = rng.next() as u32;
+    edge.bytes("checksum", [&bytes], |api, [bytes]| api.checksum(bytes));
+    edge.bytes("checksum_continued", [&bytes], |api, [bytes]| api.checksum_continued(before, bytes));
+    let copy = rng.bytes(COPY);
+    let (area, length) = (rng.next() as u8 & 1, rng.index(RECORD_LIMIT + 1));
+    let record = rng.bytes(length);
+    edge.bytes("lay", [&copy, &record], |api, [copy, record]| api.lay(copy, area, record));
+    let device = block.identity.device;
+    let sector = device.copy_sectors(rng.index(2))[rng.index(40)];
+    let sector_bytes = rng.bytes(SECTOR);
+    edge.bytes("apply", [&sector_bytes, &copy, &copy], |api, [bytes, front, back]| {
+        api.apply(device, sector, bytes, front, back)
+    });
+}
+
+fn copies(edge: &mut Edge, rng: &mut Rng) {
+    let (_, [front, back]) = any_pair(rng);
+    edge.bytes("copy_read", [&front], |api, [copy]| api.copy_read(copy));
+    edge.bytes("discover", [&front, &back], |api, [front, back]| api.discover(front, back));
+    edge.bytes("in_step", [&front, &back], |api, [front, back]| api.in_step(front, back));
+    edge.bytes("mend_plan", [&front, &back], |api, [front, back]| api.mend_plan(front, back));
+    let found = Model.discover(&front, &back);
+    let record = vec![7; if found.number() == 0 { found.bytes as usize } else { rng.index(RECORD_LIMIT) }];
+    edge.bytes("read_found", [&front, &back, &record], |api, [front, back, record]| {
+        api.read_found(front, back, record)
+    });
+    let plan = Model.mend_plan(&front, &back).plan;
+    let count = Model.mend_count(plan);
+    for number in [0, rng.below(count + 1), count.saturating_sub(1), count] {
+        edge.bytes("mend_store", [&front, &back, &[7; SECTOR]], |api, [front, back, bytes]| {
+            api.mend_store(plan, front, back, number, bytes)
+        });
+    }
+}
+
+fn updates(edge: &mut Edge, rng: &mut Rng) {
     let identity = identity(rng);
     let (time, present) = (time(rng), payload(rng, &identity));
     let [front, back] = in_step(rng, &identity, time, &present);
@@ -154,75 +185,80 @@ fn updates(run: &mut Run, rng: &mut Rng, room: &mut Room) {
         return;
     };
     let record = any_record(rng, &identity.device);
-    let [in_a, in_b, in_c] = &mut room.inputs;
-    let (held_front, held_back) = (&*in_a.hold(&front, end), &*in_b.hold(&back, end));
-    let held_record = &*in_c.hold(&record, end);
-    let (seconds, nanoseconds) = (time.seconds, time.nanoseconds);
-    let plan = room.plan.hold(&[0; UPDATE_PLAN], end);
-    let library = Library.update_plan(held_front, held_back, seconds, nanoseconds, held_record, plan);
-    let model = Model.update_check(&front, &back, seconds, nanoseconds, &record);
-    same(run, "update_plan", library, model);
-    if library != 0 {
+    edge.bytes("update_check", [&front, &back, &record], |api, [front, back, record]| {
+        api.update_check(front, back, time, record)
+    });
+    edge.bytes("update_plan", [&front, &back, &record], |api, [front, back, record]| {
+        api.update_plan(front, back, time, record)
+    });
+    let answer = Model.update_plan(&front, &back, time, &record);
+    if answer.number() != 0 {
         return;
     }
-    for number in 0..Library.update_count(plan) + 1 {
-        let bytes = room.outputs[0].hold(&[0; SECTOR], end);
-        let sector = room.numbers[0].hold(&[0], end);
-        Library.update_store(plan, held_front, held_back, held_record, number, bytes, sector);
-    }
-    // A record that is not the plan's.
-    let length = rng.index(record.len());
-    let held_record = &*in_c.hold(&record[..length], end);
-    for number in 0..Library.update_count(plan) {
-        let bytes = room.outputs[0].hold(&[0; SECTOR], end);
-        let sector = room.numbers[0].hold(&[0], end);
-        Library.update_store(plan, held_front, held_back, held_record, number, bytes, sector);
+    let plan = answer.plan;
+    let count = Model.update_count(plan);
+    for number in [0, rng.below(count), count / 2 - 1, count - 1, count] {
+        edge.bytes("update_store", [&front, &back, &record, &[7; SECTOR]], |api, [front, back, record, bytes]| {
+            api.update_store(plan, front, back, record, number, bytes)
+        });
     }
 }
 
-fn records(run: &mut Run, rng: &mut Rng, room: &mut Room) {
-    let end = rng.coin();
+fn formats(edge: &mut Edge, rng: &mut Rng) {
+    let identity = identity(rng);
+    let (device, time) = (identity.device, time(rng));
+    let count = segment_count(rng);
+    let record = record(rng, &device, count);
+    let copy = [7; COPY];
+    let uuids: [&[u8; UUID]; 2] = [&identity.pool_uuid, &identity.device_uuid];
+    edge.bytes("format", [&copy, &copy, uuids[0], uuids[1], &record], |api, [front, back, pool, blockdev, record]| {
+        api.format(front, back, device, pool, blockdev, time, record)
+    });
+    let [front, back] = [rng.bytes(COPY), rng.bytes(COPY)];
+    for number in [rng.below(80), 79, 80] {
+        edge.bytes("format_store", [&front, &back, &[7; SECTOR]], |api, [front, back, bytes]| {
+            api.format_store(device, front, back, number, bytes)
+        });
+    }
+}
+
+fn records(edge: &mut Edge, rng: &mut Rng) {
     let device = identity(rng).device;
     let record = any_record(rng, &device);
-    let held = &*room.inputs[0].hold(&record, end);
-    let checked = Library.record_check(&device, held);
-    same(run, "record_check", checked, Model.record_check(&device, &record));
-    let position = rng.below(410);
-    let segment = room.numbers[0].hold(&[0; 3], end);
-    let library = Library.record_segment(&device, held, position, segment);
-    let model = Model.record_segment(&device, &record, position, &mut [0; 3]);
-    same(run, "record_segment", library, model);
+    let slice = [&record[..]];
+    let (position, sectors) = (rng.below(410), rng.next() >> rng.below(64));
+    edge.bytes("record_check", slice, |api, [record]| api.record_check(device, record));
+    edge.bytes("record_head", slice, |api, [record]| api.record_head(device, record));
+    edge.bytes("record_segment", slice, |api, [record]| api.record_segment(device, record, position));
+    edge.bytes("free_total", slice, |api, [record]| api.free_total(device, record));
+    edge.bytes("run_count", slice, |api, [record]| api.run_count(device, record));
+    edge.bytes("run_at", slice, |api, [record]| api.run_at(device, record, position));
+    edge.bytes("first_fit", slice, |api, [record]| api.first_fit(device, record, sectors));
 
-    let [numbers_a, numbers_b] = &mut room.numbers;
     let left = (record.len().saturating_sub(8) / 20).saturating_sub(position as usize);
     let some = rng.index(left + 1);
     let right = 3 * rng.one_of(&[left, left, some, 0]);
-    let table: Vec<u64> = zeros(rng, right);
-    let (held_table, count) = (numbers_a.hold(&table, end), numbers_b.hold(&[0], end));
-    let library = Library.record_segments(&device, held, position, held_table, count);
-    let model = Model.record_segments(&device, &record, position, &mut table.clone(), &mut [0]);
-    same(run, "record_segments", library, model);
+    edge.numbers("record_segments", &record, right, |api, record, table| {
+        api.record_segments(device, record, position, table)
+    });
+    let runs = Model.run_count(device, &record).count as usize;
+    edge.runs("free_runs", &record, runs, |api, record, table| api.free_runs(device, record, table));
 
-    let table: Vec<u64> = zeros(rng, record.len() / 10);
-    let (held_table, count) = (numbers_a.hold(&table, end), numbers_b.hold(&[0], end));
-    let library = Library.free_runs(&device, held, held_table, count);
-    let model = Model.free_runs(&device, &record, &mut table.clone(), &mut [0]);
-    same(run, "free_runs", library, model);
-    let mut table: Vec<u64> = zeros(rng, record.len() / 20 * 2);
-    let (held_table, count) = (numbers_a.hold(&table, end), numbers_b.hold(&[0], end));
-    let library = Library.free_run_table(&device, held, as_runs(held_table), count);
-    let model = Model.free_run_table(&device, &record, as_runs(&mut table), &mut [0]);
-    same(run, "free_run_table", library, model);
-
-    let changed: Vec<u8> = zeros(rng, record.len() + 20);
-    let length = rng.next() >> rng.below(64);
-    let out = room.outputs[0].hold(&changed, end);
-    let library = Library.allocate(&device, held, 2, length, out, numbers_a.hold(&[0; 2], end));
-    let model = Model.allocate(&device, &record, 2, length, &mut changed.clone(), &mut [0; 2]);
-    same(run, "allocate", library, model);
-    let changed: Vec<u8> = zeros(rng, record.len().saturating_sub(20));
-    let out = room.outputs[0].hold(&changed, end);
-    let library = Library.release(&device, held, position, out, numbers_a.hold(&[0], end));
-    let model = Model.release(&device, &record, position, &mut changed.clone(), &mut [0]);
-    same(run, "release", library, model);
+    let changed = vec![7; record.len() + 20];
+    edge.bytes("allocate", [&record, &changed], |api, [record, changed]| {
+        api.allocate(device, record, 2, sectors, changed)
+    });
+    let changed = vec![7; record.len().saturating_sub(20)];
+    edge.bytes("release", [&record, &changed], |api, [record, changed]| api.release(device, record, position, changed));
+    edge.bytes("record_begin", [&[7; 8]], |api, [record]| api.record_begin(record, 128));
+    let mut buffer = vec![7; 28 + 20 * position as usize];
+    Model.record_begin(&mut buffer, 128);
+    let segment = SegmentFields { kind: 2, start: rng.next(), sectors };
+    edge.bytes("record_put", [&buffer], |api, [record]| api.record_put(record, position, segment));
+    // Less than a head, and no more than one.
+    for length in [1, 3, 5, 7, 9] {
+        edge.bytes("record_put", [&buffer[..length]], |api, [record]| api.record_put(record, 0, segment));
+        edge.bytes("record_begin", [&buffer[..length]], |api, [record]| api.record_begin(record, 256));
+        edge.bytes("record_check", [&buffer[..length]], |api, [record]| api.record_check(device, record));
+    }
 }

@@ -1,9 +1,8 @@
 //! Published check values and the worked examples of the layout's rules, with what they must give.
 
 use outside::ffi::Library;
-use outside::interface::{Device, Interface, FOUND, PLACES, UPDATE_PLAN};
-use outside::model::block::Time;
-use outside::model::layout::COPY;
+use outside::interface::{Answer, Device, FreeRun, Interface, SegmentFields, Time, WORDS};
+use outside::model::layout::{COPY, SECTOR};
 use outside::model::record::Segment;
 use outside::model::Model;
 use outside::rng::Rng;
@@ -24,11 +23,13 @@ pub fn case(run: &mut Run, _: &mut Rng, _: u64) {
             run.require(what, holds, &format!("not as published, by the {}", api.name()));
         };
         check_values(api, &mut expect);
+        words(api, &mut expect);
         devices(api, &mut expect);
         heads(api, &mut expect);
         segments(api, &mut expect);
         free_room(api, &mut expect);
         stores(api, &mut expect);
+        worked(api, &mut expect);
     }
 }
 
@@ -45,7 +46,7 @@ fn check_values(api: &dyn Interface, expect: &mut Expect) {
 
 /// The head of a record: the lowest number that applies, for too little room and a block size that is not allowed.
 fn heads(api: &dyn Interface, expect: &mut Expect) {
-    let begin = |room, block_size| api.record_begin(&mut vec![0; room], block_size);
+    let begin = |room, block_size| api.record_begin(&mut vec![0; room], block_size).number;
     for block_size in [0, 127, 129, 2_097_151, 2_097_280, u32::MAX] {
         expect("a head of 17 in too little room is 1", begin(0, block_size) == 1 && begin(7, block_size) == 1);
         expect("a head of a size that is not allowed", begin(8, block_size) == 17 && begin(9, block_size) == 17);
@@ -62,9 +63,9 @@ fn segments(api: &dyn Interface, expect: &mut Expect) {
         [(2, 2_048, 100), (4, 3_000, 50), (1, 2_200, 7)].map(|(kind, start, length)| Segment { kind, start, length });
     let record = encode(128, &three);
     let left = |room: usize, position| {
-        let (mut table, mut count) = (vec![9; room], [9]);
-        let number = api.record_segments(&DEVICE, &record, position, &mut table, &mut count);
-        (number, table, count[0])
+        let mut table = vec![9; room];
+        let answer = api.record_segments(DEVICE, &record, position, &mut table);
+        (answer.number(), table, answer.count)
     };
     let all = vec![2, 2_048, 100, 4, 3_000, 50, 1, 2_200, 7];
     expect("all segments", left(9, 0) == (0, all.clone(), 3));
@@ -72,31 +73,64 @@ fn segments(api: &dyn Interface, expect: &mut Expect) {
     expect("segments, two numbers over", left(8, 0) == (0, [&all[..6], &[9; 2]].concat(), 2));
     expect("segments from 1", left(7, 1) == (0, [&all[3..], &[9]].concat(), 2));
     expect("the last segment", left(3, 2) == (0, all[6..].to_vec(), 1));
-    expect("no room for a segment", left(0, 0) == (1, vec![], 9) && left(2, 2) == (1, vec![9; 2], 9));
+    expect("no room for a segment", left(0, 0) == (1, vec![], 0) && left(2, 2) == (1, vec![9; 2], 0));
     for position in [3, 4, 1 << 62, u64::MAX] {
         expect("no segment left", left(0, position) == (0, vec![], 0) && left(4, position) == (0, vec![9; 4], 0));
     }
-    let counts = |size: usize| api.record_segments(&DEVICE, &record, 0, &mut [0; 9], &mut vec![0; size]);
-    expect("an array that is not of one", counts(0) == 1 && counts(2) == 1);
-    let refused = api.record_segments(&DEVICE, &record[..27], 0, &mut [], &mut [0]);
-    expect("a refused record before too little room", refused == 17);
+    let refused = api.record_segments(DEVICE, &record[..27], 0, &mut []);
+    expect("a refused record before too little room", refused.number() == 17);
+
+    // The same record, put segment by segment.
+    let mut buffer = vec![9; 70];
+    api.record_begin(&mut buffer, 128);
+    for (position, segment) in (0..).zip(three) {
+        let answer = api.record_put(&mut buffer, position, segment.into());
+        expect("a segment put", answer.number() == 0 && answer.length == 28 + 20 * position);
+    }
+    expect("three segments put", buffer[..68] == record && buffer[68..] == [9, 9]);
+    let put = |length: usize, position| {
+        let mut buffer = record[..length].to_vec();
+        api.record_put(&mut buffer, position, SegmentFields::default()).number()
+    };
+    expect("a segment put in no room", put(68, 3) == 1 && put(67, 2) == 1 && put(68, 2) == 0);
+    expect("a segment put without a head", put(7, 0) == 17 && put(0, 0) == 17);
+    expect("a position that wraps", put(68, 1 << 62) == 1 && put(68, u64::MAX) == 1 && put(68, u64::MAX / 20) == 1);
+}
+
+/// The version, and what some numbers say.
+fn words(api: &dyn Interface, expect: &mut Expect) {
+    expect("version", api.version() == 2);
+    let says = |number, line: &str| {
+        let words = api.refusal_words(number);
+        words.text() == line.as_bytes() && words.bytes[words.used..].iter().all(|&byte| byte == 0)
+    };
+    expect("words of 0", says(0, "nothing is refused"));
+    expect("words of 10", says(10, "neither copy's block is accepted"));
+    expect("words of 23", says(23, "no store has that number"));
+    expect("words of 24", says(24, "a number that is not known") && says(255, "a number that is not known"));
+    expect("room for words", (0..=255).all(|number| api.refusal_words(number).used < WORDS));
 }
 
 /// Examples 1 to 6 and 8.
 fn devices(api: &dyn Interface, expect: &mut Expect) {
-    let mut places = [0; PLACES];
-    let number = api.places(&DEVICE, &mut places);
-    expect("example device", number == 0);
-    expect("example 1", places[6] == 2_097_145);
-    expect("example 2", places[7] == 2_095_104 && places[8] == 2_096_124);
-    let data = (places[10], places[11]);
-    expect("example 3", data == (2_048, 2_095_104) && data.1 - data.0 == 2_093_056);
-    let places = |sectors, metadata, reserved| api.places(&Device { sectors, metadata, reserved }, &mut [0; PLACES]);
+    let answer = api.places(DEVICE);
+    let map = answer.map;
+    expect("example device", answer.number() == 0);
+    expect("example 1", map.back.block == 2_097_145);
+    expect("example 2", map.back.a == 2_095_104 && map.back.b == 2_096_124);
+    expect("example 3", (map.start, map.end) == (2_048, 2_095_104) && map.end - map.start == 2_093_056);
+    let located = api.locate_blocks(DEVICE.sectors);
+    expect("blocks located", (located.number(), located.front, located.back) == (0, 1, 2_097_145));
+    expect("no blocks located", api.locate_blocks(2_097_151).number() == 4);
+    let places = |sectors, metadata, reserved| api.places(Device { sectors, metadata, reserved }).number();
     expect("example 4", places(2_097_151, 2_040, 0) == 4);
     expect("example 5", places(2_097_152, 2_041, 0) == 7 && places(2_097_152, 2_038, 0) == 7);
     expect("example 6", places(2_097_152, 16_384, 65_536) == 0);
     let (mut front, mut back) = (vec![0; COPY], vec![0; COPY]);
-    let mut format = |nanoseconds| api.format(&mut front, &mut back, &DEVICE, UUID, UUID, 10, nanoseconds, &RECORD);
+    let mut format = |nanoseconds| {
+        let time = Time { seconds: 10, nanoseconds };
+        api.format(&mut front, &mut back, DEVICE, UUID, UUID, time, &RECORD).number
+    };
     expect("example 8", format(1_000_000_000) == 9 && format(999_999_999) == 0);
 }
 
@@ -108,42 +142,89 @@ fn free_room(api: &dyn Interface, expect: &mut Expect) {
     };
     expect("printed record", record(&[(2_048, 100)]) == RECORD);
     let two = record(&[(2_048, 100), (3_000, 50)]);
-    let (mut table, mut count, mut total) = ([0; 4], [0], [0]);
-    let number = api.free_runs(&DEVICE, &two, &mut table, &mut count);
-    let runs = [2_148, 852, 3_050, 2_092_054];
-    expect("example 9, runs", number == 0 && count == [2] && table == runs);
-    let number = api.free_total(&DEVICE, &two, &mut total);
-    expect("example 9, total", number == 0 && total == [2_092_906]);
+    let runs = [(2_148, 852), (3_050, 2_092_054)].map(|(start, sectors)| FreeRun { start, sectors });
+    let mut table = [FreeRun::default(); 2];
+    let answer = api.free_runs(DEVICE, &two, &mut table);
+    expect("example 9, runs", answer.number() == 0 && answer.count == 2 && table == runs);
+    expect("example 9, count of runs", api.run_count(DEVICE, &two).count == 2);
+    let run = |number| api.run_at(DEVICE, &two, number).run;
+    expect("example 9, single runs", [run(0), run(1), run(2)] == [runs[0], runs[1], FreeRun::default()]);
+    let total = api.free_total(DEVICE, &two);
+    expect("example 9, total", total.number() == 0 && total.sectors == 2_092_906);
     let allocate = |length| {
-        let (mut changed, mut answer) = ([0; 68], [0; 2]);
-        let number = api.allocate(&DEVICE, &two, 2, length, &mut changed, &mut answer);
-        (number, answer[0])
+        let mut changed = [0; 68];
+        let answer = api.allocate(DEVICE, &two, 2, length, &mut changed);
+        (answer.number(), answer.start)
     };
     expect("example 10", allocate(852) == (0, 2_148) && allocate(853) == (0, 3_050));
+    let fit = |length| {
+        let answer = api.first_fit(DEVICE, &two, length);
+        (answer.number(), answer.run)
+    };
+    expect("example 10, first fit", fit(852) == (0, runs[0]) && fit(853) == (0, runs[1]));
+    expect("no fit", fit(0).0 == 18 && fit(2_092_055).0 == 20);
     let clash = record(&[(2_048, 100), (2_147, 1)]);
     let beside = record(&[(2_048, 100), (2_148, 1)]);
-    expect("example 11, 19", api.record_check(&DEVICE, &clash) == 19);
-    expect("example 11, accepted", api.record_check(&DEVICE, &beside) == 0);
+    expect("example 11, 19", api.record_check(DEVICE, &clash).number == 19);
+    expect("example 11, accepted", api.record_check(DEVICE, &beside).number == 0);
 }
 
 /// Examples 7 and 12, and the dump of the printed record.
 fn stores(api: &dyn Interface, expect: &mut Expect) {
+    let time = |nanoseconds| Time { seconds: 10, nanoseconds };
+    expect("example 7, times", api.later(time(5), time(4)) && !api.later(time(4), time(5)));
     let (mut front, mut back) = (vec![0; COPY], vec![0; COPY]);
-    let number = api.format(&mut front, &mut back, &DEVICE, UUID, UUID, 10, 5, &RECORD);
-    let mut found = [0; FOUND];
-    let answer = api.discover(&front, &back, &mut found);
-    let numbers = [number, answer];
-    expect("found front a 28 10 5 both", numbers == [0, 0] && found == [0, 0, 28, 10, 5, 0]);
+    let number = api.format(&mut front, &mut back, DEVICE, UUID, UUID, time(5), &RECORD).number;
+    let found = api.discover(&front, &back);
+    expect("found", number == 0 && found.number() == 0);
+    let numbers = (found.side, found.area, found.bytes, found.time, found.other);
+    expect("found front a 28 10 5 both", numbers == (0, 0, 28, time(5), 0));
+    expect(
+        "the found block",
+        found.block.device == DEVICE && found.block.pool == *UUID && found.block.b == Default::default(),
+    );
     let segments: Vec<Segment> = (0..26).map(|i| Segment { kind: 1, start: 2_048 + i, length: 1 }).collect();
     let count = |segments: &[Segment], time: Time| {
         let record = encode(128, segments);
-        let mut plan = [0; UPDATE_PLAN];
-        let Time { seconds, nanoseconds } = time;
-        let number = api.update_plan(&front, &back, seconds, nanoseconds, &record, &mut plan);
-        (number, record.len(), if number == 0 { api.update_count(&plan) } else { 0 })
+        let answer = api.update_plan(&front, &back, time, &record);
+        let count = if answer.number() == 0 { api.update_count(answer.plan) } else { 0 };
+        (answer.number(), record.len(), count)
     };
-    let time = |nanoseconds| Time { seconds: 10, nanoseconds };
     expect("example 12, 4 stores", count(&segments[..25], time(6)) == (0, 508, 4));
     expect("example 12, 6 stores", count(&segments, time(6)) == (0, 528, 6));
     expect("example 7", count(&segments, time(4)).0 == 14 && count(&segments, time(5)).0 == 14);
+}
+
+/// An update of the printed record, store by store: sectors, flushes, and what is left in memory.
+fn worked(api: &dyn Interface, expect: &mut Expect) {
+    let time = |seconds| Time { seconds, nanoseconds: 0 };
+    let (mut front, mut back) = (vec![0; COPY], vec![0; COPY]);
+    api.format(&mut front, &mut back, DEVICE, UUID, UUID, time(10), &RECORD[..8]);
+    expect("stores of formatting", api.format_count() == 80);
+    let mut bytes = [0; SECTOR];
+    let mut format = |number| {
+        let answer = api.format_store(DEVICE, &front, &back, number, &mut bytes);
+        (answer.number(), answer.sector, answer.flush)
+    };
+    expect("back's areas", format(0) == (0, 2_095_104, false) && format(31) == (0, 2_096_124 + 15, true));
+    expect("back's header", format(32) == (0, 2_097_144, false) && format(39) == (0, 2_097_151, true));
+    expect("front's areas", format(40) == (0, 8, false) && format(71) == (0, 1_028 + 15, true));
+    expect("front's header", format(72) == (0, 0, false) && format(79) == (0, 7, true));
+    expect("no further store", format(80) == (23, 0, false));
+
+    let plan = api.update_plan(&front, &back, time(11), &RECORD).plan;
+    expect("areas", (plan.front, plan.back) == (1, 1));
+    let entry = plan.entry;
+    let fields = (entry.seconds, entry.nanoseconds, entry.bytes, entry.checksum);
+    expect("entry", fields == (11, 0, 28, api.checksum(&RECORD)));
+    let sectors = [1_028, 1, 2_096_124, 2_097_145];
+    for (number, sector) in (0..).zip(sectors) {
+        let answer = api.update_store(plan, &front, &back, &RECORD, number, &mut bytes);
+        expect("store", (answer.number(), answer.sector, answer.flush) == (0, sector, true));
+        let applied = api.apply(DEVICE, sector, &bytes, &mut front, &mut back);
+        expect("applied", applied.number == 0);
+    }
+    let found = api.discover(&front, &back);
+    expect("updated in memory", found.number() == 0 && found.time == time(11) && api.in_step(&front, &back).in_step);
+    expect("the same in both", front == back);
 }

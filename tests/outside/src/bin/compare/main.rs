@@ -5,6 +5,7 @@
 //! compare SEED FAMILY         runs one family
 //! compare SEED FAMILY CASE    runs one case again, and shows what was lent where it fails
 
+mod applying;
 mod blocks;
 mod checksums;
 mod copies;
@@ -12,6 +13,7 @@ mod edges;
 mod examples;
 mod expected;
 mod formats;
+mod plans;
 mod readings;
 mod records;
 mod run;
@@ -39,11 +41,12 @@ const FAMILIES: &[Family] = &[
     ("blocks", 60_000, blocks::case),
     ("copies", 30_000, copies::case),
     ("updates", 16_000, updates::case),
+    ("applying", 3_000, applying::case),
     ("formats", 20_000, formats::case),
     ("records", 12_000, records::case),
     ("segments", 2_000, segments::case),
     ("walks", 1_000, walks::case),
-    ("edges", 12_000, edges::case),
+    ("edges", 2_000, edges::case),
     ("words", words::CASES, words::case),
 ];
 

@@ -1,11 +1,10 @@
 //! Makes one call to the library and to the independent implementation, and compares answers and all lent memory.
 
 use std::collections::BTreeMap;
-use std::fmt::Debug;
 use std::process::exit;
 
 use outside::ffi::Library;
-use outside::interface::Interface;
+use outside::interface::{Answer, Interface};
 use outside::lent::{Item, Lent};
 use outside::model::Model;
 use outside::rng::Rng;
@@ -26,11 +25,18 @@ pub struct Run {
 }
 
 /// What both implementations answered, and what they left in the lent memory.
-pub struct Outcome<R, const B: usize, const N: usize> {
-    pub answer: R,
-    pub expected: R,
+pub struct Outcome<A, const B: usize, const N: usize> {
+    pub answer: A,
+    pub expected: A,
     pub library: ([Lent<u8>; B], [Lent<u64>; N]),
     pub model: ([Lent<u8>; B], [Lent<u64>; N]),
+}
+
+impl<A: Answer, const B: usize, const N: usize> Outcome<A, B, N> {
+    /// The refusal number of the library's answer.
+    pub fn number(&self) -> u64 {
+        self.answer.number()
+    }
 }
 
 impl Run {
@@ -45,24 +51,37 @@ impl Run {
         Rng::of_case(self.seed, number, case)
     }
 
-    /// Calls both with the same lent memory and compares everything.
-    pub fn both<R, const B: usize, const N: usize>(
+    /// A call that changes nothing: both answers, and that the inputs stay.
+    pub fn ask<A: Answer>(
+        &mut self,
+        call: &'static str,
+        inputs: &[&Lent<u8>],
+        f: impl Fn(&dyn Interface) -> A,
+    ) -> Outcome<A, 0, 0> {
+        self.both(call, inputs, [], [], |api, [], []| f(api))
+    }
+
+    /// Calls both with the same lent memory and compares everything: every field of the answers, and all that was lent. Of a
+    /// refusal every other field is zero, and nothing that was lent is changed.
+    pub fn both<A: Answer, const B: usize, const N: usize>(
         &mut self,
         call: &'static str,
         inputs: &[&Lent<u8>],
         bytes: [Lent<u8>; B],
         numbers: [Lent<u64>; N],
-        f: impl Fn(&dyn Interface, &mut [Lent<u8>; B], &mut [Lent<u64>; N]) -> R,
-    ) -> Outcome<R, B, N>
-    where
-        R: Copy + PartialEq + Debug + Into<u64>,
-    {
+        f: impl Fn(&dyn Interface, &mut [Lent<u8>; B], &mut [Lent<u64>; N]) -> A,
+    ) -> Outcome<A, B, N> {
         let before = (bytes.clone(), numbers.clone());
         let outcome = self.call(call, inputs, (bytes, numbers), f);
         self.same(call, inputs, "bytes", &outcome.library.0, &outcome.model.0);
         self.same(call, inputs, "numbers", &outcome.library.1, &outcome.model.1);
-        if B + N > 0 && outcome.answer.into() != 0 {
-            // Every call that changes lent memory answers a refusal number.
+        let number = outcome.answer.number();
+        let refused = A::refused(number as u8).filter(|_| number != 0);
+        if let Some(alone) = refused {
+            if outcome.answer != alone {
+                let what = format!("refused, but another field is not zero: {:?}", outcome.answer);
+                self.fail(call, inputs, &what);
+            }
             let bytes = before.0.iter().zip(&outcome.library.0).all(|(a, b)| a.whole() == b.whole());
             let numbers = before.1.iter().zip(&outcome.library.1).all(|(a, b)| a.whole() == b.whole());
             if !(bytes && numbers) {
@@ -72,37 +91,13 @@ impl Run {
         outcome
     }
 
-    /// The same for a call that makes a plan. The form of a plan's bytes is each implementation's own, so where the
-    /// call is not refused only what lies around the plan is compared.
-    pub fn both_plan(
-        &mut self,
-        call: &'static str,
-        inputs: &[&Lent<u8>],
-        plan: Lent<u8>,
-        f: impl Fn(&dyn Interface, &mut [u8]) -> u8,
-    ) -> Outcome<u8, 1, 0> {
-        let lent = ([plan.clone()], []);
-        let outcome = self.call(call, inputs, lent, |api, [plan], []| f(api, plan.part_mut()));
-        let left = &outcome.library.0[0];
-        if !left.same_around(&plan) {
-            self.fail(call, inputs, "bytes around the plan changed");
-        }
-        if outcome.answer != 0 && left.whole() != plan.whole() {
-            self.fail(call, inputs, "refused, but the plan changed");
-        }
-        outcome
-    }
-
-    fn call<R, const B: usize, const N: usize>(
+    fn call<A: Answer, const B: usize, const N: usize>(
         &mut self,
         call: &'static str,
         inputs: &[&Lent<u8>],
         lent: ([Lent<u8>; B], [Lent<u64>; N]),
-        f: impl Fn(&dyn Interface, &mut [Lent<u8>; B], &mut [Lent<u64>; N]) -> R,
-    ) -> Outcome<R, B, N>
-    where
-        R: Copy + PartialEq + Debug + Into<u64>,
-    {
+        f: impl Fn(&dyn Interface, &mut [Lent<u8>; B], &mut [Lent<u64>; N]) -> A,
+    ) -> Outcome<A, B, N> {
         let kept: Vec<Vec<u8>> = inputs.iter().map(|input| input.whole().to_vec()).collect();
         let (mut library, mut model) = (lent.clone(), lent);
         let answer = f(&Library, &mut library.0, &mut library.1);
@@ -116,7 +111,7 @@ impl Run {
             let what = format!("library answers {answer:?}, model {expected:?}");
             self.fail(call, inputs, &what);
         }
-        self.count(call, expected.into());
+        self.count(call, expected.number());
         Outcome { answer, expected, library, model }
     }
 

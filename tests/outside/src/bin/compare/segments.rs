@@ -1,13 +1,12 @@
 //! The segments of a record from a position on, in tables of all sizes.
 
-use outside::interface::Device;
+use outside::interface::{Device, SegmentFields};
 use outside::lent::Lent;
 use outside::model::record::{HEAD_BYTES, MAX_SEGMENTS, SEGMENT_BYTES};
 use outside::rng::Rng;
 use outside::sample::numbers::{break_device, device};
 use outside::sample::records::{any_record, record, segment_count};
 
-use crate::blocks::length;
 use crate::run::Run;
 
 /// Kind, start, length.
@@ -32,8 +31,7 @@ pub fn case(run: &mut Run, rng: &mut Rng, number: u64) {
     let count = count(record.part());
     for position in positions(rng, count) {
         for room in rooms(rng, count.saturating_sub(position) as usize) {
-            let size = length(rng, 1);
-            hand_on(run, rng, &device, &record, position, [room, size]);
+            hand_on(run, rng, &device, &record, position, room);
         }
     }
 }
@@ -61,33 +59,24 @@ fn rooms(rng: &mut Rng, left: usize) -> [usize; 13] {
     [0, 1, 2, 3, 4, 5, 6, all.saturating_sub(1), all, all + 1, all + 3, some, random]
 }
 
-/// The numbers of the segments that the library handed on, none where it refused. The table has room for so many numbers,
-/// and the array of the count is of that size.
-fn hand_on(
-    run: &mut Run,
-    rng: &mut Rng,
-    device: &Device,
-    record: &Lent<u8>,
-    position: u64,
-    [room, size]: [usize; 2],
-) -> Vec<u64> {
-    let lent = [Lent::random(rng, room), Lent::random(rng, size)];
+/// The numbers of the segments that the library handed on, none where it refused. The table has room for so many numbers.
+fn hand_on(run: &mut Run, rng: &mut Rng, device: &Device, record: &Lent<u8>, position: u64, room: usize) -> Vec<u64> {
+    let lent = [Lent::random(rng, room)];
     let before = lent[0].part().to_vec();
-    let outcome = run.both(CALL, &[record], [], lent, |api, [], [table, count]| {
-        api.record_segments(device, record.part(), position, table.part_mut(), count.part_mut())
+    let outcome = run.both(CALL, &[record], [], lent, |api, [], [table]| {
+        api.record_segments(*device, record.part(), position, table.part_mut())
     });
-    let [table, handed] = &outcome.library.1;
-    if size != 1 || outcome.answer != 0 {
-        run.require(CALL, size == 1 || outcome.answer == 1, "not 1 for an array that is not of one");
-        if size == 1 && room < NUMBERS {
-            run.reached(match outcome.answer {
+    let [table] = &outcome.library.1;
+    if outcome.number() != 0 {
+        if room < NUMBERS {
+            run.reached(match outcome.number() {
                 1 => "record_segments, too little room",
                 _ => "record_segments, a refused record in too little room",
             });
         }
         return Vec::new();
     }
-    let (count, handed) = (count(record.part()), handed.part()[0]);
+    let (count, handed) = (count(record.part()), outcome.answer.count);
     let left = count.saturating_sub(position);
     run.require(CALL, handed == left.min((room / NUMBERS) as u64), "another count than is left and has room");
     let (numbers, rest) = table.part().split_at(room.min(NUMBERS * handed as usize));
@@ -113,16 +102,14 @@ fn walk(run: &mut Run, rng: &mut Rng, device: &Device) {
         bytes = record(rng, device, MAX_SEGMENTS);
     }
     let record = Lent::holding(rng, &bytes);
-    let all = hand_on(run, rng, device, &record, 0, [NUMBERS * MAX_SEGMENTS, 1]);
+    let all = hand_on(run, rng, device, &record, 0, NUMBERS * MAX_SEGMENTS);
     run.require(CALL, all.len() == NUMBERS * MAX_SEGMENTS, "not all of 409 segments by one call");
 
     let mut single = Vec::new();
     for position in 0..MAX_SEGMENTS as u64 {
-        let segment = [Lent::random(rng, NUMBERS)];
-        let outcome = run.both("record_segment", &[&record], [], segment, |api, [], [segment]| {
-            api.record_segment(device, record.part(), position, segment.part_mut())
-        });
-        single.extend_from_slice(outcome.library.1[0].part());
+        let outcome = run.ask("record_segment", &[&record], |api| api.record_segment(*device, record.part(), position));
+        let SegmentFields { kind, start, sectors } = outcome.answer.segment;
+        single.extend([u64::from(kind), start, sectors]);
     }
     run.require(CALL, all == single, "one call and one by one differ");
 
@@ -133,7 +120,7 @@ fn walk(run: &mut Run, rng: &mut Rng, device: &Device) {
         // A table that has one or two numbers over holds no more.
         let room = NUMBERS * chunk + rng.index(NUMBERS);
         let position = (chunks.len() / NUMBERS) as u64;
-        let part = hand_on(run, rng, device, &record, position, [room, 1]);
+        let part = hand_on(run, rng, device, &record, position, room);
         if part.is_empty() {
             break;
         }

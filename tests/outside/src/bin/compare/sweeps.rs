@@ -1,6 +1,6 @@
 //! Every bit of a block, every length of a record, and every byte of a head item and of a segment.
 
-use outside::interface::{Device, BLOCK_NUMBERS};
+use outside::interface::Device;
 use outside::lent::Lent;
 use outside::model::block::{seal, BlockBytes};
 use outside::model::layout::SECTOR;
@@ -39,14 +39,10 @@ pub fn case(run: &mut Run, rng: &mut Rng, number: u64) {
 
 fn read(run: &mut Run, rng: &mut Rng, block: &BlockBytes) {
     let block = Lent::holding(rng, block);
-    let uuids = [Lent::random(rng, 32), Lent::random(rng, 32)];
-    let numbers = [Lent::random(rng, BLOCK_NUMBERS)];
-    run.both("block_read", &[&block], uuids, numbers, |api, [pool, device], [numbers]| {
-        api.block_read(block.part(), numbers.part_mut(), pool.part_mut(), device.part_mut())
-    });
+    run.ask("block_read", &[&block], |api| api.block_read(block.part()));
 }
 
 fn check(run: &mut Run, rng: &mut Rng, device: &Device, record: &[u8]) {
     let record = Lent::holding(rng, record);
-    run.both("record_check", &[&record], [], [], |api, [], []| api.record_check(device, record.part()));
+    run.ask("record_check", &[&record], |api| api.record_check(*device, record.part()));
 }

@@ -1,7 +1,7 @@
 //! Updates: refusals, plans, stores and groups; laying a record into a copy.
 
 use outside::ffi::Library;
-use outside::interface::{Interface, UPDATE_PLAN};
+use outside::interface::{Interface, UpdatePlan};
 use outside::lent::Lent;
 use outside::model::block::{Identity, Time};
 use outside::model::layout::{COPY, RECORD_LIMIT, SECTOR};
@@ -11,7 +11,8 @@ use outside::sample::numbers::{break_nanoseconds, earlier, identity, later, time
 use outside::sample::records::{any_record, record, segment_count};
 
 use crate::blocks::length;
-use crate::copies::{check_any_plan, lend, spoiled, store_number, Plans};
+use crate::copies::lend;
+use crate::plans::{foreign_copies, made_up_update, store_number};
 use crate::run::Run;
 
 pub fn case(run: &mut Run, rng: &mut Rng, _: u64) {
@@ -32,7 +33,7 @@ pub fn case(run: &mut Run, rng: &mut Rng, _: u64) {
 }
 
 /// Two copies: in step, nearly in step, or in any state.
-fn copies(rng: &mut Rng) -> (Identity, Time, [Vec<u8>; 2]) {
+pub fn copies(rng: &mut Rng) -> (Identity, Time, [Vec<u8>; 2]) {
     if rng.once_in(6) {
         let (identity, copies) = any_pair(rng);
         return (identity, time(rng), copies);
@@ -73,109 +74,91 @@ fn update_time(rng: &mut Rng, present: Time) -> Time {
 }
 
 fn update(run: &mut Run, rng: &mut Rng, [front, back]: [&Lent<u8>; 2], time: Time, record: &Lent<u8>) {
-    let Time { seconds, nanoseconds } = time;
     let inputs = [front, back, record];
-    run.both("update_check", &inputs, [], [], |api, [], []| {
-        api.update_check(front.part(), back.part(), seconds, nanoseconds, record.part())
-    });
-    let size = length(rng, UPDATE_PLAN);
-    let plan = Lent::random(rng, size);
-    let outcome = run.both_plan("update_plan", &inputs, plan, |api, plan| {
-        api.update_plan(front.part(), back.part(), seconds, nanoseconds, record.part(), plan)
-    });
-    if size != UPDATE_PLAN {
-        let plan = &outcome.library.0[0];
-        run.both("update_count", &[plan], [], [], |api, [], []| api.update_count(plan.part()));
-        run.both("update_group", &[plan], [], [], |api, [], []| api.update_group(plan.part(), 0));
+    let checked =
+        run.ask("update_check", &inputs, |api| api.update_check(front.part(), back.part(), time, record.part()));
+    let outcome =
+        run.ask("update_plan", &inputs, |api| api.update_plan(front.part(), back.part(), time, record.part()));
+    run.require("update_plan", checked.answer == outcome.answer.refusal, "refused otherwise than by update_check");
+    let plan = outcome.expected.plan;
+    if outcome.expected.refusal.number == 0 {
+        let count = run.ask("update_count", &[], |api| api.update_count(plan)).expected;
+        for number in 0..count + 2 {
+            store(run, rng, plan, inputs, number);
+        }
+        let number = rng.next();
+        store(run, rng, plan, inputs, number);
+        wrong_sizes(run, rng, plan, inputs);
+        wrong_record(run, rng, plan, inputs, count);
     }
-    if outcome.expected != 0 {
-        return;
-    }
-    let plans = Plans { library: &outcome.library.0[0], model: &outcome.model.0[0] };
-    let count = run.both("update_count", &[plans.library], [], [], |api, [], []| api.update_count(plans.of(api)));
-    for number in 0..count.expected + 2 {
-        store(run, rng, &plans, inputs, number);
-    }
-    let number = rng.next();
-    store(run, rng, &plans, inputs, number);
-    wrong_sizes(run, rng, &plans, inputs);
-    wrong_record(run, rng, &plans, inputs, count.expected);
-    for _ in 0..4 {
-        any_plan(run, rng, &plans, inputs);
+    if front.part().len() == COPY && back.part().len() == COPY {
+        for _ in 0..4 {
+            made_up(run, rng, plan, inputs);
+        }
     }
 }
 
-fn store(run: &mut Run, rng: &mut Rng, plans: &Plans, [front, back, record]: [&Lent<u8>; 3], number: u64) {
-    run.both("update_group", &[], [], [], |api, [], []| api.update_group(plans.of(api), number));
-    let bytes = length(rng, SECTOR);
-    let sector = length(rng, 1);
-    let lent = [Lent::random(rng, bytes)];
-    let sector = [Lent::random(rng, sector)];
-    run.both("update_store", &[], lent, sector, |api, [bytes], [sector]| {
-        let (front, back, record) = (front.part(), back.part(), record.part());
-        let (bytes, sector) = (bytes.part_mut(), sector.part_mut());
-        api.update_store(plans.of(api), front, back, record, number, bytes, sector)
+/// A store and its group; its refusal number.
+fn store(run: &mut Run, rng: &mut Rng, plan: UpdatePlan, [front, back, record]: [&Lent<u8>; 3], number: u64) -> u64 {
+    let group = run.ask("update_group", &[], |api| api.update_group(plan, number)).answer;
+    let size = length(rng, SECTOR);
+    let lent = [Lent::random(rng, size)];
+    let outcome = run.both("update_store", &[], lent, [], |api, [bytes], []| {
+        api.update_store(plan, front.part(), back.part(), record.part(), number, bytes.part_mut())
     });
+    if outcome.number() == 0 {
+        // The last of its group.
+        let last = Library.update_group(plan, number + 1) != group;
+        run.require("update_store", outcome.answer.flush == last, "a flush that is not after the last of a group");
+    }
+    outcome.number()
 }
 
 /// A store asked for with one slice of another size.
-fn wrong_sizes(run: &mut Run, rng: &mut Rng, plans: &Plans, [front, back, record]: [&Lent<u8>; 3]) {
-    let which = rng.index(3);
-    let size = [UPDATE_PLAN, COPY, COPY].map(|size| wrong_length(rng, size));
-    let lent = [Lent::random(rng, SECTOR)];
-    let sector = [Lent::random(rng, 1)];
+fn wrong_sizes(run: &mut Run, rng: &mut Rng, plan: UpdatePlan, [front, back, record]: [&Lent<u8>; 3]) {
+    let side = rng.index(2);
+    let size = wrong_length(rng, COPY);
+    let mut copies = [front.part().to_vec(), back.part().to_vec()];
+    copies[side].resize(size, 0);
+    let [front, back] = copies.map(|copy| Lent::holding(rng, &copy));
     let number = rng.below(4);
-    run.both("update_store", &[], lent, sector, |api, [bytes], [sector]| {
-        let resized = |index: usize, slice: &[u8]| {
-            let mut slice = slice.to_vec();
-            if index == which {
-                slice.resize(size[index], 0);
-            }
-            slice
-        };
-        let plan = resized(0, plans.of(api));
-        let (front, back) = (resized(1, front.part()), resized(2, back.part()));
-        let (bytes, sector) = (bytes.part_mut(), sector.part_mut());
-        api.update_store(&plan, &front, &back, record.part(), number, bytes, sector)
-    });
+    store(run, rng, plan, [&front, &back, record], number);
 }
 
-/// A store asked for with a record of a length that is not allowed: 15, also past the last store, and 1 before it.
-fn wrong_record(run: &mut Run, rng: &mut Rng, plans: &Plans, [front, back, _]: [&Lent<u8>; 3], count: u64) {
+/// A store asked for with a record of a length that is not allowed: 15, also past the last store, and 1 before it. One of another
+/// length that is allowed: 1.
+fn wrong_record(run: &mut Run, rng: &mut Rng, plan: UpdatePlan, [front, back, record]: [&Lent<u8>; 3], count: u64) {
     let above = RECORD_LIMIT + 1 + rng.index(RECORD_LIMIT);
-    let record_length = rng.one_of(&[0, RECORD_LIMIT + 1, above]);
+    let allowed = rng.within(1, RECORD_LIMIT as u64) as usize;
+    let near = record.part().len() - 1;
+    let record_length = rng.one_of(&[0, RECORD_LIMIT + 1, above, allowed, near, near + 2]);
     let record = Lent::random(rng, record_length);
     let number = rng.below(count + 2);
-    store(run, rng, plans, [front, back, &record], number);
+    store(run, rng, plan, [front, back, &record], number);
 }
 
-/// A plan of any bytes, or one that does not fit the record: the calls end with an answer or a refusal, 15 exactly for a
-/// length that is not allowed, and a refusal changes nothing.
-fn any_plan(run: &mut Run, rng: &mut Rng, plans: &Plans, [front, back, record]: [&Lent<u8>; 3]) {
-    let plan = spoiled(rng, plans.library);
+/// A plan that no call made, or copies that are not the plan's. The record has the plan's length, mostly.
+fn made_up(run: &mut Run, rng: &mut Rng, plan: UpdatePlan, [front, back, record]: [&Lent<u8>; 3]) {
+    let copies = foreign_copies(rng, [front.part(), back.part()]);
+    let plan = made_up_update(rng, plan, [&copies[0], &copies[1]], record.part().len());
+    let [front, back] = copies.map(|copy| Lent::holding(rng, &copy));
+    let planned = plan.entry.bytes.min(2 * RECORD_LIMIT as u32) as usize;
     let random = rng.index(RECORD_LIMIT + 100);
-    let length = record.part().len();
-    let length = rng.one_of(&[length, length - 1, length + 1, 0, random]);
+    let as_it_was = record.part().len();
+    let size = rng.one_of(&[planned, planned, planned, planned, planned + 1, as_it_was, 0, random]);
     let mut bytes = record.part().to_vec();
-    bytes.resize(length, 0);
+    bytes.resize(size, 0xa5);
     let record = Lent::holding(rng, &bytes);
-    let number = store_number(rng, Library.update_count(plan.part()));
-    let group = Library.update_group(plan.part(), number);
-    run.require("update_group", group <= 4, "a group above 4");
-    let (mut bytes, mut sector) = (Lent::random(rng, SECTOR), Lent::random(rng, 1));
-    let (before, sector_before) = (bytes.clone(), sector.clone());
-    let answer = Library.update_store(
-        plan.part(),
-        front.part(),
-        back.part(),
-        record.part(),
-        number,
-        bytes.part_mut(),
-        sector.part_mut(),
-    );
-    let allowed = (1..=RECORD_LIMIT).contains(&length);
-    run.require("update_store", (answer == 15) != allowed, "15 and the record's length do not agree");
-    check_any_plan(run, "update_store", answer, [&before, &bytes], [&sector_before, &sector]);
+    let count = run.ask("update_count", &[], |api| api.update_count(plan)).answer;
+    let number = store_number(rng, count);
+    let answer = store(run, rng, plan, [&front, &back, &record], number);
+    run.reached("a store of an update that no call made");
+    if answer == 23 && number < count {
+        run.reached("update_store, 23 for a sector past the last number");
+    }
+    if answer == 1 && size != planned {
+        run.reached("update_store, 1 for a record of another length");
+    }
 }
 
 fn lay(run: &mut Run, rng: &mut Rng) {
@@ -186,6 +169,10 @@ fn lay(run: &mut Run, rng: &mut Rng) {
     let record = Lent::random(rng, record_length);
     let size = length(rng, COPY);
     let copy = [Lent::random(rng, size)];
-    let area_b = rng.coin();
-    run.both("lay", &[&record], copy, [], |api, [copy], []| api.lay(copy.part_mut(), area_b, record.part()));
+    let random = rng.next() as u8;
+    let area = rng.one_of(&[0, 0, 0, 1, 1, 2, 0xff, random]);
+    run.both("lay", &[&record], copy, [], |api, [copy], []| api.lay(copy.part_mut(), area, record.part()));
+    if area > 1 {
+        run.reached("lay, an area that is neither 0 nor 1");
+    }
 }

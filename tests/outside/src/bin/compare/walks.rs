@@ -34,26 +34,53 @@ pub fn case(run: &mut Run, rng: &mut Rng, _: u64) {
         };
         record = changed;
         let lent = Lent::holding(rng, &record);
-        let checked = run.both("record_check", &[&lent], [], [], |api, [], []| api.record_check(&device, lent.part()));
-        run.require("record_check", checked.answer == 0, "a changed record is refused");
+        let checked = run.ask("record_check", &[&lent], |api| api.record_check(device, lent.part()));
+        run.require("record_check", checked.number() == 0, "a changed record is refused");
     }
+    put_again(run, rng, &device, &record);
 }
 
-/// The record with a segment more. Releasing that one again gives the record as it was.
+/// The record again from its segments, put one by one into a buffer that was begun.
+fn put_again(run: &mut Run, rng: &mut Rng, device: &Device, record: &[u8]) {
+    let head = run.ask("record_head", &[], |api| api.record_head(*device, record)).answer;
+    let room = record.len() + rng.index(40);
+    let lent = [Lent::random(rng, room)];
+    let mut buffer = run
+        .both("record_begin", &[], lent, [], |api, [buffer], []| api.record_begin(buffer.part_mut(), head.block_size))
+        .library
+        .0;
+    let mut length = 8;
+    for position in 0..head.segments {
+        let segment =
+            run.ask("record_segment", &[], |api| api.record_segment(*device, record, position)).answer.segment;
+        let put = run.both("record_put", &[], buffer, [], |api, [buffer], []| {
+            api.record_put(buffer.part_mut(), position, segment)
+        });
+        length = put.answer.length as usize;
+        buffer = put.library.0;
+    }
+    let same = buffer[0].part().get(..length) == Some(record);
+    run.require("record_put", same, "the segments put again give another record");
+    run.reached("record_put, a whole record");
+}
+
+/// The record with a segment more, at the start of the first run that is long enough. Releasing that one again gives the record as
+/// it was.
 fn allocate(run: &mut Run, rng: &mut Rng, device: &Device, record: &[u8], length: u64) -> Option<Vec<u8>> {
     let kind = rng.within(1, 4) as u16;
     let input = Lent::holding(rng, record);
     let lent = [Lent::random(rng, RECORD_LIMIT)];
-    let answer = [Lent::random(rng, 2)];
-    let outcome = run.both("allocate", &[&input], lent, answer, |api, [changed], [answer]| {
-        let (changed, answer) = (changed.part_mut(), answer.part_mut());
-        api.allocate(device, input.part(), kind, length, changed, answer)
+    let outcome = run.both("allocate", &[&input], lent, [], |api, [changed], []| {
+        api.allocate(*device, input.part(), kind, length, changed.part_mut())
     });
-    if outcome.expected != 0 {
+    if outcome.number() != 0 {
         return None;
     }
-    let ([changed], [answer]) = &outcome.model;
-    let changed = changed.part()[..answer.part()[1] as usize].to_vec();
+    let answer = outcome.answer;
+    let fit = run.ask("first_fit", &[&input], |api| api.first_fit(*device, input.part(), length)).answer;
+    let same = fit.refusal.number == 0 && fit.run.start == answer.start && fit.run.sectors >= length;
+    run.require("first_fit", same, "not the run that was allocated from");
+    let changed = outcome.library.0[0].part()[..answer.length as usize].to_vec();
     let last = (record.len() as u64 - 8) / 20;
     let released = release(run, rng, device, &changed, last);
     let same = released.as_deref() == Some(record);
@@ -65,14 +92,11 @@ fn allocate(run: &mut Run, rng: &mut Rng, device: &Device, record: &[u8], length
 fn release(run: &mut Run, rng: &mut Rng, device: &Device, record: &[u8], position: u64) -> Option<Vec<u8>> {
     let input = Lent::holding(rng, record);
     let lent = [Lent::random(rng, RECORD_LIMIT)];
-    let answer = [Lent::random(rng, 1)];
-    let outcome = run.both("release", &[&input], lent, answer, |api, [changed], [answer]| {
-        let (changed, answer) = (changed.part_mut(), answer.part_mut());
-        api.release(device, input.part(), position, changed, answer)
+    let outcome = run.both("release", &[&input], lent, [], |api, [changed], []| {
+        api.release(*device, input.part(), position, changed.part_mut())
     });
-    if outcome.expected != 0 {
+    if outcome.number() != 0 {
         return None;
     }
-    let ([changed], [answer]) = &outcome.model;
-    Some(changed.part()[..answer.part()[0] as usize].to_vec())
+    Some(outcome.library.0[0].part()[..outcome.answer.length as usize].to_vec())
 }

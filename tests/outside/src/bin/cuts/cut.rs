@@ -1,11 +1,10 @@
 //! A cut in a list of stores.
 
+use outside::disk::{Disk, Store};
 use outside::model::block::{Block, BlockBytes};
 use outside::model::layout::SECTOR;
 use outside::rng::Rng;
 use outside::sample::blocks;
-
-use crate::device::{Disk, Store};
 
 /// What a cut left.
 pub struct Cut {

@@ -5,15 +5,14 @@
 //! cuts SEED CASE      runs one case again
 
 mod cut;
-mod device;
 mod library;
 
 use std::env;
 use std::process::exit;
 
 use cut::cut;
-use device::{Disk, Store};
-use library::{discover, in_step, mend, update, Stamped};
+use library::{discover, in_step, mend, update, Plan, Stamped};
+use outside::disk::{Disk, Store};
 use outside::model::block::{Block, BlockBytes};
 use outside::model::discovery::{block_of, Pair};
 use outside::rng::Rng;
@@ -93,9 +92,9 @@ impl Cuts {
             };
             let count = segment_count(rng);
             let new = Stamped { time, record: record(rng, &identity.device, count) };
-            let stores = match update(&disk, &new) {
-                Ok(stores) => stores,
-                Err(number) => return self.fail(&format!("an update is refused with {number}")),
+            let Plan { stores, memory } = match update(&disk, &new) {
+                Ok(plan) => plan,
+                Err(error) => return self.fail(&format!("an update: {error}")),
             };
             self.counts.updates += 1;
             for group in 0..4 {
@@ -104,7 +103,7 @@ impl Cuts {
                 }
             }
             disk.land(&stores);
-            self.landed(rng, &disk, &new, "update");
+            self.landed(rng, &disk, &memory, &new, "update");
             old = new;
         }
     }
@@ -154,7 +153,7 @@ impl Cuts {
     fn mends(&mut self, rng: &mut Rng, mut disk: Disk, found: &Stamped) {
         self.counts.chains += 1;
         for _ in 0..rng.below(MOST_MENDS) {
-            let Some(stores) = self.mend_stores(&disk) else {
+            let Some(Plan { stores, .. }) = self.mend_stores(&disk) else {
                 return;
             };
             let groups = stores.last().map_or(0, |store| store.group + 1);
@@ -182,19 +181,19 @@ impl Cuts {
             };
             disk = next;
         }
-        if let Some(stores) = self.mend_stores(&disk) {
+        if let Some(Plan { stores, memory }) = self.mend_stores(&disk) {
             disk.land(&stores);
             self.counts.landed_mends += 1;
-            self.landed(rng, &disk, found, "mend");
+            self.landed(rng, &disk, &memory, found, "mend");
         }
     }
 
-    fn mend_stores(&mut self, disk: &Disk) -> Option<Vec<Store>> {
+    fn mend_stores(&mut self, disk: &Disk) -> Option<Plan> {
         self.counts.mends += 1;
         match mend(disk) {
-            Ok(stores) => Some(stores),
-            Err(number) => {
-                self.fail(&format!("a mend is refused with {number}"));
+            Ok(plan) => Some(plan),
+            Err(error) => {
+                self.fail(&format!("a mend: {error}"));
                 None
             }
         }
@@ -214,9 +213,13 @@ impl Cuts {
         }
     }
 
-    /// All stores landed: discovery gives the record, and the copies are in step on it.
-    fn landed(&mut self, rng: &mut Rng, disk: &Disk, promised: &Stamped, what: &str) {
+    /// All stores landed: discovery gives the record, and the copies are in step on it. The copies that the stores were applied to in
+    /// memory are those of the disk.
+    fn landed(&mut self, rng: &mut Rng, disk: &Disk, memory: &[Vec<u8>; 2], promised: &Stamped, what: &str) {
         self.gives(rng, disk, promised, &format!("{what} landed"));
+        if *memory != disk.copies() {
+            self.fail(&format!("{what} landed: the copies in memory are not those of the disk"));
+        }
         if !in_step(disk) {
             self.fail(&format!("{what} landed: the copies are not in step"));
         }

@@ -1,9 +1,9 @@
-//! A device as a map from sector numbers to sectors, and stores to it.
+//! A simulated device: a map from sector numbers to sectors, and stores to it.
 
 use std::collections::HashMap;
 
-use outside::model::block::BlockBytes;
-use outside::model::layout::{Device, COPY, SECTOR};
+use crate::model::block::BlockBytes;
+use crate::model::layout::{Device, COPY, SECTOR};
 
 /// A sector that was never stored to is zero.
 #[derive(Clone)]
@@ -20,7 +20,7 @@ pub struct Store {
 }
 
 impl Disk {
-    /// A disk with these two copies at their places.
+    /// A disk with these two copies at their places; with what there is of them, where they are shorter.
     pub fn new(device: Device, copies: &[Vec<u8>; 2]) -> Self {
         let mut disk = Disk { device, sectors: HashMap::new() };
         for (side, copy) in copies.iter().enumerate() {
@@ -37,8 +37,9 @@ impl Disk {
         self.sectors.get(&sector).copied().unwrap_or([0; SECTOR])
     }
 
-    pub fn write(&mut self, sector: u64, bytes: &BlockBytes) {
-        self.sectors.insert(sector, *bytes);
+    /// Whether the sector had been stored to before.
+    pub fn write(&mut self, sector: u64, bytes: &BlockBytes) -> bool {
+        self.sectors.insert(sector, *bytes).is_some()
     }
 
     /// A copy, read from its places.
