@@ -10,12 +10,14 @@
  *   overlap nothing else that it is lent.
  * - A plan, the copies and the record that it is asked with belong together: the copies are those that the plan was made of, or the
  *   same with its earlier stores applied. Any plan is answered, also one that no call made; its stores are then of no use.
- * - The two copies are the front and the back of one device, read from where amseokbin_places puts them.
+ * - The two copies are the front and the back of one device, read from where amseokbin_places puts them, and a device that is handed in
+ *   beside them is that one.
  * Everything else is tested, and has a number.
  *
  * Answers. A call that can refuse answers a struct whose first field is the refusal, or the refusal alone: number 0 where the call did
- * what it says, else 1 to 23 (enum amseokbin_number). Then every other field is zero, and nothing that was lent is changed. A slice of
- * another size than the one named here gives 1, before all other numbers; too little room for an answer gives 1 after all others.
+ * what it says, else 1 to 23 (enum amseokbin_number). Then every other field is zero, and nothing that was lent is changed. Where
+ * nothing else is said the lowest number that applies is given: 1 for a slice of another size than the one named here is tested first, 1
+ * for too little room for an answer last.
  *
  * A worked example; the tests build and run it as it stands here. It makes a pool in two copies in memory, books 1,000 sectors, stores
  * the new record and finds it again. A device of your own takes the place of the two functions at the top.
@@ -45,6 +47,9 @@
  *         const struct amseokbin_device device = {2097152, 2040, 0};
  *         const struct amseokbin_time made = {1000000000, 0}, booked = {1000000001, 0};
  *         uint64_t i;
+ *
+ *         if (amseokbin_version() != AMSEOKBIN_VERSION)
+ *             return 2;
  *
  *         // A record with no segments, in blocks of 128 sectors, and both copies with it.
  *         if (refused("begin", amseokbin_record_begin(record, sizeof record, 128)))
@@ -99,7 +104,8 @@
  * How to begin on a drive. S, L and R stand in a signature block, which has to be found first. Give the drive's own size to
  * amseokbin_locate_blocks; read the front's sector and hand it to amseokbin_block_read. Where it is accepted its device numbers give
  * all places by amseokbin_places. Where it is refused read the back's sector in the same way. Where both are refused there is no pool, or
- * the drive was enlarged and its back copy lies at the old end. Then read both copies, and amseokbin_discover.
+ * the drive was enlarged and its back copy lies at the old end. A block's S may be more than the drive has, if it was copied to a smaller
+ * one: compare them before the back is read. Then read both copies, and amseokbin_discover; where they are not in step amseokbin_mend_plan.
  *
  * A copy in memory is 20,480 bytes: the 8 sectors of the header from `header` on, the first 16 sectors of area a from `a` on, the first
  * 16 of area b from `b` on. The signature block lies at AMSEOKBIN_BLOCK_OFFSET in it, the areas at AMSEOKBIN_AREA_A_OFFSET and
@@ -129,10 +135,10 @@ extern "C" {
 #define AMSEOKBIN_BLOCK_OFFSET 512u
 #define AMSEOKBIN_AREA_A_OFFSET 4096u
 #define AMSEOKBIN_AREA_B_OFFSET 12288u
-#define AMSEOKBIN_UUID 32u    /* ASCII hex, 0 to 9 and a to f */
+#define AMSEOKBIN_UUID 32u     /* ASCII hex, 0 to 9 and a to f */
 #define AMSEOKBIN_RECORD 8192u /* the most of a record */
-#define AMSEOKBIN_HEAD 8u     /* a record with no segments */
-#define AMSEOKBIN_SEGMENT 20u /* each segment adds */
+#define AMSEOKBIN_HEAD 8u      /* a record with no segments */
+#define AMSEOKBIN_SEGMENT 20u  /* each segment adds */
 #define AMSEOKBIN_WORDS 80u
 
 /* In sectors. L is even. */
@@ -277,10 +283,10 @@ struct amseokbin_words {
 struct amseokbin_words amseokbin_refusal_words(uint8_t number);
 
 /* The layout's CRC32 of a slice. */
-uint32_t amseokbin_checksum(const uint8_t *bytes, size_t length);
+uint32_t amseokbin_checksum(const uint8_t *bytes, size_t bytes_length);
 
 /* The CRC32 of bytes whose CRC32 is `before`, with these after them; `before` is 0 for none. */
-uint32_t amseokbin_checksum_continued(uint32_t before, const uint8_t *bytes, size_t length);
+uint32_t amseokbin_checksum_continued(uint32_t before, const uint8_t *bytes, size_t bytes_length);
 
 /* Whether a time is later than another: by seconds, then nanoseconds. */
 bool amseokbin_later(struct amseokbin_time time, struct amseokbin_time than);
@@ -365,7 +371,8 @@ struct amseokbin_step_answer amseokbin_in_step(const uint8_t *front, size_t fron
 /*
  * Updates, mends and formatting answer stores: a device sector, and the 512 bytes that go there. They are asked for by number, from 0 up
  * to the count, and have to be written in that order, with a flush of the device after each whose `flush` is set; that is the last of
- * its group. A power cut may then come anywhere: docs/PROMISES.md says what it leaves.
+ * its group. What was written to the device before has to have been flushed before the first. A power cut may then come anywhere:
+ * docs/PROMISES.md says what it leaves.
  */
 struct amseokbin_store_answer {
     struct amseokbin_refusal refusal;
@@ -408,10 +415,11 @@ struct amseokbin_refusal amseokbin_update_check(const uint8_t *front, size_t fro
 
 /* Works an update out. The same numbers. */
 struct amseokbin_update_answer amseokbin_update_plan(const uint8_t *front, size_t front_length,
-                                                          const uint8_t *back, size_t back_length, struct amseokbin_time time,
-                                                          const uint8_t *record, size_t record_length);
+                                                     const uint8_t *back, size_t back_length, struct amseokbin_time time,
+                                                     const uint8_t *record, size_t record_length);
 
-/* How many stores a plan has. */
+/* How many stores a plan has: 2k + 2 of a record that fills k sectors. Of a plan that no call made it may be more than
+ * AMSEOKBIN_MOST_UPDATE_STORES. */
 uint64_t amseokbin_update_count(struct amseokbin_update plan);
 
 /* The group of a store, 0 to 3; AMSEOKBIN_NO_GROUP past the last store. */
@@ -451,8 +459,8 @@ struct amseokbin_store_answer amseokbin_format_store(struct amseokbin_device dev
  * store to the kept block.
  */
 
-/* Whether there is anything to store; the side whose copy is kept, the area of that copy with the record, whether there is a last store, and
- * the record's length. All zero for copies that are in step. Every number but 0 is yes. */
+/* The record's length; whether there is anything to store, the side whose copy is kept, the area of that copy with the record, and whether
+ * there is a last store. All zero for copies that are in step. Every number but 0 is yes. */
 struct amseokbin_mend {
     uint32_t bytes;
     uint8_t needed;
@@ -468,7 +476,7 @@ struct amseokbin_mend_answer {
 
 /* Works a mend out. 1, 10 to 13. */
 struct amseokbin_mend_answer amseokbin_mend_plan(const uint8_t *front, size_t front_length,
-                                                      const uint8_t *back, size_t back_length);
+                                                 const uint8_t *back, size_t back_length);
 
 /* How many stores a plan has: none for copies that are in step. */
 uint64_t amseokbin_mend_count(struct amseokbin_mend plan);
@@ -476,8 +484,9 @@ uint64_t amseokbin_mend_count(struct amseokbin_mend plan);
 /* The group of a store, 0 to 3; AMSEOKBIN_NO_GROUP past the last store. */
 uint8_t amseokbin_mend_group(struct amseokbin_mend plan, uint64_t number);
 
-/* A store. 1; 23 past the last store. With a plan that no call made, or other copies, also 15 and 1 for the length of the kept record, 4, 6
- * to 9 of a block that cannot be written, and 23 for a sector past 2^64 - 1. */
+/* A store. 1; 23 past the last store. With a plan that no call made, or other copies, also, before 23, 15 for a kept record of a length
+ * that no record has and 1 for one whose length is not the plan's; and 4, 6 to 9 of a block that cannot be written, and 23 for a sector
+ * past 2^64 - 1. */
 struct amseokbin_store_answer amseokbin_mend_store(struct amseokbin_mend plan, const uint8_t *front, size_t front_length,
                                                    const uint8_t *back, size_t back_length,
                                                    uint64_t number, uint8_t *bytes, size_t bytes_length);
@@ -543,7 +552,7 @@ struct amseokbin_total_answer amseokbin_free_total(struct amseokbin_device devic
 
 /* The free runs, ascending, to a table with room for so many runs; how many there are. Entries past them stay. 1 for too little room, last. */
 struct amseokbin_count_answer amseokbin_free_runs(struct amseokbin_device device, const uint8_t *record, size_t record_length,
-                                                  struct amseokbin_run *table, size_t entries);
+                                                  struct amseokbin_run *table, size_t table_length);
 
 /* How many free runs there are. */
 struct amseokbin_count_answer amseokbin_run_count(struct amseokbin_device device, const uint8_t *record, size_t record_length);

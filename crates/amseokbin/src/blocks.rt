@@ -21,10 +21,12 @@ use layout::DeviceMap;
 use layout::Located;
 use refusal::Refusal;
 
-// Where the two signature blocks lie, as C has it.
-fn tell_blocks(a: BlocksLocated) -> BlocksAnswer
-    ensures { λ r. ⌜ r ≡ blocksAnswer a ⌝ }
+// The sectors of the two signature blocks of a drive with so many sectors.
+#[no_mangle]
+pub extern "C" fn amseokbin_locate_blocks(sectors: u64) -> BlocksAnswer
+    ensures { λ r. ⌜ r ≡ blocksAnswer (blocksLocated sectors) ⌝ }
 {
+    let a = layout::locate_blocks(sectors);
     match a {
         BlocksLocated::At(front, back) => BlocksAnswer {
             refusal: refusal::plain(0),
@@ -37,14 +39,6 @@ fn tell_blocks(a: BlocksLocated) -> BlocksAnswer
             back: 0,
         },
     }
-}
-
-// The sectors of the two signature blocks of a drive with so many sectors.
-#[no_mangle]
-pub extern "C" fn amseokbin_locate_blocks(sectors: u64) -> BlocksAnswer
-    ensures { λ r. ⌜ r ≡ blocksAnswer (blocksLocated sectors) ⌝ }
-{
-    tell_blocks(layout::locate_blocks(sectors))
 }
 
 // No places.
@@ -71,10 +65,12 @@ fn no_map() -> DeviceMap
     }
 }
 
-// Places, as C has them.
-fn tell_places(a: Located) -> PlacesAnswer
-    ensures { λ r. ⌜ r ≡ placesAnswer a ⌝ }
+// Where a device's copies and its data range lie.
+#[no_mangle]
+pub extern "C" fn amseokbin_places(device: Device) -> PlacesAnswer
+    ensures { λ r. ⌜ r ≡ placesAnswer (located device) ⌝ }
 {
+    let a = layout::locate(device);
     match a {
         Located::At(map) => PlacesAnswer {
             refusal: refusal::plain(0),
@@ -85,14 +81,6 @@ fn tell_places(a: Located) -> PlacesAnswer
             map: no_map(),
         },
     }
-}
-
-// Where a device's copies and its data range lie.
-#[no_mangle]
-pub extern "C" fn amseokbin_places(device: Device) -> PlacesAnswer
-    ensures { λ r. ⌜ r ≡ placesAnswer (located device) ⌝ }
-{
-    tell_places(layout::locate(device))
 }
 
 // No block: zero in every field.
@@ -129,10 +117,12 @@ pub(super) fn block_of(x: BlockFields, pool: [u8; 32], blockdev: [u8; 32]) -> Bl
     }
 }
 
-// A block as it was read, as C has it.
-fn tell_block(r: Reading) -> BlockAnswer
-    ensures { λ a. ⌜ a ≡ blockAnswer r ⌝ }
+// Reads a block.
+#[no_mangle]
+pub extern "C" fn amseokbin_block_read(bytes: &[u8]) -> BlockAnswer
+    ensures { λ r. ⌜ r ≡ blockAnswer (reading (now (bytes .entry))) ⌝ }
 {
+    let r = block::read(bytes);
     let v = r.verdict;
     let p = r.pool;
     let u = r.blockdev;
@@ -146,14 +136,6 @@ fn tell_block(r: Reading) -> BlockAnswer
             block: no_block(),
         },
     }
-}
-
-// Reads a block.
-#[no_mangle]
-pub extern "C" fn amseokbin_block_read(bytes: &[u8]) -> BlockAnswer
-    ensures { λ r. ⌜ r ≡ blockAnswer (reading (now (bytes .entry))) ⌝ }
-{
-    tell_block(block::read(bytes))
 }
 
 // A block's numbers from C's struct: an entry with zero in all its fields is unused.

@@ -42,10 +42,12 @@ fn present_number(p: Present) -> u8
     }
 }
 
-// A copy as it was read, as C has it.
-fn tell_copy(r: CopyReading) -> CopyAnswer
-    ensures { λ a. ⌜ a ≡ copyAnswer r ⌝ }
+// Reads one copy.
+#[no_mangle]
+pub extern "C" fn amseokbin_copy_read(copy: &[u8]) -> CopyAnswer
+    ensures { λ r. ⌜ r ≡ copyAnswer (copyReading (now (copy .entry))) ⌝ }
 {
+    let r = copy::read(copy);
     let d = r.block;
     let v = d.verdict;
     let p = d.pool;
@@ -67,14 +69,6 @@ fn tell_copy(r: CopyReading) -> CopyAnswer
             present: 0,
         },
     }
-}
-
-// Reads one copy.
-#[no_mangle]
-pub extern "C" fn amseokbin_copy_read(copy: &[u8]) -> CopyAnswer
-    ensures { λ r. ⌜ r ≡ copyAnswer (copyReading (now (copy .entry))) ⌝ }
-{
-    tell_copy(copy::read(copy))
 }
 
 // C's number of a side.

@@ -75,10 +75,12 @@ fn no_plan() -> MendPlan
     }
 }
 
-// What working a mend out answers, as C has it.
-fn tell_plan(m: Mending) -> MendAnswer
-    ensures { λ r. ⌜ r ≡ mendAnswer m ⌝ }
+// Works a mend out.
+#[no_mangle]
+pub extern "C" fn amseokbin_mend_plan(front: &[u8], back: &[u8]) -> MendAnswer
+    ensures { λ r. ⌜ r ≡ mendAnswer (Mend.mending (now (front .entry)) (now (back .entry))) ⌝ }
 {
+    let m = mend::work_out(front, back);
     match m {
         Mending::InStep => MendAnswer {
             refusal: refusal::plain(0),
@@ -93,14 +95,6 @@ fn tell_plan(m: Mending) -> MendAnswer
             plan: no_plan(),
         },
     }
-}
-
-// Works a mend out.
-#[no_mangle]
-pub extern "C" fn amseokbin_mend_plan(front: &[u8], back: &[u8]) -> MendAnswer
-    ensures { λ r. ⌜ r ≡ mendAnswer (Mend.mending (now (front .entry)) (now (back .entry))) ⌝ }
-{
-    tell_plan(mend::work_out(front, back))
 }
 
 // How many stores a plan has.

@@ -48,10 +48,16 @@ pub extern "C" fn amseokbin_record_head(device: Device, content: &[u8]) -> HeadA
     }
 }
 
-// A segment, as C has it.
-fn tell_segment(a: Found) -> SegmentAnswer
-    ensures { λ r. ⌜ r ≡ Told.segmentAnswer a ⌝ }
+// The segment at a position, counted from 0.
+#[no_mangle]
+pub extern "C" fn amseokbin_record_segment(
+    device: Device,
+    content: &[u8],
+    position: u64,
+) -> SegmentAnswer
+    ensures { λ r. ⌜ r ≡ Told.segmentAnswer (segmentAnswer device (now (content .entry)) position) ⌝ }
 {
+    let a = record::read_segment(device, content, position as usize);
     match a {
         Found::At(segment) => SegmentAnswer {
             refusal: refusal::plain(0),
@@ -68,22 +74,18 @@ fn tell_segment(a: Found) -> SegmentAnswer
     }
 }
 
-// The segment at a position, counted from 0.
+// The segments from a position on, as many as a table has room for: kind, start, length in sectors for each.
 #[no_mangle]
-pub extern "C" fn amseokbin_record_segment(
+pub extern "C" fn amseokbin_record_segments(
     device: Device,
     content: &[u8],
     position: u64,
-) -> SegmentAnswer
-    ensures { λ r. ⌜ r ≡ Told.segmentAnswer (segmentAnswer device (now (content .entry)) position) ⌝ }
+    table: &mut [u64],
+) -> CountAnswer
+    ensures { λ r. ⌜ r ≡ Told.countedAnswer (segmentsAnswer device (now (content .entry)) position (length (now (table .entry)))) ⌝ }
+    ensures { λ _. ⌜ now (table .exit) ≡ segmentsLeft device (now (content .entry)) position (now (table .entry)) ⌝ }
 {
-    tell_segment(record::read_segment(device, content, position as usize))
-}
-
-// How many segments were handed on, as C has it.
-fn tell_segments(a: Counted) -> CountAnswer
-    ensures { λ r. ⌜ r ≡ Told.countedAnswer a ⌝ }
-{
+    let a = record::read_segments(device, content, position as usize, table);
     match a {
         Counted::Segments(k) => CountAnswer {
             refusal: refusal::plain(0),
@@ -96,20 +98,6 @@ fn tell_segments(a: Counted) -> CountAnswer
     }
 }
 
-// The segments from a position on, as many as a table has room for: kind, start, length in sectors for each.
-#[no_mangle]
-pub extern "C" fn amseokbin_record_segments(
-    device: Device,
-    content: &[u8],
-    position: u64,
-    table: &mut [u64],
-) -> CountAnswer
-    ensures { λ r. ⌜ r ≡ Told.countedAnswer (segmentsAnswer device (now (content .entry)) position (length (now (table .entry)))) ⌝ }
-    ensures { λ _. ⌜ now (table .exit) ≡ segmentsLeft device (now (content .entry)) position (now (table .entry)) ⌝ }
-{
-    tell_segments(record::read_segments(device, content, position as usize, table))
-}
-
 // Begins a record with its data block size.
 #[no_mangle]
 pub extern "C" fn amseokbin_record_begin(content: &mut [u8], size: u32) -> Refusal
@@ -117,22 +105,6 @@ pub extern "C" fn amseokbin_record_begin(content: &mut [u8], size: u32) -> Refus
     ensures { λ _. ⌜ now (content .exit) ≡ begun (now (content .entry)) (Plain size) ⌝ }
 {
     refusal::plain(items::begin(content, Head::Plain(size)))
-}
-
-// A record's length, as C has it.
-fn tell_put(a: Put) -> LengthAnswer
-    ensures { λ r. ⌜ r ≡ Told.putAnswer a ⌝ }
-{
-    match a {
-        Put::Length(n) => LengthAnswer {
-            refusal: refusal::plain(0),
-            length: n as u64,
-        },
-        Put::Refused(n) => LengthAnswer {
-            refusal: refusal::plain(n),
-            length: 0,
-        },
-    }
 }
 
 // Puts a segment at a position of a record that was begun in a buffer.
@@ -145,5 +117,15 @@ pub extern "C" fn amseokbin_record_put(
     ensures { λ r. ⌜ r ≡ Told.putAnswer (putAnswer (now (content .entry)) position) ⌝ }
     ensures { λ _. ⌜ now (content .exit) ≡ putLeft (now (content .entry)) position segment ⌝ }
 {
-    tell_put(items::put_at(content, position as usize, segment))
+    let a = items::put_at(content, position as usize, segment);
+    match a {
+        Put::Length(n) => LengthAnswer {
+            refusal: refusal::plain(0),
+            length: n as u64,
+        },
+        Put::Refused(n) => LengthAnswer {
+            refusal: refusal::plain(n),
+            length: 0,
+        },
+    }
 }

@@ -17,10 +17,12 @@ use allocation::RunFound;
 use layout::Device;
 use runs::Run;
 
-// Free sectors, as C has them.
-fn tell_total(a: FreeTotal) -> TotalAnswer
-    ensures { λ r. ⌜ r ≡ Told.totalAnswer a ⌝ }
+// Free sectors.
+#[no_mangle]
+pub extern "C" fn amseokbin_free_total(device: Device, content: &[u8]) -> TotalAnswer
+    ensures { λ r. ⌜ r ≡ Told.totalAnswer (totalAnswer device (now (content .entry))) ⌝ }
 {
+    let a = allocation::free_total(device, content);
     match a {
         FreeTotal::Sectors(sectors) => TotalAnswer {
             refusal: refusal::plain(0),
@@ -31,14 +33,6 @@ fn tell_total(a: FreeTotal) -> TotalAnswer
             sectors: 0,
         },
     }
-}
-
-// Free sectors.
-#[no_mangle]
-pub extern "C" fn amseokbin_free_total(device: Device, content: &[u8]) -> TotalAnswer
-    ensures { λ r. ⌜ r ≡ Told.totalAnswer (totalAnswer device (now (content .entry))) ⌝ }
-{
-    tell_total(allocation::free_total(device, content))
 }
 
 // How many free runs there are, as C has it.
@@ -114,24 +108,6 @@ pub extern "C" fn amseokbin_first_fit(device: Device, content: &[u8], wanted: u6
     tell_run(allocation::first_fit(device, content, wanted))
 }
 
-// A new segment, as C has it.
-fn tell_allocation(a: Allocation) -> AllocationAnswer
-    ensures { λ r. ⌜ r ≡ Told.allocationAnswer a ⌝ }
-{
-    match a {
-        Allocation::Placed(start, n) => AllocationAnswer {
-            refusal: refusal::plain(0),
-            start,
-            length: n as u64,
-        },
-        Allocation::Refused(n) => AllocationAnswer {
-            refusal: refusal::plain(n),
-            start: 0,
-            length: 0,
-        },
-    }
-}
-
 // Appends a segment: the new record to a buffer.
 #[no_mangle]
 pub extern "C" fn amseokbin_allocate(
@@ -144,20 +120,16 @@ pub extern "C" fn amseokbin_allocate(
     ensures { λ r. ⌜ r ≡ Told.allocationAnswer (allocateAnswer device (now (content .entry)) kind wanted (length (now (changed .entry)))) ⌝ }
     ensures { λ _. ⌜ now (changed .exit) ≡ allocateLeft device (now (content .entry)) kind wanted (now (changed .entry)) ⌝ }
 {
-    tell_allocation(allocation::allocate(device, content, kind, wanted, changed))
-}
-
-// A record's length, as C has it.
-fn tell_release(a: Released) -> LengthAnswer
-    ensures { λ r. ⌜ r ≡ Told.releasedAnswer a ⌝ }
-{
+    let a = allocation::allocate(device, content, kind, wanted, changed);
     match a {
-        Released::Length(n) => LengthAnswer {
+        Allocation::Placed(start, n) => AllocationAnswer {
             refusal: refusal::plain(0),
+            start,
             length: n as u64,
         },
-        Released::Refused(n) => LengthAnswer {
+        Allocation::Refused(n) => AllocationAnswer {
             refusal: refusal::plain(n),
+            start: 0,
             length: 0,
         },
     }
@@ -174,5 +146,15 @@ pub extern "C" fn amseokbin_release(
     ensures { λ r. ⌜ r ≡ Told.releasedAnswer (releaseAnswer device (now (content .entry)) position (length (now (changed .entry)))) ⌝ }
     ensures { λ _. ⌜ now (changed .exit) ≡ releaseLeft device (now (content .entry)) position (now (changed .entry)) ⌝ }
 {
-    tell_release(allocation::release(device, content, position as usize, changed))
+    let a = allocation::release(device, content, position as usize, changed);
+    match a {
+        Released::Length(n) => LengthAnswer {
+            refusal: refusal::plain(0),
+            length: n as u64,
+        },
+        Released::Refused(n) => LengthAnswer {
+            refusal: refusal::plain(n),
+            length: 0,
+        },
+    }
 }

@@ -71,22 +71,6 @@ fn no_plan() -> UpdatePlan
     }
 }
 
-// What working an update out answers, as C has it.
-fn tell_plan(a: Planned) -> UpdateAnswer
-    ensures { λ r. ⌜ r ≡ updateAnswer a ⌝ }
-{
-    match a {
-        Planned::Plan(p) => UpdateAnswer {
-            refusal: refusal::plain(0),
-            plan: plan_of(p),
-        },
-        Planned::Refused(n) => UpdateAnswer {
-            refusal: refusal::plain(n),
-            plan: no_plan(),
-        },
-    }
-}
-
 // Works an update out.
 #[no_mangle]
 pub extern "C" fn amseokbin_update_plan(
@@ -97,7 +81,17 @@ pub extern "C" fn amseokbin_update_plan(
 ) -> UpdateAnswer
     ensures { λ r. ⌜ r ≡ updateAnswer (Update.planned (now (front .entry)) (now (back .entry)) time (now (content .entry))) ⌝ }
 {
-    tell_plan(update::work_out(front, back, time, content))
+    let a = update::work_out(front, back, time, content);
+    match a {
+        Planned::Plan(p) => UpdateAnswer {
+            refusal: refusal::plain(0),
+            plan: plan_of(p),
+        },
+        Planned::Refused(n) => UpdateAnswer {
+            refusal: refusal::plain(n),
+            plan: no_plan(),
+        },
+    }
 }
 
 // How many stores a plan has.

@@ -7,8 +7,8 @@ use crate::interface::*;
 extern "C" {
     fn amseokbin_version() -> u32;
     fn amseokbin_refusal_words(number: u8) -> Words;
-    fn amseokbin_checksum(bytes: *const u8, length: usize) -> u32;
-    fn amseokbin_checksum_continued(before: u32, bytes: *const u8, length: usize) -> u32;
+    fn amseokbin_checksum(bytes: *const u8, bytes_length: usize) -> u32;
+    fn amseokbin_checksum_continued(before: u32, bytes: *const u8, bytes_length: usize) -> u32;
     fn amseokbin_later(time: Time, than: Time) -> bool;
     fn amseokbin_locate_blocks(sectors: u64) -> BlocksAnswer;
     fn amseokbin_places(device: Device) -> PlacesAnswer;
@@ -136,7 +136,7 @@ extern "C" {
         record: *const u8,
         record_length: usize,
         table: *mut FreeRun,
-        entries: usize,
+        table_length: usize,
     ) -> CountAnswer;
     fn amseokbin_run_count(device: Device, record: *const u8, record_length: usize) -> CountAnswer;
     fn amseokbin_run_at(device: Device, record: *const u8, record_length: usize, number: u64) -> RunAnswer;

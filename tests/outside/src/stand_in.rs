@@ -32,13 +32,13 @@ unsafe extern "C" fn amseokbin_refusal_words(number: u8) -> Words {
 }
 
 #[no_mangle]
-unsafe extern "C" fn amseokbin_checksum(bytes: *const u8, length: usize) -> u32 {
-    Model.checksum(shared(bytes, length))
+unsafe extern "C" fn amseokbin_checksum(bytes: *const u8, bytes_length: usize) -> u32 {
+    Model.checksum(shared(bytes, bytes_length))
 }
 
 #[no_mangle]
-unsafe extern "C" fn amseokbin_checksum_continued(before: u32, bytes: *const u8, length: usize) -> u32 {
-    Model.checksum_continued(before, shared(bytes, length))
+unsafe extern "C" fn amseokbin_checksum_continued(before: u32, bytes: *const u8, bytes_length: usize) -> u32 {
+    Model.checksum_continued(before, shared(bytes, bytes_length))
 }
 
 #[no_mangle]
@@ -335,9 +335,9 @@ unsafe extern "C" fn amseokbin_free_runs(
     record: *const u8,
     record_length: usize,
     table: *mut FreeRun,
-    entries: usize,
+    table_length: usize,
 ) -> CountAnswer {
-    Model.free_runs(device, shared(record, record_length), unique(table, entries))
+    Model.free_runs(device, shared(record, record_length), unique(table, table_length))
 }
 
 #[no_mangle]

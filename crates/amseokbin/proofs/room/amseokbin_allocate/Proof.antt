@@ -8,15 +8,40 @@ use Rattle.amseokbin.proofs.room.amseokbin_allocate.Tie as tie
 allocate-requires : tie.Need-allocate-requires
 allocate-requires c κs = search needs
 
-tell-allocation-requires : tie.Need-tell-allocation-requires
-tell-allocation-requires c κs = search needs
+enum-known-a : tie.Need-enum-known-a
+enum-known-a c = search needs
+
+plain-requires : tie.Need-plain-requires
+plain-requires c κs = search needs
+
+enum-known-a-2 : tie.Need-enum-known-a-2
+enum-known-a-2 c = search needs
+
+plain-requires-2 : tie.Need-plain-requires-2
+plain-requires-2 c κs = search needs
 
 same-length : tie.Need-same-length
 same-length c = search needs
 
 returns : tie.Need-returns
-returns c = (c .tell-allocation .ensures ∙ ap allocationAnswer (c .before .before .before .allocate .ensures .0), c .before .before .before .allocate .ensures .1)
+returns c = (_∙_ {b = allocationAnswer (c .before .before .before .before .before .before .allocate .result)} (rw (c .before .before .a .given .1, c .plain .ensures)) (ap allocationAnswer (c .before .before .before .before .before .before .allocate .ensures .0)), c .before .before .before .before .before .before .allocate .ensures .1)
+
+same-length-2 : tie.Need-same-length-2
+same-length-2 c = search needs
+
+returns-2 : tie.Need-returns-2
+returns-2 c = (_∙_ {b = allocationAnswer (c .before .before .before .before .before .before .allocate .result)} (rw (c .before .before .a2 .given .1, c .plain2 .ensures)) (ap allocationAnswer (c .before .before .before .before .before .before .allocate .ensures .0)), c .before .before .before .before .before .before .allocate .ensures .1)
 
 pub amseokbin-allocate-spec : {M : Type 1} → statement M
 amseokbin-allocate-spec =
-    tie.close (tie.spec allocate-requires tell-allocation-requires same-length returns)
+    tie.close
+    (tie.spec
+    allocate-requires
+    enum-known-a
+    plain-requires
+    enum-known-a-2
+    plain-requires-2
+    same-length
+    returns
+    same-length-2
+    returns-2)

@@ -8,11 +8,32 @@ use Rattle.amseokbin.proofs.room.amseokbin_free_total.Tie as tie
 free-total-requires : tie.Need-free-total-requires
 free-total-requires c κs = search needs
 
-tell-total-requires : tie.Need-tell-total-requires
-tell-total-requires c κs = search needs
+enum-known-a : tie.Need-enum-known-a
+enum-known-a c = search needs
+
+plain-requires : tie.Need-plain-requires
+plain-requires c κs = search needs
+
+enum-known-a-2 : tie.Need-enum-known-a-2
+enum-known-a-2 c = search needs
+
+plain-requires-2 : tie.Need-plain-requires-2
+plain-requires-2 c κs = search needs
 
 returns : tie.Need-returns
-returns c = c .tell-total .ensures ∙ ap totalAnswer (c .before .free-total .ensures)
+returns c = _∙_ {b = totalAnswer (c .before .before .before .before .free-total .result)} (rw (c .before .before .a .given .1, c .plain .ensures)) (ap totalAnswer (c .before .before .before .before .free-total .ensures))
+
+returns-2 : tie.Need-returns-2
+returns-2 c = _∙_ {b = totalAnswer (c .before .before .before .before .free-total .result)} (rw (c .before .before .a2 .given .1, c .plain2 .ensures)) (ap totalAnswer (c .before .before .before .before .free-total .ensures))
 
 pub amseokbin-free-total-spec : {M : Type 1} → statement M
-amseokbin-free-total-spec = tie.close (tie.spec free-total-requires tell-total-requires returns)
+amseokbin-free-total-spec =
+    tie.close
+    (tie.spec
+    free-total-requires
+    enum-known-a
+    plain-requires
+    enum-known-a-2
+    plain-requires-2
+    returns
+    returns-2)

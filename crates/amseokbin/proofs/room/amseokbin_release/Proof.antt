@@ -8,15 +8,40 @@ use Rattle.amseokbin.proofs.room.amseokbin_release.Tie as tie
 release-requires : tie.Need-release-requires
 release-requires c κs = search needs
 
-tell-release-requires : tie.Need-tell-release-requires
-tell-release-requires c κs = search needs
+enum-known-a : tie.Need-enum-known-a
+enum-known-a c = search needs
+
+plain-requires : tie.Need-plain-requires
+plain-requires c κs = search needs
+
+enum-known-a-2 : tie.Need-enum-known-a-2
+enum-known-a-2 c = search needs
+
+plain-requires-2 : tie.Need-plain-requires-2
+plain-requires-2 c κs = search needs
 
 same-length : tie.Need-same-length
 same-length c = search needs
 
 returns : tie.Need-returns
-returns c = (c .tell-release .ensures ∙ ap releasedAnswer (c .before .before .before .release .ensures .0), c .before .before .before .release .ensures .1)
+returns c = (_∙_ {b = releasedAnswer (c .before .before .before .before .before .before .release .result)} (rw (c .before .before .a .given .1, c .plain .ensures)) (ap releasedAnswer (c .before .before .before .before .before .before .release .ensures .0)), c .before .before .before .before .before .before .release .ensures .1)
+
+same-length-2 : tie.Need-same-length-2
+same-length-2 c = search needs
+
+returns-2 : tie.Need-returns-2
+returns-2 c = (_∙_ {b = releasedAnswer (c .before .before .before .before .before .before .release .result)} (rw (c .before .before .a2 .given .1, c .plain2 .ensures)) (ap releasedAnswer (c .before .before .before .before .before .before .release .ensures .0)), c .before .before .before .before .before .before .release .ensures .1)
 
 pub amseokbin-release-spec : {M : Type 1} → statement M
 amseokbin-release-spec =
-    tie.close (tie.spec release-requires tell-release-requires same-length returns)
+    tie.close
+    (tie.spec
+    release-requires
+    enum-known-a
+    plain-requires
+    enum-known-a-2
+    plain-requires-2
+    same-length
+    returns
+    same-length-2
+    returns-2)
