@@ -116,9 +116,9 @@ fn block_with(q: Finding, c: &[u8]) -> Block
     ensures { λ k. ⌜ k ≡ blockIn (q .fields) (now (c .entry)) ⌝ }
 {
     let x = q.fields;
-    let p = copy::pool_in(c);
-    let u = copy::blockdev_in(c);
-    blocks::block_of(x, p, u)
+    let pool = copy::pool_in(c);
+    let blockdev = copy::blockdev_in(c);
+    blocks::block_of(x, pool, blockdev)
 }
 
 // The block of the copy that has the found record.
