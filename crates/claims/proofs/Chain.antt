@@ -21,7 +21,7 @@ use Rattle.update.specs.Demand.{Start, Outcome, FrontNew, groupsOn}
 use Rattle.update.proofs.Demand.{demand3}
 use Rattle.mend.specs.Demand.{after}
 use Rattle.mend.proofs.Demand.{mended}
-use Rattle.claims.specs.Chain.{Cuts, Cutting, Starts, Onward, Landing, Chain}
+use Rattle.claims.specs.Chain.{AllSized, Cuts, Cutting, Starts, Onward, Landing, Chain}
 
 pub onward : Onward
 onward v d u q k t r fits ns later right = record { ready = k; fits = fits; nanoseconds = ns; later = later; right = right }
@@ -37,13 +37,13 @@ taken (s ∷ gs) (suc g) =
     let b : length (s ++ stores gs) ≡ length s + length (stores gs) = length-append s (stores gs) in
     omega arith
 
-module _ (v : Device) (gs : Groups) (d : Sectors) (s : Sound d) (fit : AllFit v gs) where
+module _ (v : Device) (gs : Groups) (d : Sectors) (s : Sound d) (fit : AllSized gs) where
   -- the device as before a group is sound
   before-sound : (g : ℕ) → Sound (before gs g d)
   before-sound g =
       record {
         size = landed-size (storeIn gs) d (s .size) (groupStart gs g)
-            (λ i l. let m : groupStart gs g ≤ length (stores gs) = taken gs g in fit i (omega arith) .size);
+            (λ i l. let m : groupStart gs g ≤ length (stores gs) = taken gs g in fit i (omega arith));
       }
 
   pub cuts : (g : ℕ) → Cuts v gs g d
@@ -91,7 +91,7 @@ after-last : (v : Device) (d : Sectors) (gs : Groups) → Sound d → AllFit v g
     → CutIn gs (length gs) d (allLanded gs d) × (Excused v gs (length gs) d (allLanded gs d) → ⊥)
 after-last v d gs s fit =
     subst (λ (e : Sectors). CutIn gs (length gs) d e × (Excused v gs (length gs) d e → ⊥)) (ap (λ (m : ℕ). landed (storeIn gs) m d) (whole-start gs))
-    (cuts v gs d s fit (length gs) .none)
+    (cuts v gs d s (λ i l. fit i l .size) (length gs) .none)
 
 pub landing : Landing
 landing v d u q t r s =

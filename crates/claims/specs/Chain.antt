@@ -10,12 +10,16 @@ use Rattle.layout.specs.Limits.{mostNanoseconds}
 use Rattle.block.specs.declared.Time.{Time}
 use Rattle.block.specs.Entry.{laterThan}
 use Rattle.record.specs.Demand.{RightBytes}
-use Rattle.crash.specs.Crash.{Sectors, Sound, Groups, put, storeIn, groupStart, CutIn, allLanded}
-use Rattle.stores.specs.States.{Ready, before, Excused, AllFit}
+use Rattle.crash.specs.Crash.{Sectors, Sound, Groups, put, stores, storeIn, groupStart, CutIn, allLanded}
+use Rattle.stores.specs.States.{Ready, before, Excused}
 use Rattle.update.specs.Demand.{Start, FrontNew, groupsOn}
 use Rattle.mend.specs.Demand.{after}
 
--- What demand 3 asks of a cut is met: in every group of stores that fit there are cuts without the exception, one that leaves the device as
+-- every store has 512 bytes
+abbrev pub AllSized : Groups → Type 0
+AllSized gs = (i : ℕ) → i < length (stores gs) → length (storeIn gs i .content) ≡ 512
+
+-- What demand 3 asks of a cut is met, and what is asked of one in formatting: in every group of stores of 512 bytes there are cuts without the exception, one that leaves the device as
 -- before the group and one that leaves it as after the group; and one with any 512 bytes w in any sector that the group stores to, which
 -- may be the exception.
 pub record Cuts (v : Device) (gs : Groups) (g : ℕ) (d : Sectors) : Type 0 where
@@ -25,7 +29,7 @@ pub record Cuts (v : Device) (gs : Groups) (g : ℕ) (d : Sectors) : Type 0 wher
       → CutIn gs g d (put (before gs g d) (record { sector = storeIn gs i .sector; content = w }))
 
 abbrev pub Cutting : Type 0
-Cutting = (v : Device) (gs : Groups) (g : ℕ) (d : Sectors) → Sound d → AllFit v gs → Cuts v gs g d
+Cutting = (v : Device) (gs : Groups) (g : ℕ) (d : Sectors) → Sound d → AllSized gs → Cuts v gs g d
 
 -- every later update that the format does not refuse may start: a time within its limit, later than u, and a record that is right
 abbrev pub Starts : Device → Sectors → Time → List ℕ → Type 0

@@ -3,3 +3,4 @@ pub mod Heads
 pub mod Items
 pub mod Making
 pub mod Putting
+pub mod Building

@@ -2,3 +2,4 @@
 pub mod Head
 pub mod Items
 pub mod Making
+pub mod Demand

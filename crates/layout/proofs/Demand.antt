@@ -1,15 +1,17 @@
 -- The sizes, the limits and the places, computed; which device numbers are allowed, and where things lie on such a device.
-use Prim.Native.Nat.{ℕ, _%_, _≤_}
-use mathlib.Core.Path.{_≡_, refl, ap}
+use Prim.Native.Nat.{ℕ, _-_, _%_, _≤_}
+use mathlib.Core.Bool.{Bool, cond}
+use mathlib.Core.Path.{_≡_, refl, sym, ap, _∙_}
 use native.Mathlib.Omega.{arith}
-use borrow.Author.Tests.{leb-true, le-leb}
+use borrow.Author.Tests.{leb-true, le-leb, lt-leb}
 use lib.Dec.{lit<}
 use Rattle.refusal.specs.Tests.{first, AllHold, Ascending}
 use Rattle.refusal.proofs.Order.{first-zero, first-all}
 use Rattle.layout.specs.declared.Device.{Device}
 use Rattle.layout.specs.Limits.{recordLimit, deviceTests}
-use Rattle.layout.specs.Places.{areaOffset, copyBytes, mapOf, locatedAt}
-use Rattle.layout.specs.Demand.{Sizes, Allowed, Exactly, Tiled, Mapped, Tiling}
+use Rattle.layout.specs.declared.BlocksLocated.the-variants as BlocksLocated
+use Rattle.layout.specs.Places.{areaOffset, copyBytes, mapOf, locatedAt, blocksLocated}
+use Rattle.layout.specs.Demand.{Sizes, Allowed, Exactly, Tiled, Mapped, Tiling, Begins, Beginning}
 use Rattle.layout.proofs.Laws.{metadata-facts, metadata-test}
 
 pub sizes : Sizes
@@ -82,3 +84,10 @@ mapped d h =
 
 pub tiling : Tiling
 tiling d h = (tiled d h, mapped d h)
+
+pub beginning : Beginning
+beginning s =
+    record {
+      blocks = λ d h e. ap blocksLocated (sym e) ∙ ap (λ (b : Bool). cond b (BlocksLocated.At 1 (d .sectors - 7)) (BlocksLocated.Refused 4)) (le-leb 2097152 (d .sectors) (h .sectors));
+      small = λ l. ap (λ (b : Bool). cond b (BlocksLocated.At 1 (s - 7)) (BlocksLocated.Refused 4)) (lt-leb 2097152 s l);
+    }

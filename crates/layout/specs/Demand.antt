@@ -1,6 +1,6 @@
 -- The sizes and limits in the format's numbers, where things lie on its example device with 100 reserved sectors at each end, which
--- device numbers are allowed, and where things lie on every such device. `proofs/Demand.antt` proves it.
-use Prim.Native.Nat.{ℕ, _+_, _/_, _%_, _≤_}
+-- device numbers are allowed, where things lie on every such device, and where to look first. `proofs/Demand.antt` proves it.
+use Prim.Native.Nat.{ℕ, _+_, _/_, _%_, _≤_, _<_}
 use mathlib.Core.Path.{_≡_}
 use mathlib.Core.Logic.{_↔_}
 use mathlib.Core.List.{List, [], _∷_}
@@ -9,8 +9,9 @@ use Rattle.layout.specs.declared.Device.{Device}
 use Rattle.layout.specs.declared.Side.the-variants.{Front, Back}
 use Rattle.layout.specs.declared.Area.the-variants.{A, B}
 use Rattle.layout.specs.declared.Located.the-variants.{At}
+use Rattle.layout.specs.declared.BlocksLocated.the-variants as BlocksLocated
 use Rattle.layout.specs.Limits.{mostNanoseconds, sectorBytes, recordLimit, deviceTests}
-use Rattle.layout.specs.Places.{headerSector, blockSector, areaSector, dataStart, dataEnd, areaOffset, copyBytes, mapOf, located}
+use Rattle.layout.specs.Places.{headerSector, blockSector, areaSector, dataStart, dataEnd, areaOffset, copyBytes, mapOf, located, blocksLocated}
 use Rattle.layout.specs.Answers.{mapNumbers}
 
 pub record Sizes : Type 0 where
@@ -72,3 +73,12 @@ pub record Mapped (d : Device) : Type 0 where
 -- With device numbers that are allowed, the parts tile the device.
 abbrev pub Tiling : Type 0
 Tiling = (d : Device) → Allowed d → Tiled d × Mapped d
+
+-- Where the two signature blocks lie on a drive, before any was read: those of every allowed device of its size, and 4 for a size that no
+-- device has.
+pub record Begins (s : ℕ) : Type 0 where
+  pub blocks : (d : Device) → Allowed d → d .sectors ≡ s → blocksLocated s ≡ BlocksLocated.At (mapOf d .front .block) (mapOf d .back .block)
+  pub small : s < 2097152 → blocksLocated s ≡ BlocksLocated.Refused 4
+
+abbrev pub Beginning : Type 0
+Beginning = (s : ℕ) → Begins s

@@ -49,9 +49,9 @@ some : (n : ℕ) → 0 < length (lineOf n)
 unfolding every lineOf
 some n = leb-true 1 (length (lineOf n)) (any-line (λ s. leb 1 (length s)) refl n)
 
-room : (n : ℕ) → length (lineOf n) ≤ mostBytes
+room : (n : ℕ) → length (lineOf n) < mostBytes
 unfolding every lineOf
-room n = leb-true (length (lineOf n)) mostBytes (any-line (λ s. leb (length s) mostBytes) refl n)
+room n = leb-true (suc (length (lineOf n))) mostBytes (any-line (λ s. leb (suc (length s)) mostBytes) refl n)
 
 printed : (n : ℕ) → allPass isPrinted (lineOf n) ≡ true
 unfolding every lineOf allPass
@@ -65,7 +65,7 @@ read : (n : ℕ) → take (wordsOf n .used) (wordsOf n .bytes) ≡ lineOf n
 unfolding zeros
 read n =
     let l : length (zeros mostBytes) ≡ mostBytes = length-replicate {A = ℕ} mostBytes 0 in
-    let h : length (lineOf n) ≤ mostBytes = room n in
+    let h : length (lineOf n) < mostBytes = room n in
     ap (take (length (lineOf n))) (splice-fits (zeros mostBytes) 0 (lineOf n) (omega arith))
     ∙ take-at (lineOf n) (drop (0 + length (lineOf n)) (zeros mostBytes)) (length (lineOf n)) refl
 
