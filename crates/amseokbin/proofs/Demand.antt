@@ -91,7 +91,7 @@ update-back p = λ i. record { entry = p .entry; front = area (p .front) i; back
     area A = refl
     area B = refl
 
-mend-back : (p : Rewrite) → mendFrom (rewriteTold p) ≡ Needed p
+pub mend-back : (p : Rewrite) → mendFrom (rewriteTold p) ≡ Needed p
 mend-back p = λ i. Needed (record { kept = side (p .kept) i; area = area (p .area) i; bytes = p .bytes; last = flag (p .last) i })
   where
     side : (w : Side) → sideFrom (sideNumber w) ≡ w
@@ -108,108 +108,6 @@ mend-back p = λ i. Needed (record { kept = side (p .kept) i; area = area (p .ar
 
 pub read-back : ReadBack
 read-back = record { update = update-back; mend = mend-back; in-step = refl }
-
-blocks-told : (a : BlocksLocated) → Told (blocksAnswer a .refusal) (blocksNumber a) (blocksAnswer a .front ∷ blocksAnswer a .back ∷ []) (blocksValues a)
-unfolding zeros
-blocks-told (BlocksLocated.At f b) = (refl, refl)
-blocks-told (BlocksLocated.Refused n) = (refl, refl)
-
-places-told : (a : Located) → Told (placesAnswer a .refusal) (locatedNumber a) (mapNumbers (placesAnswer a .map)) (locatedValues a)
-unfolding zeros
-places-told (Located.At p) = (refl, refl)
-places-told (Located.Refused n) = (refl, refl)
-
-block-told : (v : Verdict) (p u : List ℕ) → Told (plain (verdictNumber v)) (verdictNumber v) (blockList (blockFrom v p u)) (verdictValues v)
-unfolding zeros
-block-told (Verdict.Accepted x) p u = (refl, refl)
-block-told (Verdict.Refused n) p u = (refl, refl)
-
-copy-told : (r : CopyReading) (v : Verdict) → Told (copyTold r v .refusal) (verdictNumber v) (blockList (copyTold r v .block)) (verdictValues v)
-unfolding zeros
-copy-told r (Verdict.Accepted x) = (refl, refl)
-copy-told r (Verdict.Refused n) = (refl, refl)
-
-found-told : (a : Answer) (f b : List ℕ) → Told (foundAnswer a f b .refusal) (answerNumber a) (foundList (foundAnswer a f b)) (answerValues a)
-unfolding zeros
-found-told (Answer.Found q o) f b = (refl, refl)
-found-told (Answer.Refused n) f b = (refl, refl)
-
-store-told : (g : Given) (flush : Bool) → Told (storeAnswer g flush .refusal) (givenNumber g) (storeAnswer g flush .sector ∷ []) (givenValues g)
-unfolding zeros
-store-told (Given.At s) flush = (refl, refl)
-store-told (Given.Refused n) flush = (refl, refl)
-
-update-told : (a : Planned) → updateAnswer a .refusal ≡ plain (plannedNumber a)
-unfolding zeros
-update-told (Planned.Plan p) = refl
-update-told (Planned.Refused n) = refl
-
-mend-told : (m : Declared.Mending) → Told (mendAnswer m .refusal) (mendingNumber m) (Mend.storesIn (mendFrom (mendAnswer m .plan)) ∷ []) (mendingValues m)
-unfolding zeros
-mend-told InStep = (refl, refl)
-mend-told (Needed p) = (refl, ap (λ (m : Declared.Mending). Mend.storesIn m ∷ []) (mend-back p))
-mend-told (Refused n) = (refl, refl)
-
-segment-told : (a : Record.Found) → Told (Records.segmentAnswer a .refusal) (foundNumber a) (segmentValues (Records.segmentAnswer a .segment)) (foundValues a)
-unfolding zeros
-segment-told (Segment.At g) = (refl, refl)
-segment-told (Segment.Refused n) = (refl, refl)
-
-segments-told : (a : Counted) → Told (Records.countedAnswer a .refusal) (countedNumber a) (Records.countedAnswer a .count ∷ []) (countedValues a)
-unfolding zeros
-segments-told (Counted.Segments k) = (refl, refl)
-segments-told (Counted.Refused n) = (refl, refl)
-
-put-told : (a : Put) → Told (Records.putAnswer a .refusal) (putNumber a) (Records.putAnswer a .length ∷ []) (putValues a)
-unfolding zeros
-put-told (Put.Length k) = (refl, refl)
-put-told (Put.Refused n) = (refl, refl)
-
-total-told : (a : FreeTotal) → Told (Room.totalAnswer a .refusal) (totalNumber a) (Room.totalAnswer a .sectors ∷ []) (totalValues a)
-unfolding zeros
-total-told (FreeTotal.Sectors k) = (refl, refl)
-total-told (FreeTotal.Refused n) = (refl, refl)
-
-runs-told : (a : RunCount) → Told (Room.runsAnswer a .refusal) (runsNumber a) (Room.runsAnswer a .count ∷ []) (runsValues a)
-unfolding zeros
-runs-told (RunCount.Runs k) = (refl, refl)
-runs-told (RunCount.Refused n) = (refl, refl)
-
-run-told : (a : RunFound) → Told (Room.runAnswer a .refusal) (runNumber a) (Room.runAnswer a .run .start ∷ Room.runAnswer a .run .sectors ∷ []) (runValues a)
-unfolding zeros
-run-told (RunFound.At r) = (refl, refl)
-run-told (RunFound.Refused n) = (refl, refl)
-
-allocation-told : (a : Allocation) → Told (Room.allocationAnswer a .refusal) (allocationNumber a) (Room.allocationAnswer a .start ∷ Room.allocationAnswer a .length ∷ []) (allocationValues a)
-unfolding zeros
-allocation-told (Allocation.Placed k m) = (refl, refl)
-allocation-told (Allocation.Refused n) = (refl, refl)
-
-release-told : (a : Released) → Told (Room.releasedAnswer a .refusal) (releaseNumber a) (Room.releasedAnswer a .length ∷ []) (releaseValues a)
-unfolding zeros
-release-told (Released.Length k) = (refl, refl)
-release-told (Released.Refused n) = (refl, refl)
-
-pub telling : Telling
-telling =
-    record {
-      blocks = blocks-told;
-      places = places-told;
-      block = λ r. block-told (r .verdict) (r .pool) (r .blockdev);
-      copy = λ r. copy-told r (r .block .verdict);
-      found = found-told;
-      store = store-told;
-      update = update-told;
-      mend = mend-told;
-      segment = segment-told;
-      segments = segments-told;
-      put = put-told;
-      total = total-told;
-      runs = runs-told;
-      run = run-told;
-      allocation = allocation-told;
-      release = release-told;
-    }
 
 -- an answer as C has it
 module _ (g : Given) (flush : Bool) where

@@ -1,2 +1,3 @@
 -- The claims, proved.
 pub mod Demand
+pub mod Telling

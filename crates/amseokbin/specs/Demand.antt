@@ -1,34 +1,43 @@
--- What the C calls give, from the libraries' own claims: `proofs/Demand.antt` proves `Telling`, `Blocks`, `ReadBack`, `Giving` and `Mending`.
-use Prim.Native.Nat.{ℕ, suc, _≤_, _<_}
+-- What the C calls give, from the libraries' own claims: `proofs/Telling.antt` proves `Telling`, `Saying`, `Zeroing`,
+-- `Rereading` and `Planning`, `proofs/Demand.antt` `Blocks`, `ReadBack`, `Giving` and `Mending`.
+use Prim.Native.Nat.{ℕ, suc, _^_, _≤_, _<_}
 use mathlib.Core.Path.{_≡_}
 use mathlib.Core.Logic.{_↔_}
-use mathlib.Core.Bool.{Bool, true, false}
+use mathlib.Core.Bool.{Bool, true, false, not}
 use mathlib.Core.List.{List, [], _∷_, _++_}
 use lib.ListN.{length, take}
-use Rattle.endian.specs.Bytes.{zeros}
+use Rattle.search.specs.Search.{one}
+use Rattle.endian.specs.Bytes.{Bytes, zeros}
 use Rattle.refusal.specs.Numbers.{noStore}
 use Rattle.refusal.specs.declared.Refusal.{Refusal}
+use Rattle.refusal.specs.Tests.{first}
 use Rattle.refusal.specs.Refusals.{plain}
 use Rattle.layout.specs.declared.Device.{Device}
 use Rattle.layout.specs.declared.Side.the-variants.{Front, Back}
 use Rattle.layout.specs.declared.Located.{Located}
 use Rattle.layout.specs.declared.BlocksLocated.{BlocksLocated}
-use Rattle.layout.specs.Answers.{mapNumbers, locatedNumber, locatedValues, blocksNumber, blocksValues}
+use Rattle.layout.specs.Answers.{sideNumber, areaNumber, mapNumbers, locatedNumber, locatedValues, blocksNumber, blocksValues}
 use Rattle.block.specs.declared.Time.{Time}
 use Rattle.block.specs.declared.BlockFields.{BlockFields}
 use Rattle.block.specs.declared.Reading.{Reading}
 use Rattle.block.specs.declared.Verdict.the-variants as Verdict
-use Rattle.block.specs.Block.{reading}
+use Rattle.block.specs.Accepted.{Accepted}
+use Rattle.block.specs.Block.{poolOf, blockdevOf, reading}
+use Rattle.block.specs.Writing.{writeTests, written}
 use Rattle.block.specs.Answers.{verdictNumber, verdictValues}
 use Rattle.copy.specs.declared.CopyReading.{CopyReading}
 use Rattle.copy.specs.Copy as Copy
+use Rattle.copy.specs.Copy.{newest, sameArea}
 use Rattle.discovery.specs.declared.Finding.{Finding}
 use Rattle.discovery.specs.declared.Other.{Other}
 use Rattle.discovery.specs.declared.Answer.{Answer}
-use Rattle.discovery.specs.declared.Answer.the-variants.{Found}
-use Rattle.discovery.specs.Discovery.{discovery, copyOn}
+use Rattle.discovery.specs.declared.Answer.the-variants.{Found, Refused}
+use Rattle.discovery.specs.Discovery.{sized, discovery, inStep, copyOn}
 use Rattle.discovery.specs.Answers.{answerNumber, answerValues}
 use Rattle.items.specs.declared.Put.{Put}
+use Rattle.items.specs.Head.{headOf, blockSize}
+use Rattle.items.specs.Items.{segments}
+use Rattle.record.specs.Accept.{recordTests}
 use Rattle.items.specs.Making.{putNumber, putValues}
 use Rattle.record.specs.declared.Found as Record
 use Rattle.record.specs.declared.Counted.{Counted}
@@ -42,15 +51,20 @@ use Rattle.allocation.specs.Answers.{totalNumber, totalValues, runsNumber, runs
 use Rattle.allocation.specs.Change.{allocationNumber, allocationValues, releaseNumber, releaseValues}
 use Rattle.crash.specs.Crash.{Sectors, Groups, stores, storeIn, groupStart}
 use Rattle.stores.specs.declared.Given.{Given}
+use Rattle.stores.specs.declared.Given.the-variants as Given
+use Rattle.stores.specs.Stores.{holdingFor}
 use Rattle.stores.specs.Answers.{givenNumber, givenValues}
 use Rattle.update.specs.declared.Plan as Declared
 use Rattle.update.specs.declared.Planned.{Planned}
+use Rattle.update.specs.declared.Planned.the-variants as Planned
+use Rattle.update.specs.Update.{updateNumber, spare}
 use Rattle.update.specs.Answers.{plannedNumber}
 use Rattle.update.specs.Plan as Update
 use Rattle.update.specs.Demand.{Start, groupsOn, copyAfter}
 use Rattle.mend.specs.declared.Rewrite.{Rewrite}
 use Rattle.mend.specs.declared.Mending as Mend
 use Rattle.mend.specs.declared.Mending.the-variants.{InStep, Needed}
+use Rattle.mend.specs.declared.Mending.the-variants as Mended
 use Rattle.mend.specs.Answers.{mendingNumber, mendingValues}
 use Rattle.mend.specs.Mend.{mendGroups}
 use Rattle.mend.specs.Plan as Plan
@@ -58,8 +72,8 @@ use Rattle.amseokbin.specs.declared.Block.{Block}
 use Rattle.amseokbin.specs.declared.FoundAnswer.{FoundAnswer}
 use Rattle.amseokbin.specs.declared.UpdatePlan.{UpdatePlan}
 use Rattle.amseokbin.specs.declared.MendPlan.{MendPlan}
-use Rattle.amseokbin.specs.Answers.{blocksAnswer, placesAnswer, blockAnswer}
-use Rattle.amseokbin.specs.Copies.{copyAnswer, foundAnswer}
+use Rattle.amseokbin.specs.Answers.{blocksAnswer, placesAnswer, noEntry, noBlock, blockAnswer, fieldsFrom}
+use Rattle.amseokbin.specs.Copies.{presentNumber, copyAnswer, foundAnswer, stepAnswer}
 use Rattle.amseokbin.specs.Records as Records
 use Rattle.amseokbin.specs.Room as Room
 use Rattle.amseokbin.specs.Plans.{storeAnswer, updateOf, updateFrom, updateAnswer, rewriteTold, noMend, mendFrom, mendAnswer}
@@ -68,10 +82,10 @@ use Rattle.amseokbin.specs.Plans.{storeAnswer, updateOf, updateFrom, upd
 abbrev pub foundList : FoundAnswer → List ℕ
 foundList k = k .side ∷ k .area ∷ k .bytes ∷ k .time .seconds ∷ k .time .nanoseconds ∷ k .other ∷ []
 
--- An answer is told: its refusal is the library's number n, with nothing beside it, and its other fields are the library's values, and zeros
--- after them; a refusal has no values, so that every other field is zero.
+-- An answer is told: its refusal is the library's number n, with nothing beside it, and its other fields are the library's values, all of
+-- them, and zeros after them; a refusal has no values, so that every other field is zero.
 abbrev pub Told : Refusal → ℕ → List ℕ → List ℕ → Type 0
-Told r n fields values = (r ≡ plain n) × (fields ≡ take (length fields) (values ++ zeros (length fields)))
+Told r n fields values = (r ≡ plain n) × (fields ≡ take (length fields) (values ++ zeros (length fields))) × (length values ≤ length fields)
 
 -- the numbers of a block, as document 01 lists its fields
 abbrev pub blockList : Block → List ℕ
@@ -89,7 +103,7 @@ blockList k =
     ∷ k .b .checksum
     ∷ []
 
--- So is every answer.
+-- So is every answer that has a library's values.
 pub record Telling : Type 0 where
   pub blocks : (a : BlocksLocated) → Told (blocksAnswer a .refusal) (blocksNumber a) (blocksAnswer a .front ∷ blocksAnswer a .back ∷ []) (blocksValues a)
   pub places : (a : Located) → Told (placesAnswer a .refusal) (locatedNumber a) (mapNumbers (placesAnswer a .map)) (locatedValues a)
@@ -109,6 +123,52 @@ pub record Telling : Type 0 where
   pub allocation : (a : Allocation)
       → Told (Room.allocationAnswer a .refusal) (allocationNumber a) (Room.allocationAnswer a .start ∷ Room.allocationAnswer a .length ∷ []) (allocationValues a)
   pub release : (a : Released) → Told (Room.releasedAnswer a .refusal) (releaseNumber a) (Room.releasedAnswer a .length ∷ []) (releaseValues a)
+
+-- What is in an answer beside those: the UUIDs of a block, what a copy says of its areas, whether two copies are in step, what a head says.
+pub record Saying : Type 0 where
+  pub block : (r : Reading) (x : BlockFields) → r .verdict ≡ Verdict.Accepted x → (blockAnswer r .block .pool ≡ r .pool) × (blockAnswer r .block .blockdev ≡ r .blockdev)
+  pub copy : (r : CopyReading) (x : BlockFields) → r .block .verdict ≡ Verdict.Accepted x
+      → copyAnswer r
+      ≡ record { refusal = plain 0; block = blockAnswer (r .block) .block; a = r .a; b = r .b; present = presentNumber (r .present) }
+  pub step : (f b : List ℕ) → sized f b ≡ true → stepAnswer f b ≡ record { refusal = plain 0; step = inStep f b }
+  pub head : (d : Device) (s : List ℕ) → first (recordTests d s) ≡ 0
+      → Records.headAnswer d s ≡ record { refusal = plain 0; size = blockSize (headOf s); segments = length (segments s) }
+
+-- A refusal has zero in every field but its number, to the letter.
+pub record Zeroing : Type 0 where
+  pub block : (r : Reading) (n : ℕ) → r .verdict ≡ Verdict.Refused n → blockAnswer r ≡ record { refusal = plain n; block = noBlock }
+  pub copy : (r : CopyReading) (n : ℕ) → r .block .verdict ≡ Verdict.Refused n
+      → copyAnswer r ≡ record { refusal = plain n; block = noBlock; a = false; b = false; present = 0 }
+  pub found : (n : ℕ) (f b : List ℕ)
+      → foundAnswer (Refused n) f b
+      ≡ record { refusal = plain n; side = 0; area = 0; other = 0; bytes = 0; time = record { seconds = 0; nanoseconds = 0 }; block = noBlock }
+  pub step : (f b : List ℕ) → sized f b ≡ false → stepAnswer f b ≡ record { refusal = plain 1; step = false }
+  pub head : (d : Device) (s : List ℕ) → (first (recordTests d s) ≡ 0 → ⊥)
+      → Records.headAnswer d s ≡ record { refusal = plain (first (recordTests d s)); size = 0; segments = 0 }
+  pub store : (n : ℕ) (flush : Bool) → storeAnswer (Given.Refused n) flush ≡ record { refusal = plain n; sector = 0; flush = false }
+  pub update : (n : ℕ) → updateAnswer (Planned.Refused n) ≡ record { refusal = plain n; plan = record { entry = noEntry; front = 0; back = 0 } }
+  pub mend : (n : ℕ) → mendAnswer (Mended.Refused n) ≡ record { refusal = plain n; plan = record { bytes = 0; needed = 0; kept = 0; area = 0; last = 0 } }
+
+-- Demand 2 in C: writing what was read gives the same 512 bytes, with the block's own UUIDs; reading what was written gives the same struct.
+pub record Rereading : Type 0 where
+  pub written-again : (s out : List ℕ) → Bytes s → Accepted s → length out ≡ 512
+      → (blockAnswer (reading s) .block .pool ≡ poolOf s)
+      × (blockAnswer (reading s) .block .blockdev ≡ blockdevOf s)
+      × (first (writeTests out (poolOf s) (blockdevOf s) (fieldsFrom (blockAnswer (reading s) .block))) ≡ 0)
+      × (written out (poolOf s) (blockdevOf s) (fieldsFrom (blockAnswer (reading s) .block)) ≡ s)
+  pub read-again : (out : List ℕ) (k : Block) → k .device .sectors < 2 ^ 64 → k .a .seconds < 2 ^ 64 → k .a .checksum < 2 ^ 32 → k .b .seconds < 2 ^ 64
+      → k .b .checksum < 2 ^ 32 → first (writeTests out (k .pool) (k .blockdev) (fieldsFrom k)) ≡ 0
+      → blockAnswer (reading (written out (k .pool) (k .blockdev) (fieldsFrom k))) ≡ record { refusal = plain 0; block = k }
+
+-- The fields of plans are what the header says: in each copy the area that is not present there; the found side, area and length.
+pub record Planning : Type 0 where
+  pub update : (f b : List ℕ) (t : Time) (r : List ℕ) → updateNumber f b t r ≡ 0
+      → updateAnswer (Update.planned f b t r) .plan
+      ≡ record { entry = holdingFor t r; front = areaNumber (spare f); back = areaNumber (spare b) }
+  pub mend : (f b : List ℕ) (q : Finding) (o : Other) → discovery f b ≡ Found q o → inStep f b ≡ false
+      → mendAnswer (Plan.mending f b) .plan
+      ≡ record { bytes = q .bytes; needed = 1; kept = sideNumber (q .side); area = areaNumber (q .area); last = one (not (sameArea (q .area) (newest (q .fields)))) }
+  pub in-step : (f b : List ℕ) → inStep f b ≡ true → mendAnswer (Plan.mending f b) .plan ≡ record { bytes = 0; needed = 0; kept = 0; area = 0; last = 0 }
 
 -- The block of a found record is what reading the block of its copy answers, UUIDs too.
 abbrev pub Blocks : Type 0

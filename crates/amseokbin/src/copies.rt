@@ -9,6 +9,7 @@ ghost use Rattle.layout.specs.Answers.{sideNumber, areaNumber};
 ghost use Rattle.discovery.specs.Discovery.{discovery, sized, readAnswer, readBytes, copyOn};
 ghost use Rattle.stores.specs.Given.{layTests, laid};
 ghost use Rattle.format.specs.Format.{formatNumber, formatted};
+ghost use Rattle.sectors.specs.Sectors.{settled};
 ghost use Rattle.sectors.specs.Apply.{applyTests, applied};
 ghost use Rattle.layout.specs.declared.Side.the-variants.{Front, Back};
 ghost use Rattle.amseokbin.specs.Copies.{presentNumber, copyAnswer, areaFrom, blockIn, foundOf, foundAnswer, stepAnswer};
@@ -218,6 +219,14 @@ pub extern "C" fn amseokbin_in_step(front: &[u8], back: &[u8]) -> StepAnswer
         refusal: refusal::plain(0),
         step: e.step,
     }
+}
+
+// Whether the sectors that could not be read matter neither to what discovery answers nor to what is stored.
+#[no_mangle]
+pub extern "C" fn amseokbin_settled(front: &[u8], back: &[u8], front_marks: &[u8], back_marks: &[u8]) -> bool
+    ensures { λ r. ⌜ r ≡ settled (now (front .entry)) (now (back .entry)) (now («front_marks» .entry)) (now («back_marks» .entry)) ⌝ }
+{
+    sectors::settled(front, back, front_marks, back_marks)
 }
 
 // Applies a store to the two copies in memory.

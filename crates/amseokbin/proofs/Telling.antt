@@ -1,0 +1,276 @@
+-- What the C calls answer is the libraries' numbers and values; on a refusal zero in every other field.
+use Prim.Native.Nat.{ℕ, _+_, _^_, _<_}
+use mathlib.Core.Path.{_≡_, refl, sym, ap, ap₂, subst, _∙_}
+use mathlib.Core.Bool.{Bool, true, false, cond, _&&_}
+use lib.Dec.{eqb}
+use mathlib.Core.List.{List, [], _∷_}
+use native.Mathlib.Nat.{le-refl}
+use borrow.Author.Needs.{zero≤}
+use borrow.Author.Tests.{ne-eqb}
+use lib.ListN.{length}
+use Rattle.search.specs.Search.{one}
+use Rattle.endian.specs.Bytes.{zeros}
+use Rattle.refusal.specs.Tests.{first}
+use Rattle.refusal.specs.Refusals.{plain}
+use Rattle.layout.specs.declared.Side.{Side}
+use Rattle.layout.specs.declared.Side.the-variants.{Front, Back}
+use Rattle.layout.specs.declared.Area.{Area}
+use Rattle.layout.specs.declared.Area.the-variants.{A, B}
+use Rattle.layout.specs.declared.Located.{Located}
+use Rattle.layout.specs.declared.BlocksLocated.{BlocksLocated}
+use Rattle.layout.specs.Answers.{sideNumber, areaNumber, mapNumbers, locatedNumber, locatedValues, blocksNumber, blocksValues}
+use Rattle.layout.specs.declared.Located.the-variants as Located
+use Rattle.layout.specs.declared.BlocksLocated.the-variants as BlocksLocated
+use Rattle.block.specs.declared.BlockFields.{BlockFields}
+use Rattle.block.specs.declared.Reading.{Reading}
+use Rattle.block.specs.declared.Holding.{Holding}
+use Rattle.block.specs.declared.Entry.the-variants.{Unused, Used}
+use Rattle.block.specs.Entry.{entryOf}
+use Rattle.block.specs.Writing.{holdingOf, writeTests, written}
+use Rattle.block.specs.Demand.{EntryFits}
+use Rattle.block.proofs.RoundTrip.{holding-back}
+use Rattle.block.proofs.Demand.{exactly, write-after-read, read-after-write}
+use Rattle.block.specs.declared.Verdict.{Verdict}
+use Rattle.block.specs.declared.Verdict.the-variants as Verdict
+use Rattle.discovery.specs.declared.Finding.{Finding}
+use Rattle.discovery.specs.declared.Other.{Other}
+use Rattle.discovery.specs.declared.Answer.{Answer}
+use Rattle.discovery.specs.declared.Answer.the-variants as Answer
+use Rattle.discovery.specs.Discovery.{discovery, inStep, copyOn}
+use Rattle.discovery.specs.Answers.{answerNumber, answerValues}
+use Rattle.block.specs.Answers.{verdictNumber, verdictValues}
+use Rattle.block.specs.Block.{number, deviceOf, poolOf, blockdevOf, entryAt, fieldsOf, reading, acceptedReading}
+use Rattle.copy.specs.declared.CopyReading.{CopyReading}
+use Rattle.items.specs.declared.Put.{Put}
+use Rattle.items.specs.declared.Put.the-variants as Put
+use Rattle.record.specs.declared.Found as Record
+use Rattle.record.specs.declared.Found.the-variants as Segment
+use Rattle.record.specs.declared.Counted.{Counted}
+use Rattle.record.specs.declared.Counted.the-variants as Counted
+use Rattle.allocation.specs.declared.FreeTotal.{FreeTotal}
+use Rattle.allocation.specs.declared.FreeTotal.the-variants as FreeTotal
+use Rattle.allocation.specs.declared.RunCount.{RunCount}
+use Rattle.allocation.specs.declared.RunCount.the-variants as RunCount
+use Rattle.allocation.specs.declared.RunFound.{RunFound}
+use Rattle.allocation.specs.declared.RunFound.the-variants as RunFound
+use Rattle.allocation.specs.declared.Allocation.{Allocation}
+use Rattle.allocation.specs.declared.Allocation.the-variants as Allocation
+use Rattle.allocation.specs.declared.Released.{Released}
+use Rattle.allocation.specs.declared.Released.the-variants as Released
+use Rattle.items.specs.Head.{headOf, blockSize}
+use Rattle.items.specs.Items.{segments}
+use Rattle.items.specs.Making.{putNumber, putValues}
+use Rattle.record.specs.Accept.{recordTests}
+use Rattle.record.specs.Answers.{segmentValues, foundNumber, foundValues, countedNumber, countedValues}
+use Rattle.allocation.specs.Answers.{totalNumber, totalValues, runsNumber, runsValues, runNumber, runValues}
+use Rattle.allocation.specs.Change.{allocationNumber, allocationValues, releaseNumber, releaseValues}
+use Rattle.stores.specs.Answers.{givenNumber, givenValues}
+use Rattle.update.specs.Answers.{plannedNumber}
+use Rattle.mend.specs.Answers.{mendingNumber, mendingValues}
+use Rattle.stores.specs.declared.Given.{Given}
+use Rattle.stores.specs.declared.Given.the-variants as Given
+use Rattle.update.specs.declared.Plan.{Plan}
+use Rattle.update.specs.declared.Planned.{Planned}
+use Rattle.update.specs.declared.Planned.the-variants as Planned
+use Rattle.update.specs.Plan as Update
+use Rattle.mend.specs.declared.Rewrite.{Rewrite}
+use Rattle.mend.specs.declared.Mending as Declared
+use Rattle.mend.specs.declared.Mending.the-variants.{InStep, Needed, Refused}
+use Rattle.mend.specs.Plan as Mend
+use Rattle.mend.proofs.Answering.{answering}
+use Rattle.amseokbin.specs.Answers.{blocksAnswer, placesAnswer, blockOf, blockFrom, blockAnswer, fieldsFrom}
+use Rattle.amseokbin.specs.Copies.{presentNumber, copyTold, foundAnswer, stepOf}
+use Rattle.amseokbin.specs.declared.Block.{Block}
+use Rattle.amseokbin.specs.declared.BlockAnswer.{BlockAnswer}
+use Rattle.amseokbin.specs.declared.CopyAnswer.{CopyAnswer}
+use Rattle.amseokbin.specs.declared.HeadAnswer.{HeadAnswer}
+use Rattle.amseokbin.specs.Records as Records
+use Rattle.amseokbin.specs.Records.{headIf}
+use Rattle.amseokbin.specs.Room as Room
+use Rattle.amseokbin.specs.Plans.{storeAnswer, updateOf, updateFrom, updateAnswer, sideFrom, rewriteTold, mendFrom, mendAnswer}
+use Rattle.amseokbin.specs.Demand.{Told, foundList, blockList, Telling, Saying, Zeroing, Rereading, Planning}
+use Rattle.amseokbin.proofs.Demand.{mend-back}
+
+blocks-told : (a : BlocksLocated) → Told (blocksAnswer a .refusal) (blocksNumber a) (blocksAnswer a .front ∷ blocksAnswer a .back ∷ []) (blocksValues a)
+unfolding zeros
+blocks-told (BlocksLocated.At f b) = (refl, refl, le-refl _)
+blocks-told (BlocksLocated.Refused n) = (refl, refl, zero≤)
+
+places-told : (a : Located) → Told (placesAnswer a .refusal) (locatedNumber a) (mapNumbers (placesAnswer a .map)) (locatedValues a)
+unfolding zeros
+places-told (Located.At p) = (refl, refl, le-refl _)
+places-told (Located.Refused n) = (refl, refl, zero≤)
+
+block-told : (v : Verdict) (p u : List ℕ) → Told (plain (verdictNumber v)) (verdictNumber v) (blockList (blockFrom v p u)) (verdictValues v)
+unfolding zeros
+block-told (Verdict.Accepted x) p u = (refl, refl, le-refl _)
+block-told (Verdict.Refused n) p u = (refl, refl, zero≤)
+
+copy-told : (r : CopyReading) (v : Verdict) → Told (copyTold r v .refusal) (verdictNumber v) (blockList (copyTold r v .block)) (verdictValues v)
+unfolding zeros
+copy-told r (Verdict.Accepted x) = (refl, refl, le-refl _)
+copy-told r (Verdict.Refused n) = (refl, refl, zero≤)
+
+found-told : (a : Answer) (f b : List ℕ) → Told (foundAnswer a f b .refusal) (answerNumber a) (foundList (foundAnswer a f b)) (answerValues a)
+unfolding zeros
+found-told (Answer.Found q o) f b = (refl, refl, le-refl _)
+found-told (Answer.Refused n) f b = (refl, refl, zero≤)
+
+store-told : (g : Given) (flush : Bool) → Told (storeAnswer g flush .refusal) (givenNumber g) (storeAnswer g flush .sector ∷ []) (givenValues g)
+unfolding zeros
+store-told (Given.At s) flush = (refl, refl, le-refl _)
+store-told (Given.Refused n) flush = (refl, refl, zero≤)
+
+update-told : (a : Planned) → updateAnswer a .refusal ≡ plain (plannedNumber a)
+unfolding zeros
+update-told (Planned.Plan p) = refl
+update-told (Planned.Refused n) = refl
+
+mend-told : (m : Declared.Mending) → Told (mendAnswer m .refusal) (mendingNumber m) (Mend.storesIn (mendFrom (mendAnswer m .plan)) ∷ []) (mendingValues m)
+unfolding zeros
+mend-told InStep = (refl, refl, le-refl _)
+mend-told (Needed p) = (refl, ap (λ (m : Declared.Mending). Mend.storesIn m ∷ []) (mend-back p), le-refl _)
+mend-told (Refused n) = (refl, refl, zero≤)
+
+segment-told : (a : Record.Found) → Told (Records.segmentAnswer a .refusal) (foundNumber a) (segmentValues (Records.segmentAnswer a .segment)) (foundValues a)
+unfolding zeros
+segment-told (Segment.At g) = (refl, refl, le-refl _)
+segment-told (Segment.Refused n) = (refl, refl, zero≤)
+
+segments-told : (a : Counted) → Told (Records.countedAnswer a .refusal) (countedNumber a) (Records.countedAnswer a .count ∷ []) (countedValues a)
+unfolding zeros
+segments-told (Counted.Segments k) = (refl, refl, le-refl _)
+segments-told (Counted.Refused n) = (refl, refl, zero≤)
+
+put-told : (a : Put) → Told (Records.putAnswer a .refusal) (putNumber a) (Records.putAnswer a .length ∷ []) (putValues a)
+unfolding zeros
+put-told (Put.Length k) = (refl, refl, le-refl _)
+put-told (Put.Refused n) = (refl, refl, zero≤)
+
+total-told : (a : FreeTotal) → Told (Room.totalAnswer a .refusal) (totalNumber a) (Room.totalAnswer a .sectors ∷ []) (totalValues a)
+unfolding zeros
+total-told (FreeTotal.Sectors k) = (refl, refl, le-refl _)
+total-told (FreeTotal.Refused n) = (refl, refl, zero≤)
+
+runs-told : (a : RunCount) → Told (Room.runsAnswer a .refusal) (runsNumber a) (Room.runsAnswer a .count ∷ []) (runsValues a)
+unfolding zeros
+runs-told (RunCount.Runs k) = (refl, refl, le-refl _)
+runs-told (RunCount.Refused n) = (refl, refl, zero≤)
+
+run-told : (a : RunFound) → Told (Room.runAnswer a .refusal) (runNumber a) (Room.runAnswer a .run .start ∷ Room.runAnswer a .run .sectors ∷ []) (runValues a)
+unfolding zeros
+run-told (RunFound.At r) = (refl, refl, le-refl _)
+run-told (RunFound.Refused n) = (refl, refl, zero≤)
+
+allocation-told : (a : Allocation) → Told (Room.allocationAnswer a .refusal) (allocationNumber a) (Room.allocationAnswer a .start ∷ Room.allocationAnswer a .length ∷ []) (allocationValues a)
+unfolding zeros
+allocation-told (Allocation.Placed k m) = (refl, refl, le-refl _)
+allocation-told (Allocation.Refused n) = (refl, refl, zero≤)
+
+release-told : (a : Released) → Told (Room.releasedAnswer a .refusal) (releaseNumber a) (Room.releasedAnswer a .length ∷ []) (releaseValues a)
+unfolding zeros
+release-told (Released.Length k) = (refl, refl, le-refl _)
+release-told (Released.Refused n) = (refl, refl, zero≤)
+
+pub telling : Telling
+telling =
+    record {
+      blocks = blocks-told;
+      places = places-told;
+      block = λ r. block-told (r .verdict) (r .pool) (r .blockdev);
+      copy = λ r. copy-told r (r .block .verdict);
+      found = found-told;
+      store = store-told;
+      update = update-told;
+      mend = mend-told;
+      segment = segment-told;
+      segments = segments-told;
+      put = put-told;
+      total = total-told;
+      runs = runs-told;
+      run = run-told;
+      allocation = allocation-told;
+      release = release-told;
+    }
+
+-- answers by their parts
+abbrev copyWith : CopyReading → Block → CopyAnswer
+copyWith r k = record { refusal = plain 0; block = k; a = r .a; b = r .b; present = presentNumber (r .present) }
+
+abbrev blockTold : Verdict → List ℕ → List ℕ → BlockAnswer
+blockTold v p u = record { refusal = plain (verdictNumber v); block = blockFrom v p u }
+
+abbrev blockDone : Block → BlockAnswer
+blockDone k = record { refusal = plain 0; block = k }
+
+abbrev headFor : Bool → ℕ → ℕ → ℕ → HeadAnswer
+headFor b n s k = cond b (record { refusal = plain 0; size = s; segments = k }) (record { refusal = plain n; size = 0; segments = 0 })
+
+pub saying : Saying
+saying =
+    record {
+      block = λ r x e. (ap (λ (v : Verdict). blockFrom v (r .pool) (r .blockdev) .pool) e, ap (λ (v : Verdict). blockFrom v (r .pool) (r .blockdev) .blockdev) e);
+      copy = λ r x e. ap (copyTold r) e ∙ ap (copyWith r) (sym (ap (λ (v : Verdict). blockFrom v (r .block .pool) (r .block .blockdev)) e));
+      step = λ f b e. ap (λ (s : Bool). stepOf s (inStep f b)) e;
+      head = λ d s e. ap (λ (n : ℕ). headIf n (blockSize (headOf s)) (length (segments s))) e;
+    }
+
+pub zeroing : Zeroing
+zeroing =
+    record {
+      block = λ r n e. ap (λ (v : Verdict). blockTold v (r .pool) (r .blockdev)) e;
+      copy = λ r n e. ap (copyTold r) e;
+      found = λ n f b. refl;
+      step = λ f b e. ap (λ (s : Bool). stepOf s (inStep f b)) e;
+      head = λ d s z. ap (λ (b : Bool). headFor b (first (recordTests d s)) (blockSize (headOf s)) (length (segments s))) (ne-eqb (first (recordTests d s)) 0 z);
+      store = λ n flush. refl;
+      update = λ n. refl;
+      mend = λ n. refl;
+    }
+
+-- a block's struct from its numbers, and back
+fields-back : (s : List ℕ) (p u : List ℕ) → fieldsFrom (blockOf (fieldsOf s) p u) ≡ fieldsOf s
+fields-back s p u = λ i. record { device = deviceOf s; a = entry 96 i; b = entry 128 i }
+  where
+    entry : (n : ℕ) → entryOf (holdingOf (entryAt s n) .seconds) (holdingOf (entryAt s n) .nanoseconds) (holdingOf (entryAt s n) .bytes) (holdingOf (entryAt s n) .checksum) ≡ entryAt s n
+    entry n = ap (λ (h : Holding). entryOf (h .seconds) (h .nanoseconds) (h .bytes) (h .checksum)) (holding-back (number s n 8) (number s (n + 8) 4) (number s (n + 12) 4) (number s (n + 16) 4))
+
+block-back : (k : Block) → blockOf (fieldsFrom k) (k .pool) (k .blockdev) ≡ k
+block-back k = λ i. record { device = k .device; a = holding-back (k .a .seconds) (k .a .nanoseconds) (k .a .bytes) (k .a .checksum) i; b = holding-back (k .b .seconds) (k .b .nanoseconds) (k .b .bytes) (k .b .checksum) i; pool = k .pool; blockdev = k .blockdev }
+
+entry-room : (s n u c : ℕ) → s < 2 ^ 64 → c < 2 ^ 32 → EntryFits (entryOf s n u c)
+unfolding entryOf
+entry-room s n u c a b = go (eqb s 0 && (eqb n 0 && (eqb u 0 && eqb c 0)))
+  where
+    go : (e : Bool) → EntryFits (cond e Unused (Used (record { seconds = s; nanoseconds = n; bytes = u; checksum = c })))
+    go true = tt
+    go false = (a, b)
+
+pub rereading : Rereading
+rereading =
+    record {
+      written-again = λ s out bytes ok room.
+          let e : reading s ≡ acceptedReading s = exactly s .0 ok in
+          let k : blockAnswer (reading s) .block ≡ blockOf (fieldsOf s) (poolOf s) (blockdevOf s) = ap (λ (r : Reading). blockAnswer r .block) e in
+          let f : fieldsFrom (blockAnswer (reading s) .block) ≡ fieldsOf s = ap fieldsFrom k ∙ fields-back s (poolOf s) (blockdevOf s) in (
+            ap (λ (z : Block). z .pool) k,
+            ap (λ (z : Block). z .blockdev) k,
+            ap (λ (x : BlockFields). first (writeTests out (poolOf s) (blockdevOf s) x)) f ∙ write-after-read s out bytes ok room .0,
+            ap (written out (poolOf s) (blockdevOf s)) f ∙ write-after-read s out bytes ok room .1,
+          );
+      read-again = λ out k s a c b d z.
+          ap blockAnswer (read-after-write out (k .pool) (k .blockdev) (fieldsFrom k) s (entry-room _ _ _ _ a c) (entry-room _ _ _ _ b d) z)
+          ∙ ap blockDone (block-back k);
+    }
+
+mend-needed : (f b : List ℕ) (q : Finding) (o : Other) → discovery f b ≡ Answer.Found q o → inStep f b ≡ false → Mend.mending f b ≡ Needed (Mend.rewriteOf q)
+unfolding Mend.mending
+mend-needed f b q o e s = ap (λ (a : Answer). Mend.mendingAfter a f b) e ∙ ap (λ (t : Bool). cond t InStep (Needed (Mend.rewriteOf q))) s
+
+pub planning : Planning
+planning =
+    record {
+      update = λ f b t r e. ap (λ (n : ℕ). updateAnswer (cond (eqb n 0) (Planned.Plan (Update.planOf f b t r)) (Planned.Refused n)) .plan) e;
+      mend = λ f b q o e s. ap (λ (m : Declared.Mending). mendAnswer m .plan) (mend-needed f b q o e s);
+      in-step = λ f b s. ap (λ (m : Declared.Mending). mendAnswer m .plan) (answering f b .in-step .1 s);
+    }
