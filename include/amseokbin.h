@@ -9,15 +9,18 @@
  * - A slice is a pointer and a length. The memory is there; a pointer is null only where its length is 0; slices that a call may change
  *   overlap nothing else that it is lent.
  * - A plan, the copies and the record that it is asked with belong together: the copies are those that the plan was made of, or the
- *   same with its earlier stores applied. Any plan is answered, also one that no call made; its stores are then of no use.
+ *   same with the plan's first stores applied, in order, up to the one that is asked for. A plan is used up when its stores are written, and
+ *   when the copies have changed otherwise. Any plan is answered, also one that no call made: its stores go nowhere but to the blocks and
+ *   areas of the device that the lent copy says it is of, and are of no use.
  * - The two copies are the front and the back of one device, read from where amseokbin_places puts them, and a device that is handed in
  *   beside them is that one.
  * Everything else is tested, and has a number.
  *
  * Answers. A call that can refuse answers a struct whose first field is the refusal, or the refusal alone: number 0 where the call did
  * what it says, else 1 to 23 (enum amseokbin_number). Then every other field is zero, and nothing that was lent is changed. Where
- * nothing else is said the lowest number that applies is given: 1 for a slice of another size than the one named here is tested first, 1
- * for too little room for an answer last.
+ * nothing else is said the lowest number that applies is given: 1 for a slice of another size is tested first, 1 for too little room for an
+ * answer last. A copy has exactly AMSEOKBIN_COPY bytes, a block and a store exactly AMSEOKBIN_SECTOR; a record is lent with its own
+ * length, a buffer with all its room.
  *
  * A worked example; the tests build and run it as it stands here. It makes a pool in two copies in memory, books 1,000 sectors, stores
  * the new record and finds it again. A device of your own takes the place of the two functions at the top.
@@ -104,12 +107,15 @@
  * How to begin on a drive. S, L and R stand in a signature block, which has to be found first. Give the drive's own size to
  * amseokbin_locate_blocks; read the front's sector and hand it to amseokbin_block_read. Where it is accepted its device numbers give
  * all places by amseokbin_places. Where it is refused read the back's sector in the same way. Where both are refused there is no pool, or
- * the drive was enlarged and its back copy lies at the old end. A block's S may be more than the drive has, if it was copied to a smaller
- * one: compare them before the back is read. Then read both copies, and amseokbin_discover; where they are not in step amseokbin_mend_plan.
+ * the drive was enlarged and its back copy lies at the old end. Where S is more than the drive has, or a block that was found at the back
+ * has another S than the drive, the drive is not the one that the pool was made on: read what can be read, and store nothing. Then read
+ * both copies, and amseokbin_discover; where they are not in step amseokbin_mend_plan. After a power cut begin again from here.
  *
  * A copy in memory is 20,480 bytes: the 8 sectors of the header from `header` on, the first 16 sectors of area a from `a` on, the first
  * 16 of area b from `b` on. The signature block lies at AMSEOKBIN_BLOCK_OFFSET in it, the areas at AMSEOKBIN_AREA_A_OFFSET and
- * AMSEOKBIN_AREA_B_OFFSET. A sector that cannot be read may hold any bytes: a copy that then is not accepted is set aside.
+ * AMSEOKBIN_AREA_B_OFFSET. Fill a sector that cannot be read with zeros, and mark it: an unread sector of an area can make an older
+ * record the newest whole one, and a mend or an update would then give the newer one up for good. amseokbin_settled says whether what was
+ * not read matters; where it does, neither mend nor update.
  */
 #ifndef AMSEOKBIN_H
 #define AMSEOKBIN_H
@@ -151,6 +157,7 @@ extern "C" {
 #define AMSEOKBIN_MOST_BLOCK_SIZE 2097152u
 
 /* Numbers. */
+#define AMSEOKBIN_COPY_SECTORS 40u
 #define AMSEOKBIN_MOST_NANOSECONDS 999999999u
 #define AMSEOKBIN_MOST_SEGMENTS 409u
 #define AMSEOKBIN_MOST_RUNS 410u            /* a table of so many runs has room for all */
@@ -324,7 +331,7 @@ struct amseokbin_block_answer amseokbin_block_read(const uint8_t *bytes, size_t 
 struct amseokbin_refusal amseokbin_block_write(struct amseokbin_block block, uint8_t *bytes, size_t bytes_length);
 
 /* A copy: its block, whether area a is whole and whether area b is, and its present record: the whole area with the later time, an
- * amseokbin_present. */
+ * amseokbin_present, which is not an amseokbin_area. */
 struct amseokbin_copy_answer {
     struct amseokbin_refusal refusal;
     struct amseokbin_block block;
@@ -356,7 +363,7 @@ struct amseokbin_found_answer amseokbin_discover(const uint8_t *front, size_t fr
 /* The same, and copies the record to the start of a buffer; bytes past its length stay. AMSEOKBIN_RECORD bytes are room for all.
  * 1, 10 to 13, and 1 for too little room, last. */
 struct amseokbin_found_answer amseokbin_read_found(const uint8_t *front, size_t front_length, const uint8_t *back, size_t back_length,
-                                                   uint8_t *record, size_t record_length);
+                                                   uint8_t *buffer, size_t buffer_length);
 
 struct amseokbin_step_answer {
     struct amseokbin_refusal refusal;
@@ -366,13 +373,22 @@ struct amseokbin_step_answer {
 /* Whether two copies are in step; those that discovery refuses are not. 1. */
 struct amseokbin_step_answer amseokbin_in_step(const uint8_t *front, size_t front_length, const uint8_t *back, size_t back_length);
 
+/* Whether the sectors that could not be read matter to nothing: with any bytes in their places discovery, a mend and an update answer and
+ * store the same. Marks have a byte for each of a copy's AMSEOKBIN_COPY_SECTORS sectors, 0 where it was read; one that is missing counts as
+ * not read. */
+bool amseokbin_settled(const uint8_t *front, size_t front_length, const uint8_t *back, size_t back_length,
+                       const uint8_t *front_marks, size_t front_marks_length, const uint8_t *back_marks, size_t back_marks_length);
+
 /* ---- Stores -------------------------------------------------------------------------------------------------------------- */
 
 /*
  * Updates, mends and formatting answer stores: a device sector, and the 512 bytes that go there. They are asked for by number, from 0 up
  * to the count, and have to be written in that order, with a flush of the device after each whose `flush` is set; that is the last of
- * its group. What was written to the device before has to have been flushed before the first. A power cut may then come anywhere:
- * docs/PROMISES.md says what it leaves.
+ * its group. What was written to the device before has to have been flushed before the first. Where a write or a flush fails, store
+ * nothing more, and go on as after a power cut. A sector is 512 bytes, whatever the drive's own is. A power cut in an update leaves, of
+ * the sectors of one group, each as it was or as stored, and at most one of them with any bytes; then the new record is found exactly when
+ * the front's block has landed, and the old one otherwise, byte for byte (docs/PROMISES.md, demand 3). Of cuts in a mend nothing is
+ * promised yet, and of cuts in formatting only what docs/FORMAT.md says.
  */
 struct amseokbin_store_answer {
     struct amseokbin_refusal refusal;
@@ -381,12 +397,12 @@ struct amseokbin_store_answer {
 };
 
 /* Applies a store to the two copies in memory: they are then what reading the device again after that store gives. A sector that lies
- * in neither copy changes nothing. After an update, without this or reading again, the next plan would store over the record that was just
- * written. 1, 4, 7, 8. */
+ * in neither copy changes nothing, so the device has to be the copies' own. After an update, without this or reading again, the next plan
+ * would store over the record that was just written. 1, 4, 7, 8. */
 struct amseokbin_refusal amseokbin_apply(struct amseokbin_device device, uint64_t sector, const uint8_t *bytes, size_t bytes_length,
                                          uint8_t *front, size_t front_length, uint8_t *back, size_t back_length);
 
-/* Lays a record into an area of a copy in memory, its last sector filled with zeros. 1, 15. */
+/* Lays a record into an area of a copy in memory, an amseokbin_area, its last sector filled with zeros. 1, 15. */
 struct amseokbin_refusal amseokbin_lay(uint8_t *copy, size_t copy_length, uint8_t area, const uint8_t *record, size_t record_length);
 
 /* ---- Updates ------------------------------------------------------------------------------------------------------------- */
@@ -418,15 +434,16 @@ struct amseokbin_update_answer amseokbin_update_plan(const uint8_t *front, size_
                                                      const uint8_t *back, size_t back_length, struct amseokbin_time time,
                                                      const uint8_t *record, size_t record_length);
 
-/* How many stores a plan has: 2k + 2 of a record that fills k sectors. Of a plan that no call made it may be more than
- * AMSEOKBIN_MOST_UPDATE_STORES. */
+/* How many stores a plan has: 2k + 2 of a record that fills k sectors; 2 of the plan of a refused update, none of which is given. Of a plan
+ * that no call made it may be more than AMSEOKBIN_MOST_UPDATE_STORES. */
 uint64_t amseokbin_update_count(struct amseokbin_update plan);
 
 /* The group of a store, 0 to 3; AMSEOKBIN_NO_GROUP past the last store. */
 uint8_t amseokbin_update_group(struct amseokbin_update plan, uint64_t number);
 
 /* A store. 1; 15 for a length that no record has; 1 for a record whose length is not the plan's; 23 past the last store. With a plan that no
- * call made, or other copies, also 4, 6 to 9 of a block that cannot be written, and 23 for a sector past 2^64 - 1. */
+ * call made, or other copies, then also 4, 7, 8 for device numbers of the side's copy that are not allowed, and 6, 9 for a block that cannot
+ * be written. */
 struct amseokbin_store_answer amseokbin_update_store(struct amseokbin_update plan, const uint8_t *front, size_t front_length,
                                                      const uint8_t *back, size_t back_length,
                                                      const uint8_t *record, size_t record_length,
@@ -478,15 +495,15 @@ struct amseokbin_mend_answer {
 struct amseokbin_mend_answer amseokbin_mend_plan(const uint8_t *front, size_t front_length,
                                                  const uint8_t *back, size_t back_length);
 
-/* How many stores a plan has: none for copies that are in step. */
+/* How many stores a plan has: none for copies that are in step, or of a refused mend. */
 uint64_t amseokbin_mend_count(struct amseokbin_mend plan);
 
 /* The group of a store, 0 to 3; AMSEOKBIN_NO_GROUP past the last store. */
 uint8_t amseokbin_mend_group(struct amseokbin_mend plan, uint64_t number);
 
 /* A store. 1; 23 past the last store. With a plan that no call made, or other copies, also, before 23, 15 for a kept record of a length
- * that no record has and 1 for one whose length is not the plan's; and 4, 6 to 9 of a block that cannot be written, and 23 for a sector
- * past 2^64 - 1. */
+ * that no record has and 1 for one whose length is not the plan's; and then 4, 7, 8 for device numbers of the kept copy that are not
+ * allowed, and 6, 9 for a block that cannot be written. */
 struct amseokbin_store_answer amseokbin_mend_store(struct amseokbin_mend plan, const uint8_t *front, size_t front_length,
                                                    const uint8_t *back, size_t back_length,
                                                    uint64_t number, uint8_t *bytes, size_t bytes_length);
@@ -527,7 +544,7 @@ struct amseokbin_count_answer amseokbin_record_segments(struct amseokbin_device 
 
 /* Begins a record with its data block size, in the first AMSEOKBIN_HEAD bytes of a buffer. 1 for too little room, then 17 for a size not
  * allowed. */
-struct amseokbin_refusal amseokbin_record_begin(uint8_t *record, size_t record_length, uint32_t block_size);
+struct amseokbin_refusal amseokbin_record_begin(uint8_t *buffer, size_t buffer_length, uint32_t block_size);
 
 /* A record's length in bytes. */
 struct amseokbin_length_answer {
@@ -535,9 +552,10 @@ struct amseokbin_length_answer {
     uint64_t length;
 };
 
-/* Puts a segment at a position of a record that was begun in a buffer; the length is that of the record that ends with it. The segment
- * may be anything: amseokbin_record_check tests the whole record. 17 for a buffer that does not begin with a head, 1 for too little room, last. */
-struct amseokbin_length_answer amseokbin_record_put(uint8_t *record, size_t record_length, uint64_t position,
+/* Puts a segment at a position of a record that was begun in a buffer; the length is that of the record that ends with it, so where it
+ * goes on top of an earlier one the record is longer than that. The segment and the position may be anything: amseokbin_record_check tests
+ * the whole record. 17 for a buffer that does not begin with a head, 1 for too little room, last. */
+struct amseokbin_length_answer amseokbin_record_put(uint8_t *buffer, size_t buffer_length, uint64_t position,
                                                     struct amseokbin_segment segment);
 
 /* ---- Free room ----------------------------------------------------------------------------------------------------------- */
