@@ -37,7 +37,7 @@ use Rattle.stores.specs.Stores.{sectorsOf, withEntry}
 use Rattle.stores.specs.Given.{blockGiven, blockLeft, partGiven, partLeft, lentRight}
 use Rattle.stores.proofs.Blocks.{number-fits}
 use Rattle.stores.proofs.Padding.{sectors-few}
-use Rattle.stores.proofs.Places.{Sizes, sizes-accepted, area-below}
+use Rattle.stores.proofs.Places.{Sizes, sizes-accepted, device-accepted, area-below}
 use Rattle.stores.proofs.Choosing.{lent-right, block-given, area-given, part-given}
 use Rattle.mend.specs.declared.Rewrite.{Rewrite}
 use Rattle.mend.specs.declared.Mending.{Mending}
@@ -267,7 +267,7 @@ module _ (f b : List ℕ) (q : Finding) (o : Other) (e : discovery f b ≡ Answe
     tests-hold : (i : ℕ) → i < n → first (neededTests p y z c i out) ≡ 0
     tests-hold i l =
         let t : planStores p ≡ n = counted in
-        first-all (neededTests p y z c i out) (lent-right y z out right room, (itself .allowed, (its-length, (lt-ltb i (planStores p) (omega arith), tt))))
+        first-all (neededTests p y z c i out) (lent-right y z out right room, (itself .allowed, (its-length, (lt-ltb i (planStores p) (omega arith), device-accepted (blockIn c) (itself .accepted)))))
 
     test-fails : (i : ℕ) → n ≤ i → first (neededTests p y z c i out) ≡ 23
     test-fails i l =
@@ -275,7 +275,7 @@ module _ (f b : List ℕ) (q : Finding) (o : Other) (e : discovery f b ≡ Answe
         first-pass (lentRight y z out) 1 _ (lent-right y z out right room)
         ∙ (first-pass (lengthAllowed (held f b q o e .bytes)) 15 _ (itself .allowed)
         ∙ (first-pass (eqb (held f b q o e .bytes) (p .bytes)) 1 _ its-length
-        ∙ first-fail (ltb i (planStores p)) 23 [] (le-ltb i (planStores p) (omega arith))))
+        ∙ first-fail (ltb i (planStores p)) 23 _ (le-ltb i (planStores p) (omega arith))))
 
     -- store i is given with its sector and its bytes
     abbrev GivenAt : ℕ → Type 0
