@@ -27,7 +27,7 @@ use Rattle.block.specs.Entry.{laterThan, sameTime, timeOf}
 use Rattle.block.specs.Block.{fieldsOf}
 use Rattle.copy.specs.declared.Present.{Present}
 use Rattle.copy.specs.declared.Present.the-variants.{Nothing, At}
-use Rattle.copy.specs.Copy.{deviceIn, blockIn, areaBytes, otherArea, newest, copyReading}
+use Rattle.copy.specs.Copy.{blockIn, areaBytes, otherArea, newest, copyReading}
 use Rattle.discovery.specs.declared.Finding.{Finding}
 use Rattle.discovery.specs.declared.Other.{Other}
 use Rattle.discovery.specs.declared.Other.the-variants.{Both, One}

@@ -1,5 +1,4 @@
 -- `stores::check_store` meets its contract, a test at a time.
-use Prim.Native.Nat.{ℕ}
 use mathlib.Core.Path.{refl}
 use Rattle.refusal.proofs.Order.{refused, passed}
 use Rattle.stores.proofs.Choosing.{plan-sizes}
