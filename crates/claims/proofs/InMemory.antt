@@ -76,7 +76,7 @@ mending v d t r a =
     ap (λ (z : Device). first (deviceTests z)) (sym (a .says))
     ∙ numbers-allowed (blockIn (copyFrom (a .gives .found .side) v d)) (accepted (a .gives .found .side) (kept (copyFrom Front v d) (copyFrom Back v d) (a .gives .found) (a .gives .other) (a .gives .answers) .accepted)) in
     along v d (MendDemand.groupsOn v d) (a .sound) (Mends.mended v d t r a .1) ok _ _ t r
-    (λ i out l room. Mends.going v d t r a i i out (le-refl i) l room) (Mends.mended v d t r a .0 .in-step)
+    (λ i out l room. Mends.going v d t r a .store i i out (le-refl i) l room) (Mends.mended v d t r a .0 .in-step)
   where
     accepted : (w : Side) → first (readTests (blockIn (copyOn w (copyFrom Front v d) (copyFrom Back v d)))) ≡ 0 → first (readTests (blockIn (copyFrom w v d))) ≡ 0
     accepted Front h = h

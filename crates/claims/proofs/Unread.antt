@@ -12,7 +12,7 @@ use Rattle.layout.specs.declared.Side.{Side}
 use Rattle.layout.specs.declared.Side.the-variants.{Front, Back}
 use Rattle.layout.specs.declared.Area.{Area}
 use Rattle.layout.specs.declared.Area.the-variants.{A}
-use Rattle.layout.specs.Limits.{lengthAllowed}
+use Rattle.layout.specs.Limits.{lengthAllowed, deviceTests}
 use Rattle.layout.specs.Places.{blockSector, areaSector, copyBytes}
 use Rattle.block.specs.declared.Time.{Time}
 use Rattle.block.specs.declared.Holding.{Holding}
@@ -38,7 +38,7 @@ use Rattle.stores.specs.declared.Given.{Given}
 use Rattle.stores.specs.declared.Given.the-variants as Given
 use Rattle.update.specs.Update.{testsAfter, numberAfter, updateNumber, newBlock, updateGroups}
 use Rattle.stores.specs.Stores.{sectorsOf, holdingFor, withEntry, recordStores, blockStore}
-use Rattle.update.specs.Plan.{planFor, planOf, planned, sectorsIn, storesIn, partOn, sidesAnswer, sidesBytes}
+use Rattle.update.specs.Plan.{planFor, planOf, planned, sectorsIn, storesIn, partOn, storeTests, sidesAnswer, sidesBytes}
 use Rattle.stores.specs.Given.{sectorIn, within, unlessRefused, blockAnswer, blockBytes, blockGiven, blockLeft, partAnswer, partBytes, partTests, partGiven, partLeft}
 use Rattle.update.specs.Plan as Update
 use Rattle.mend.specs.declared.Rewrite.{Rewrite}
@@ -190,7 +190,7 @@ module _ {f b g k : List ℕ} (sf : SameCopy f g) (sb : SameCopy b k) (hf : bloc
         ∷ (lengthAllowed (holdingOf (entryIn (fieldsOf c) (q .area)) .bytes) elseRefuse recordLength)
         ∷ (eqb (holdingOf (entryIn (fieldsOf c) (q .area)) .bytes) (q .bytes) elseRefuse sliceSize)
         ∷ (ltb i (planStores (rewriteOf q)) elseRefuse noStore)
-        ∷ []))
+        ∷ deviceTests (deviceOf c)))
         sized-same (block-on (q .side)) in (
           ap₂ (λ (n : ℕ) (a : Given). cond (eqb n 0) a (Given.Refused n)) number
               (rewrite-answer (copyOn (q .side) f b) (copyOn (q .side) g k) (block-on (q .side)) (copy-at (q .side)) (rewriteOf q) i out (same .bytes q o e)),
@@ -252,20 +252,26 @@ module _ {f b g k : List ℕ} (sf : SameCopy f g) (sb : SameCopy b k) (hf : bloc
         ap₂ (λ (x y : List ℕ). cond (leb i (sectorsIn p)) x y) (side-left f g hf zf Front (p .front) (p .entry) (sectorsIn p) r i out)
         (side-left b k hb zb Back (p .back) (p .entry) (sectorsIn p) r (i - (sectorsIn p + 1)) out)
 
-    abbrev tests-of : Bool → List Test
-    tests-of t =
+    abbrev tests-of : Bool → List ℕ → List Test
+    tests-of t c =
         (t && eqb (length out) 512 elseRefuse sliceSize)
         ∷ (lengthAllowed (length r) elseRefuse recordLength)
         ∷ (eqb (length r) (p .entry .bytes) elseRefuse sliceSize)
         ∷ (ltb i (storesIn p) elseRefuse noStore)
-        ∷ []
+        ∷ deviceTests (deviceOf c)
+
+    block-at : (t : Bool) → blockIn (cond t g k) ≡ blockIn (cond t f b)
+    block-at true = hf
+    block-at false = hb
+
+    number-at : first (storeTests p g k r i out) ≡ first (storeTests p f b r i out)
+    number-at = ap₂ (λ (t : Bool) (c : List ℕ). first (tests-of t c)) sized-same (block-at (leb i (sectorsIn p)))
 
     update-place : Update.storeAnswer p g k r i out ≡ Update.storeAnswer p f b r i out
-    update-place =
-        ap₂ (λ (t : Bool) (a : Given). cond (eqb (first (tests-of t)) 0) a (Given.Refused (first (tests-of t)))) sized-same sides-answer
+    update-place = ap₂ (λ (n : ℕ) (a : Given). cond (eqb n 0) a (Given.Refused n)) number-at sides-answer
 
     update-bytes : Update.storeBytes p g k r i out ≡ Update.storeBytes p f b r i out
-    update-bytes = ap₂ (λ (t : Bool) (a : List ℕ). cond (eqb (first (tests-of t)) 0) a out) sized-same sides-bytes
+    update-bytes = ap₂ (λ (n : ℕ) (a : List ℕ). cond (eqb n 0) a out) number-at sides-bytes
 
   update-groups : (t : Time) (r : List ℕ) → updateGroups g k t r ≡ updateGroups f b t r
   unfolding updateGroups newBlock

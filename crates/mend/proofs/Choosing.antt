@@ -129,12 +129,13 @@ module _ (p : Rewrite) (x : BlockFields) (c : List ℕ) (i : ℕ) (out : List �
 -- the tests before it
 module _ (p : Rewrite) (f b c : List ℕ) (i : ℕ) (out : List ℕ) (x : BlockFields) (e : Entry) (h : Holding) (s n : ℕ)
     (ex : x ≡ fieldsOf (blockIn c)) (ee : e ≡ entryIn x (p .area)) (eh : h ≡ holdingOf e) (es : s ≡ planStores p)
-    (en : n ≡ first (planTests f b (length out) (h .bytes) (p .bytes) i s)) where
+    (en : n ≡ first (planTests f b (length out) (h .bytes) (p .bytes) i s (x .device))) where
   number : n ≡ first (neededTests p f b c i out)
   number =
       en
-      ∙ ap₂ (λ (y : Holding) (z : ℕ). first (planTests f b (length out) (y .bytes) (p .bytes) i z))
+      ∙ (ap₂ (λ (y : Holding) (z : ℕ). first (planTests f b (length out) (y .bytes) (p .bytes) i z (x .device)))
       (eh ∙ ap holdingOf (ee ∙ ap (λ (y : BlockFields). entryIn y (p .area)) ex)) es
+      ∙ ap (λ (y : BlockFields). first (planTests f b (length out) (holdingOf (entryIn (fieldsOf (blockIn c)) (p .area)) .bytes) (p .bytes) i (planStores p) (y .device))) ex)
 
   pub needed-refused : (n ≡ 0 → ⊥) → (Given.Refused n ≡ neededAnswer p f b c i out) × (out ≡ neededBytes p f b c i out)
   needed-refused z = (

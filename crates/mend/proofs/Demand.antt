@@ -5,6 +5,7 @@ use mathlib.Core.Bool.{Bool, true, false, cond}
 use mathlib.Core.Logic.{inl, inr}
 use mathlib.Core.List.{List, [], flatten}
 use native.Mathlib.Nat.{not-suc-le-zero}
+use native.Mathlib.Decide.{ℕ-discrete}
 use native.Mathlib.Omega.{arith}
 use borrow.Author.Tests.{eq-eqb}
 use lib.ListN.{length}
@@ -33,13 +34,14 @@ use Rattle.discovery.specs.Discovery.{findingOf, inStep, copyOn, recordBytes}
 use Rattle.discovery.specs.Newest.{timeAt}
 use Rattle.discovery.proofs.Latest.{found-same}
 use Rattle.crash.specs.Crash.{Sectors, Sound, Store, Groups, stores, storeIn, landed, allLanded, areaSectors, copyFrom}
+use Rattle.crash.proofs.Landing.{landed-size}
 use Rattle.crash.proofs.Copies.{length-copy}
-use Rattle.stores.specs.declared.Given.the-variants.{At}
+use Rattle.stores.specs.declared.Given.the-variants.{At, Refused}
 use Rattle.stores.specs.Stores.{sectorsOf, holdingFor, withEntry}
 use Rattle.stores.specs.States.{Gives, Ready, Answered, Fits, AllFit}
 use Rattle.stores.proofs.Holding.{heldIn, recordIn, Holds}
 use Rattle.stores.proofs.Blocks.{device-kept}
-use Rattle.stores.proofs.InStep.{Stepped, in-step-facts}
+use Rattle.stores.proofs.InStep.{Stepped, in-step-facts, verdict-facts}
 use Rattle.stores.proofs.Discovering.{gives}
 use Rattle.stores.proofs.States.{stepped-found, made-ready}
 use Rattle.stores.proofs.Facts.{sized-copies}
@@ -50,8 +52,8 @@ use Rattle.mend.specs.Mend.{blockLike, emptied, refilled, blanked, later
 use Rattle.mend.specs.declared.Mending.{Mending}
 use Rattle.mend.specs.declared.Mending.the-variants as Mending
 use Rattle.mend.specs.Plan.{rewriteOf, mendingAfter, mending, storeAnswer, storeBytes}
-use Rattle.mend.specs.Demand.{after, Serving, Mended, Counts, Counting, BlockFor, Rewrites, Rewriting, Goes, Touching, GivenAfter, Going}
-use Rattle.mend.proofs.Giving.{given}
+use Rattle.mend.specs.Demand.{after, Serving, Mended, Counts, Counting, BlockFor, Rewrites, Rewriting, Goes, Touching, GivenAfter, NoneAfter, GoesOn, Going}
+use Rattle.mend.proofs.Giving.{none-number, given, past}
 use Rattle.mend.proofs.Kept.{Kept, kept-small, held, kept, found-is, found-time, found-long}
 use Rattle.mend.proofs.Blocks.{Right, right-empty, right-filled, right-blank, like-reads, like-size}
 use Rattle.mend.proofs.Stores.{by-store, start-one, start-two, start-three, count-whole, count-blank}
@@ -299,22 +301,58 @@ module _ (v : Device) (d : Sectors) (t : Time) (r₀ : List ℕ) (s : Answered v
       (side-copy v e (q .side) ∙ (stays-copy (q .side) v d (s .sound) (s .says) (q .area) h r itself j (omega arith) ∙ sym (side-copy v d (q .side)))) out room i
       (subst (λ (z : List ℕ). i < length (stores (rewriting (q .side) z (q .area) r))) (sym (side-copy v d (q .side))) l))
 
+  -- the kept block has the found record's entry, however many were applied
+  abbrev its-groups : Groups
+  its-groups = rewriting (q .side) c (q .area) r
+
+  entry-kept : (j : ℕ) → j ≤ length (stores its-groups) → entryIn (fieldsOf (blockIn (copyFrom (q .side) v (landed (storeIn its-groups) j d)))) (q .area) ≡ Used h
+  entry-kept j l =
+      elim (ℕ-discrete j (length (stores its-groups))) [
+        | yes m ↦ ap (λ (n : ℕ). entryIn (fieldsOf (blockIn (copyFrom (q .side) v (landed (storeIn its-groups) n d)))) (q .area)) m ∙ go (laterWhole c) refl
+        | no m ↦
+            ap (λ (z : List ℕ). entryIn (fieldsOf (blockIn z)) (q .area)) (stays-copy (q .side) v d (s .sound) (s .says) (q .area) h r itself j (omega arith))
+            ∙ itself .entry
+      ]
+    where
+      of-holds : (g : BlockFields) (x u : List ℕ) → Holds (copyFrom (q .side) v end) g x u (q .area) h r
+          → entryIn (fieldsOf (blockIn (copyFrom (q .side) v end))) (q .area) ≡ Used h
+      of-holds g x u k =
+          ap (λ (z : BlockFields). entryIn z (q .area)) (sym (verdict-facts (blockIn (copyFrom (q .side) v end)) g (ap (λ (z : Reading). z .verdict) (k .reads)) .1)) ∙ k .entry
+
+      go : (u : Bool) → laterWhole c ≡ u → entryIn (fieldsOf (blockIn (copyFrom (q .side) v end))) (q .area) ≡ Used h
+      go true n = of-holds _ _ _ (kept-whole (q .side) v d (s .sound) (s .says) (q .area) h r itself n)
+      go false n = of-holds _ _ _ (kept-blank (q .side) v d (s .sound) (s .says) (q .area) h r itself n)
+
+  goes-past : (i j : ℕ) (out : List ℕ) → j ≤ length (stores its-groups) → length (stores its-groups) ≤ i → length out ≡ 512
+      → NoneAfter v d (Mending.Needed (rewriteOf q)) its-groups j i out
+  goes-past i j out a l room =
+      let e : Sectors = landed (storeIn its-groups) j d in
+      let se : Sound e = some-sound (q .side) v d (s .sound) (s .says) (q .area) h r itself j a in
+      past f b q (s .gives .other) (s .gives .answers) (copyFrom Front v e) (copyFrom Back v e) (sized-copies v e e se se)
+      (ap (λ (z : List ℕ). entryIn (fieldsOf (blockIn z)) (q .area)) (side-copy v e (q .side))
+      ∙ (entry-kept j a ∙ sym (ap (λ (z : List ℕ). entryIn (fieldsOf (blockIn z)) (q .area)) (side-copy v d (q .side)) ∙ itself .entry)))
+      out room i (subst (λ (z : List ℕ). length (stores (rewriting (q .side) z (q .area) r)) ≤ i) (sym (side-copy v d (q .side))) l)
+
   plan : mending f b ≡ cond (inStep f b) Mending.InStep (Mending.Needed (rewriteOf q))
   unfolding mending
   plan = ap (λ (a : Answer). mendingAfter a f b) (s .gives .answers)
 
-  on-step : (u : Bool) (i j : ℕ) (out : List ℕ) → j ≤ i → i < length (stores (cond u [] (rewriting (q .side) c (q .area) r))) → length out ≡ 512
-      → GivenAfter v d (cond u Mending.InStep (Mending.Needed (rewriteOf q))) (cond u [] (rewriting (q .side) c (q .area) r)) j i out
+  on-step : (u : Bool) → GoesOn v d (cond u Mending.InStep (Mending.Needed (rewriteOf q))) (cond u [] its-groups)
   unfolding flatten
-  on-step true i j out a l room = absurd (not-suc-le-zero l)
-  on-step false i j out a l room = goes-on i j out a l room
+  on-step true =
+      record {
+        store = λ i j out a l room. absurd (not-suc-le-zero l);
+        no-store = λ i j out a l room.
+            let e : Sectors = landed (storeIn []) j d in
+            let se : Sound e = record { size = landed-size (storeIn []) d (s .sound .size) j (λ n m. omega arith) } in
+            (ap Refused (none-number (copyFrom Front v e) (copyFrom Back v e) out (sized-copies v e e se se) room), refl);
+      }
+  on-step false = record { store = goes-on; no-store = goes-past }
 
-  all-on : (i j : ℕ) (out : List ℕ) → j ≤ i → i < length (stores (mendGroups f b)) → length out ≡ 512 → GivenAfter v d (mending f b) (mendGroups f b) j i out
+  all-on : GoesOn v d (mending f b) (mendGroups f b)
   all-on =
-      subst (λ (m : Mending). (i j : ℕ) (out : List ℕ) → j ≤ i → i < length (stores (mendGroups f b)) → length out ≡ 512 → GivenAfter v d m (mendGroups f b) j i out) (sym plan)
-      (subst (λ (g : Groups).
-      (i j : ℕ) (out : List ℕ) → j ≤ i → i < length (stores g) → length out ≡ 512 → GivenAfter v d (cond (inStep f b) Mending.InStep (Mending.Needed (rewriteOf q))) g j i out)
-      (sym groups) (on-step (inStep f b)))
+      subst (λ (m : Mending). GoesOn v d m (mendGroups f b)) (sym plan)
+      (subst (GoesOn v d (cond (inStep f b) Mending.InStep (Mending.Needed (rewriteOf q)))) (sym groups) (on-step (inStep f b)))
 
 pub serving : Serving
 serving v d q o sd e says =

@@ -20,14 +20,16 @@ use Rattle.layout.specs.declared.Area.{Area}
 use Rattle.layout.specs.declared.Area.the-variants.{A, B}
 use Rattle.layout.specs.Limits.{lengthAllowed}
 use Rattle.layout.specs.Places.{blockSector, areaSector}
+use Rattle.block.specs.declared.Entry.{Entry}
 use Rattle.block.specs.declared.Entry.the-variants.{Unused}
 use Rattle.block.specs.declared.BlockFields.{BlockFields}
 use Rattle.block.specs.Block.{fieldsOf}
+use Rattle.block.specs.Writing.{holdingOf}
 use Rattle.discovery.specs.declared.Finding.{Finding}
 use Rattle.discovery.specs.declared.Other.{Other}
 use Rattle.discovery.specs.declared.Answer.{Answer}
 use Rattle.discovery.specs.declared.Answer.the-variants as Answer
-use Rattle.copy.specs.Copy.{isCopy, blockIn, otherArea, otherSide, newest, deviceIn}
+use Rattle.copy.specs.Copy.{isCopy, blockIn, entryIn, otherArea, otherSide, newest, deviceIn}
 use Rattle.discovery.specs.Discovery.{sized, discovery, inStep, copyOn, recordBytes}
 use Rattle.crash.specs.Crash.{Store, Groups, stores, storeIn, groupStart}
 use Rattle.stores.specs.declared.Part.{Part}
@@ -37,7 +39,7 @@ use Rattle.stores.specs.Stores.{sectorsOf, withEntry}
 use Rattle.stores.specs.Given.{blockGiven, blockLeft, partGiven, partLeft, lentRight}
 use Rattle.stores.proofs.Blocks.{number-fits}
 use Rattle.stores.proofs.Padding.{sectors-few}
-use Rattle.stores.proofs.Places.{Sizes, sizes-accepted, area-below}
+use Rattle.stores.proofs.Places.{Sizes, sizes-accepted, device-accepted, area-below}
 use Rattle.stores.proofs.Choosing.{lent-right, block-given, area-given, part-given}
 use Rattle.mend.specs.declared.Rewrite.{Rewrite}
 use Rattle.mend.specs.declared.Mending.{Mending}
@@ -56,7 +58,7 @@ unfolding groupStart flatten
 starts-none zero = refl
 starts-none (suc g) = refl
 
-none-number : (f b out : List ℕ) → sized f b ≡ true → length out ≡ 512 → noneNumber f b (length out) ≡ noStore
+pub none-number : (f b out : List ℕ) → sized f b ≡ true → length out ≡ 512 → noneNumber f b (length out) ≡ noStore
 none-number f b out z room = ap (λ (t : Bool). cond t noStore sliceSize) (lent-right f b out z room)
 
 nothing : (f b : List ℕ) (m : Mending) → storesIn m ≡ 0 → ((i : ℕ) → groupOf m i ≡ 4)
@@ -267,15 +269,7 @@ module _ (f b : List ℕ) (q : Finding) (o : Other) (e : discovery f b ≡ Answe
     tests-hold : (i : ℕ) → i < n → first (neededTests p y z c i out) ≡ 0
     tests-hold i l =
         let t : planStores p ≡ n = counted in
-        first-all (neededTests p y z c i out) (lent-right y z out right room, (itself .allowed, (its-length, (lt-ltb i (planStores p) (omega arith), tt))))
-
-    test-fails : (i : ℕ) → n ≤ i → first (neededTests p y z c i out) ≡ 23
-    test-fails i l =
-        let t : planStores p ≡ n = counted in
-        first-pass (lentRight y z out) 1 _ (lent-right y z out right room)
-        ∙ (first-pass (lengthAllowed (held f b q o e .bytes)) 15 _ (itself .allowed)
-        ∙ (first-pass (eqb (held f b q o e .bytes) (p .bytes)) 1 _ its-length
-        ∙ first-fail (ltb i (planStores p)) 23 [] (le-ltb i (planStores p) (omega arith))))
+        first-all (neededTests p y z c i out) (lent-right y z out right room, (itself .allowed, (its-length, (lt-ltb i (planStores p) (omega arith), device-accepted (blockIn c) (itself .accepted)))))
 
     -- store i is given with its sector and its bytes
     abbrev GivenAt : ℕ → Type 0
@@ -335,11 +329,28 @@ module _ (f b : List ℕ) (q : Finding) (o : Other) (e : discovery f b ≡ Answe
             (block-of (blockSector (q .side) (deviceIn c)) (blanked fields) (right-blank c (itself .accepted)))
             (at-last (q .side) c (q .area) r h)
 
-    -- past the last
-    past : (i : ℕ) → n ≤ i → (storeAnswer (Mending.Needed p) y z i out ≡ Given.Refused noStore) × (storeBytes (Mending.Needed p) y z i out ≡ out)
+  -- past the last, of any two copies of which the kept one has the found record's entry as it was
+  module _ (y z : List ℕ) (right : sized y z ≡ true)
+      (same : entryIn (fieldsOf (blockIn (copyOn (q .side) y z))) (q .area) ≡ entryIn (fieldsOf (blockIn c)) (q .area)) (out : List ℕ) (room : length out ≡ 512) where
+    abbrev long : ℕ
+    long = holdingOf (entryIn (fieldsOf (blockIn (copyOn (q .side) y z))) (q .area)) .bytes
+
+    as-held : long ≡ held f b q o e .bytes
+    as-held = ap (λ (x : Entry). holdingOf x .bytes) same
+
+    test-fails : (i : ℕ) → n ≤ i → first (neededTests p y z (copyOn (q .side) y z) i out) ≡ 23
+    test-fails i l =
+        let t : planStores p ≡ n = counted in
+        first-pass (lentRight y z out) 1 _ (lent-right y z out right room)
+        ∙ (first-pass (lengthAllowed long) 15 _ (ap lengthAllowed as-held ∙ itself .allowed)
+        ∙ (first-pass (eqb long (p .bytes)) 1 _ (eq-eqb long (p .bytes) (as-held ∙ sym (found-bytes f b q o e)))
+        ∙ first-fail (ltb i (planStores p)) 23 _ (le-ltb i (planStores p) (omega arith))))
+
+    pub past : (i : ℕ) → n ≤ i → (storeAnswer (Mending.Needed p) y z i out ≡ Given.Refused noStore) × (storeBytes (Mending.Needed p) y z i out ≡ out)
     past i l =
-        of-kept i (Given.Refused noStore) out
-        (needed-refused p y z c i out fields _ _ _ 23 refl refl refl refl (sym (test-fails i l)) (λ u. omega arith))
+        let x : (Given.Refused 23 ≡ neededAnswer p y z (copyOn (q .side) y z) i out) × (out ≡ neededBytes p y z (copyOn (q .side) y z) i out) =
+        needed-refused p y z (copyOn (q .side) y z) i out (fieldsOf (blockIn (copyOn (q .side) y z))) _ _ _ 23 refl refl refl refl (sym (test-fails i l)) (λ u. omega arith) in
+        (sym (x .0), sym (x .1))
 
   needed : MendGives f b (Mending.Needed p) gs
   needed =

@@ -8,4 +8,5 @@ pub mod Landing
 pub mod Giving
 pub mod Demand
 pub mod Refusing
+pub mod Lying
 pub mod Answering

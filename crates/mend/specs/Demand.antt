@@ -1,5 +1,5 @@
 -- What mending promises: `proofs/Demand.antt` proves `Serving`, `Mended`, `Counting`, `Rewriting`, `Touching` and `Going`, `proofs/Giving.antt`
--- `Giving`, `proofs/Answering.antt` `Answering`, `proofs/Refusing.antt` `Refusing`. The states of a device are those that demand 3 speaks of: a mend serves what a cut in an update leaves, and leaves what every update may start
+-- `Giving`, `proofs/Answering.antt` `Answering`, `proofs/Refusing.antt` `Refusing`, `proofs/Lying.antt` `Within`. The states of a device are those that demand 3 speaks of: a mend serves what a cut in an update leaves, and leaves what every update may start
 -- from. What a cut in a mend leaves is request [7].
 use Prim.Native.Nat.{ℕ, suc, _+_, _≤_, _<_}
 use mathlib.Core.Path.{_≡_}
@@ -26,12 +26,12 @@ use Rattle.discovery.specs.declared.Finding.{Finding}
 use Rattle.discovery.specs.declared.Other.{Other}
 use Rattle.discovery.specs.declared.Answer.the-variants as Answer
 use Rattle.discovery.specs.declared.Answer.the-variants.{Found}
-use Rattle.discovery.specs.Discovery.{sized, discovery, inStep, recordBytes}
+use Rattle.discovery.specs.Discovery.{sized, discovery, inStep, copyOn, recordBytes}
 use Rattle.discovery.specs.Newest.{timeAt}
 use Rattle.crash.specs.Crash.{Sectors, Sound, Store, Groups, stores, storeIn, groupStart, landed, allLanded, copyFrom}
 use Rattle.stores.specs.declared.Given.the-variants.{At, Refused}
 use Rattle.stores.specs.Stores.{sectorsOf, sectorOf, holdingFor, withEntry}
-use Rattle.stores.specs.States.{Ready, Answered, AllFit}
+use Rattle.stores.specs.States.{Ready, Answered, Lies, AllFit}
 use Rattle.mend.specs.declared.Rewrite.{Rewrite}
 use Rattle.mend.specs.declared.Mending.{Mending}
 use Rattle.mend.specs.declared.Mending.the-variants as Mending
@@ -139,13 +139,33 @@ GivenAfter v d m gs j i out =
     (storeAnswer m (copyFrom Front v (landed (storeIn gs) j d)) (copyFrom Back v (landed (storeIn gs) j d)) i out ≡ At (storeIn gs i .sector))
     × (storeBytes m (copyFrom Front v (landed (storeIn gs) j d)) (copyFrom Back v (landed (storeIn gs) j d)) i out ≡ storeIn gs i .content)
 
+-- the same past the last store: there is none
+abbrev pub NoneAfter : Device → Sectors → Mending → Groups → ℕ → ℕ → List ℕ → Type 0
+NoneAfter v d m gs j i out =
+    (storeAnswer m (copyFrom Front v (landed (storeIn gs) j d)) (copyFrom Back v (landed (storeIn gs) j d)) i out ≡ Refused noStore)
+    × (storeBytes m (copyFrom Front v (landed (storeIn gs) j d)) (copyFrom Back v (landed (storeIn gs) j d)) i out ≡ out)
+
 -- A caller may apply each store to its copies as it goes: a mend worked out from the copies as they were gives store i with its sector and
--- its 512 bytes also of copies to which stores with lower numbers were applied.
+-- its 512 bytes also of copies to which stores with lower numbers were applied; and past the last there is none, also with all of them
+-- applied.
+pub record GoesOn (v : Device) (d : Sectors) (m : Mending) (gs : Groups) : Type 0 where
+  pub store : (i j : ℕ) (out : List ℕ) → j ≤ i → i < length (stores gs) → length out ≡ 512 → GivenAfter v d m gs j i out
+  pub no-store : (i j : ℕ) (out : List ℕ) → j ≤ length (stores gs) → length (stores gs) ≤ i → length out ≡ 512 → NoneAfter v d m gs j i out
+
 abbrev pub Going : Type 0
 Going =
-    (v : Device) (d : Sectors) (t : Time) (r : List ℕ) → Answered v d t r
-    → (i j : ℕ) (out : List ℕ) → j ≤ i → i < length (stores (groupsOn v d)) → length out ≡ 512
-    → GivenAfter v d (mending (copyFrom Front v d) (copyFrom Back v d)) (groupsOn v d) j i out
+    (v : Device) (d : Sectors) (t : Time) (r : List ℕ) → Answered v d t r → GoesOn v d (mending (copyFrom Front v d) (copyFrom Back v d)) (groupsOn v d)
+
+-- Wherever a store is given, of any mend and any copies, made up or not, there is something to store, and it goes on the device that the
+-- kept copy says it is of to a signature block's sector or to one of those of an area that a record can fill: on the other side, and only
+-- past number k + 1 on the kept one.
+abbrev pub Within : Type 0
+Within =
+    (m : Mending) (f b : List ℕ) (i : ℕ) (out : List ℕ) (s : ℕ) → storeAnswer m f b i out ≡ At s
+    → (p : Rewrite)
+    × ((m ≡ Mending.Needed p)
+    × ((i ≤ sectorsOf (p .bytes) + 1 → Lies (otherSide (p .kept)) (deviceIn (copyOn (p .kept) f b)) s)
+    × (sectorsOf (p .bytes) + 1 < i → Lies (p .kept) (deviceIn (copyOn (p .kept) f b)) s)))
 
 -- A refused store changes no lent byte, of any mend, made up or not.
 abbrev pub Refusing : Type 0

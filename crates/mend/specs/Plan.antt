@@ -17,7 +17,7 @@ use Rattle.block.specs.declared.Entry.the-variants.{Unused}
 use Rattle.block.specs.declared.BlockFields.{BlockFields}
 use Rattle.block.specs.Block.{fieldsOf}
 use Rattle.block.specs.Writing.{holdingOf}
-use Rattle.copy.specs.Copy.{blockIn, areaBytes, entryIn, otherArea, otherSide, newest, sameArea}
+use Rattle.copy.specs.Copy.{blockIn, areaBytes, entryIn, otherArea, otherSide, newest, sameArea, deviceIn}
 use Rattle.discovery.specs.declared.Finding.{Finding}
 use Rattle.discovery.specs.declared.Answer.{Answer}
 use Rattle.discovery.specs.declared.Answer.the-variants as Answer
@@ -87,9 +87,10 @@ rewriteBytes p x c i out =
     (partLeft (partFor (otherSide (p .kept)) (p .area) x) (sectorsOf (p .bytes)) c (areaBytes c (p .area) (p .bytes)) (i - 1) out)
     (blockLeft (withEntry x (otherArea (p .area)) Unused) c out))
 
--- of the copies f and b, of which c is kept: the tests of a plan's store, with the length that the kept block's entry has
+-- of the copies f and b, of which c is kept: the tests of a plan's store, with the length that the kept block's entry has and its
+-- device numbers
 abbrev pub neededTests : Rewrite → List ℕ → List ℕ → List ℕ → ℕ → List ℕ → List Test
-neededTests p f b c i out = planTests f b (length out) (holdingOf (entryIn (fieldsOf (blockIn c)) (p .area)) .bytes) (p .bytes) i (planStores p)
+neededTests p f b c i out = planTests f b (length out) (holdingOf (entryIn (fieldsOf (blockIn c)) (p .area)) .bytes) (p .bytes) i (planStores p) (deviceIn c)
 
 abbrev pub neededAnswer : Rewrite → List ℕ → List ℕ → List ℕ → ℕ → List ℕ → Given
 neededAnswer p f b c i out =

@@ -182,7 +182,16 @@ fn needed_store(p: Rewrite, f: &[u8], b: &[u8], c: &[u8], i: u64, out: &mut [u8]
     let x = copy::fields_in(c);
     let area = p.area;
     let h = block::holding_of(copy::entry_in(x, area));
-    let n = stores::check_store(f, b, out.len(), h.bytes as u64, p.bytes, i, planned(p));
+    let n = stores::check_store(
+        f,
+        b,
+        out.len(),
+        h.bytes as u64,
+        p.bytes,
+        i,
+        planned(p),
+        x.device,
+    );
     if n != 0 {
         return Given::Refused(n);
     }
@@ -204,7 +213,8 @@ fn no_store(f: &[u8], b: &[u8], room: usize) -> u8
 // The store of a mend with number i, counted from 0: its 512 bytes into out, its sector as the answer. The copies are those
 // that the mend was worked out from; its stores with lower numbers may have been applied to them. 1 for a slice of another size, 23
 // past the last store; of a mend that nobody worked out also 15 where the kept copy's entry has a length that no record has, 1 where
-// it has another length than the mend, 23 for a sector past 2^64 - 1, and the writer's number for a block that it refuses. Then out stays.
+// it has another length than the mend, after 23 also 4, 7 or 8 for the kept copy's device numbers, and the writer's number for a block
+// that it refuses. Then out stays.
 pub fn store(m: Mending, f: &[u8], b: &[u8], i: u64, out: &mut [u8]) -> Given
     ensures { λ g. ⌜ g ≡ storeAnswer m (now (f .entry)) (now (b .entry)) i (now (out .entry)) ⌝ }
     ensures { λ _. ⌜ now (out .exit) ≡ storeBytes m (now (f .entry)) (now (b .entry)) i (now (out .entry)) ⌝ }

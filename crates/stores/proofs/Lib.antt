@@ -15,4 +15,5 @@ pub mod Records
 pub mod Whole
 pub mod States
 pub mod Refusing
+pub mod Lying
 pub mod Filling

@@ -13,7 +13,7 @@ use Rattle.layout.specs.declared.Side.the-variants.{Front, Back}
 use Rattle.layout.specs.declared.Area.{Area}
 use Rattle.layout.specs.declared.Area.the-variants.{A, B}
 use Rattle.layout.specs.Places.{blockSector, areaSector}
-use Rattle.layout.specs.Limits.{sizeAllowed, metadataAllowed}
+use Rattle.layout.specs.Limits.{sizeAllowed, metadataAllowed, deviceTests}
 use Rattle.layout.proofs.Laws.{metadata-facts}
 use Rattle.block.specs.Block.{deviceOf, readTests}
 use Rattle.block.proofs.Readings.{ascending}
@@ -40,6 +40,15 @@ pub sizes-accepted : (b : List ℕ) → first (readTests b) ≡ 0 → Sizes (dev
 sizes-accepted b ok =
     let a : AllHold (readTests b) = first-zero 0 (readTests b) (ascending b) ok in
     sizes-allowed (deviceOf b) (a .1 .1 .1 .0) (a .1 .1 .1 .1 .1 .1 .0)
+
+-- those of an accepted block pass their tests, and tests that hold say so
+pub device-accepted : (b : List ℕ) → first (readTests b) ≡ 0 → AllHold (deviceTests (deviceOf b))
+device-accepted b ok =
+    let a : AllHold (readTests b) = first-zero 0 (readTests b) (ascending b) ok in
+    (a .1 .1 .1 .0, (a .1 .1 .1 .1 .1 .1 .0, (a .1 .1 .1 .1 .1 .1 .1 .0, tt)))
+
+pub sizes-tested : (v : Device) → AllHold (deviceTests v) → Sizes v
+sizes-tested v h = sizes-allowed v (h .0) (h .1 .0)
 
 -- the sectors of a side
 abbrev pub near : Side → Device → ℕ → Type 0

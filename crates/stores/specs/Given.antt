@@ -7,8 +7,9 @@ use lib.ListN.{length}
 use Rattle.endian.specs.Bytes.{window, zeros, splice}
 use Rattle.refusal.specs.Numbers.{sliceSize, recordLength, noStore}
 use Rattle.refusal.specs.Tests.{Test, _elseRefuse_, first}
+use Rattle.layout.specs.declared.Device.{Device}
 use Rattle.layout.specs.declared.Area.{Area}
-use Rattle.layout.specs.Limits.{sectorBytes, lengthAllowed}
+use Rattle.layout.specs.Limits.{sectorBytes, lengthAllowed, deviceTests}
 use Rattle.layout.specs.Places.{areaOffset}
 use Rattle.block.specs.declared.BlockFields.{BlockFields}
 use Rattle.block.specs.Block.{poolOf, blockdevOf}
@@ -69,14 +70,15 @@ abbrev pub partLeft : Part → ℕ → List ℕ → List ℕ → ℕ → List �
 partLeft p k c r j out = cond (eqb (first (partTests k c r j out)) 0) (partBytes p k c r j out) out
 
 -- The tests of store i of a plan for a record of n bytes with k stores: two copies and room for 512 bytes; the record that is lent or kept
--- has a length m that a record may have, and it is the plan's; the store is one of them.
-abbrev pub planTests : List ℕ → List ℕ → ℕ → ℕ → ℕ → ℕ → ℕ → List Test
-planTests f b room m n i k =
+-- has a length m that a record may have, and it is the plan's; the store is one of them; the device numbers v of the copy that it is
+-- worked out from are allowed.
+abbrev pub planTests : List ℕ → List ℕ → ℕ → ℕ → ℕ → ℕ → ℕ → Device → List Test
+planTests f b room m n i k v =
     (sized f b && eqb room sectorBytes elseRefuse sliceSize)
     ∷ (lengthAllowed m elseRefuse recordLength)
     ∷ (eqb m n elseRefuse sliceSize)
     ∷ (ltb i k elseRefuse noStore)
-    ∷ []
+    ∷ deviceTests v
 
 -- the slices have their sizes: two copies, and 512 bytes
 abbrev pub lentRight : List ℕ → List ℕ → List ℕ → Bool

@@ -75,6 +75,11 @@ Excused v gs g d e =
     × (e (blockSector s v) ≡ before gs (suc g) d (blockSector s v) → ⊥)
     × Accepted (e (blockSector s v))
 
+-- sector n of a device v that is of side w: its signature block's, or one of those of an area that a record can fill
+pub record Lies (w : Side) (v : Device) (n : ℕ) : Type 0 where
+  pub place : (n ≡ blockSector w v) ⊎ ((x : Area) × ((j : ℕ) × ((j < areaSectors) × (n ≡ areaSector w x v + j))))
+  pub below : n < v .sectors
+
 -- a store of 512 bytes to a sector that the device has: a signature block's, or one of those of an area that a record can fill
 pub record Fits (v : Device) (s : Store) : Type 0 where
   pub side : Side

@@ -11,6 +11,7 @@ use block::Entry;
 use block::Holding;
 use block::Time;
 use layout::Area;
+use layout::Device;
 
 // What is stored on one side: the record from sector `area` on, then at sector `block` a block with these numbers.
 pub struct Part {
@@ -61,9 +62,9 @@ pub fn with_entry(f: BlockFields, x: Area, e: Entry) -> BlockFields
 
 // The tests of store i of a plan for a record of n bytes with k stores, before those of what it writes: 1 unless f and b are copies by
 // their size and room for 512 bytes is lent, 15 where the record that is lent or kept has a length m that no record has, 1 where m is not
-// the plan's n, 23 past the last store.
-pub fn check_store(f: &[u8], b: &[u8], room: usize, m: u64, n: u32, i: u64, k: u64) -> u8
-    ensures { λ r. ⌜ r ≡ first (planTests (now (f .entry)) (now (b .entry)) room m n i k) ⌝ }
+// the plan's n, 23 past the last store, then 4, 7 or 8 for the device numbers d of the copy that the store is worked out from.
+pub fn check_store(f: &[u8], b: &[u8], room: usize, m: u64, n: u32, i: u64, k: u64, d: Device) -> u8
+    ensures { λ r. ⌜ r ≡ first (planTests (now (f .entry)) (now (b .entry)) room m n i k d) ⌝ }
 {
     let c = layout::copy_bytes();
     let sized = ((f.len() == c) & (b.len() == c)) & (room == layout::SECTOR_BYTES);
@@ -81,7 +82,7 @@ pub fn check_store(f: &[u8], b: &[u8], room: usize, m: u64, n: u32, i: u64, k: u
     if !there {
         return refusal::NO_STORE;
     }
-    refusal::NONE
+    layout::check(d)
 }
 
 // Sector j of a record and zeros after it; zeros alone where it has no room.

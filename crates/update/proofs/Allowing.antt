@@ -8,7 +8,7 @@ use lib.ListN.{length}
 use Rattle.endian.specs.Bytes.{Bytes}
 use Rattle.endian.proofs.Tests.{and-left, and-right}
 use Rattle.refusal.specs.Tests.{first, AllHold}
-use Rattle.refusal.proofs.Order.{first-pass, first-fail, first-zero, first-all, first-after}
+use Rattle.refusal.proofs.Order.{first-pass, first-fail, first-all, first-after}
 use Rattle.layout.specs.declared.Device.{Device}
 use Rattle.layout.specs.declared.Side.{Side}
 use Rattle.layout.specs.declared.Side.the-variants.{Front, Back}
@@ -16,8 +16,7 @@ use Rattle.layout.specs.Limits.{mostNanoseconds, nanosecondsAllowed, deviceTest
 use Rattle.layout.specs.Places.{copyBytes}
 use Rattle.block.specs.declared.Time.{Time}
 use Rattle.block.specs.Entry.{laterThan, timeOf}
-use Rattle.block.specs.Block.{fieldsOf, readTests}
-use Rattle.block.proofs.Readings.{ascending}
+use Rattle.block.specs.Block.{fieldsOf}
 use Rattle.record.specs.Accept.{contentTests, recordTests}
 use Rattle.items.specs.Head.{headOf}
 use Rattle.items.specs.Items.{segments}
@@ -36,6 +35,7 @@ use Rattle.discovery.proofs.Latest.{found-same}
 use Rattle.crash.specs.Crash.{copyFrom}
 use Rattle.stores.specs.States.{Presents}
 use Rattle.stores.proofs.Blocks.{number-fits}
+use Rattle.stores.proofs.Places.{device-accepted}
 use Rattle.stores.proofs.Holding.{heldIn, recordIn}
 use Rattle.stores.proofs.InStep.{Stepped, in-step-facts}
 use Rattle.stores.proofs.States.{stepped-found, stepped-presents, presents-stepped}
@@ -65,9 +65,7 @@ module _ (f b : List ℕ) (t : Time) (r : List ℕ) where
 
     -- the device numbers of an accepted block are allowed
     device-allowed : AllHold (deviceTests (deviceIn f))
-    device-allowed =
-        let a : AllHold (readTests (blockIn f)) = first-zero 0 (readTests (blockIn f)) (ascending (blockIn f)) (stepped .accepted Front) in
-        (a .1 .1 .1 .0, (a .1 .1 .1 .1 .1 .1 .0, (a .1 .1 .1 .1 .1 .1 .1 .0, tt)))
+    device-allowed = device-accepted (blockIn f) (stepped .accepted Front)
 
     right-of : Bytes r → AllHold (contentTests (deviceIn f) r) → RightBytes (deviceIn f) r
     right-of bytes h =

@@ -9,13 +9,17 @@ use lib.Dec.{eqb, leb, ltb}
 use lib.ListN.{length}
 use Rattle.refusal.specs.Tests.{first}
 use Rattle.refusal.proofs.Order.{answer-no, answer-yes}
+use Rattle.layout.specs.declared.Device.{Device}
 use Rattle.layout.specs.declared.Side.the-variants.{Front, Back}
+use Rattle.block.specs.declared.BlockFields.{BlockFields}
+use Rattle.block.specs.Block.{fieldsOf}
+use Rattle.copy.specs.Copy.{blockIn, deviceIn}
 use Rattle.stores.specs.declared.Part.{Part}
 use Rattle.stores.specs.declared.Given.{Given}
 use Rattle.stores.specs.declared.Given.the-variants as Given
 use Rattle.stores.specs.Given.{planTests, partGiven, partLeft}
 use Rattle.update.specs.declared.Plan.{Plan}
-use Rattle.update.specs.Plan.{sectorsIn, storesIn, groupOf, flushAfter, partOn, storeTests, sidesAnswer, sidesBytes, storeAnswer, storeBytes}
+use Rattle.update.specs.Plan.{sectorsIn, storesIn, groupOf, flushAfter, partOf, partOn, copyOf, storeTests, sidesAnswer, sidesBytes, storeAnswer, storeBytes}
 
 -- the group of store i of a record that fills k sectors
 abbrev groupIn : ℕ → ℕ → ℕ
@@ -60,42 +64,59 @@ module _ (p : Plan) (i n : ℕ) (e : n ≡ storesIn p) where
       ap₂ (λ (x y : ℕ). not (eqb x y)) eg (em ∙ ap (groupOf p) (let o : i + 1 ≡ suc i = omega arith in o))
       ∙ ap (λ (b : Bool). b && not (eqb (groupOf p i) (groupOf p (suc i)))) (sym (sym (ap (ltb i) e) ∙ lt-ltb i n h))
 
--- a store, where n is the number of its tests with the count s that the code has worked out
-module _ (p : Plan) (f b r : List ℕ) (i : ℕ) (out : List ℕ) (s : ℕ) (es : s ≡ storesIn p) (n : ℕ)
-    (e : n ≡ first (planTests f b (length out) (length r) (p .entry .bytes) i s)) where
+-- a store, where n is the number of its tests with the sectors k, the numbers x of its side's block and the count s that the code has
+-- worked out
+module _ (p : Plan) (f b r : List ℕ) (i : ℕ) (out : List ℕ) (k : ℕ) (ek : k ≡ sectorsIn p) (x : BlockFields) (ex : x ≡ fieldsOf (blockIn (cond (leb i k) f b)))
+    (s : ℕ) (es : s ≡ storesIn p) (n : ℕ) (e : n ≡ first (planTests f b (length out) (length r) (p .entry .bytes) i s (x .device))) where
+  its-device : x .device ≡ deviceIn (copyOf p i f b)
+  its-device = ap (λ (z : BlockFields). z .device) ex ∙ ap (λ (m : ℕ). deviceIn (cond (leb i m) f b)) ek
+
   its-number : n ≡ first (storeTests p f b r i out)
-  its-number = e ∙ ap (λ (z : ℕ). first (planTests f b (length out) (length r) (p .entry .bytes) i z)) es
+  its-number = e ∙ ap₂ (λ (z : ℕ) (v : Device). first (planTests f b (length out) (length r) (p .entry .bytes) i z v)) es its-device
 
   pub store-refused : (n ≡ 0 → ⊥) → (Given.Refused n ≡ storeAnswer p f b r i out) × (out ≡ storeBytes p f b r i out)
   store-refused z = (
     answer-no (sidesAnswer p f b r i out) Given.Refused n (first (storeTests p f b r i out)) its-number z,
-    answer-no (sidesBytes p f b r i out) (λ (k : ℕ). out) n (first (storeTests p f b r i out)) its-number z,
+    answer-no (sidesBytes p f b r i out) (λ (m : ℕ). out) n (first (storeTests p f b r i out)) its-number z,
   )
 
-  -- by whether it is the front's, with the sectors k that the code has worked out
+  -- by whether it is the front's
   abbrev answerOf : Bool → ℕ → Given
-  answerOf c k = cond c (partGiven (partOn Front (p .front) (p .entry) f) k f r i out) (partGiven (partOn Back (p .back) (p .entry) b) k b r (i - (k + 1)) out)
+  answerOf c m = cond c (partGiven (partOn Front (p .front) (p .entry) f) m f r i out) (partGiven (partOn Back (p .back) (p .entry) b) m b r (i - (m + 1)) out)
 
   abbrev bytesOf : Bool → ℕ → List ℕ
-  bytesOf c k = cond c (partLeft (partOn Front (p .front) (p .entry) f) k f r i out) (partLeft (partOn Back (p .back) (p .entry) b) k b r (i - (k + 1)) out)
+  bytesOf c m = cond c (partLeft (partOn Front (p .front) (p .entry) f) m f r i out) (partLeft (partOn Back (p .back) (p .entry) b) m b r (i - (m + 1)) out)
 
-  module _ (z : n ≡ 0) (k : ℕ) (ek : k ≡ sectorsIn p) (g : Given) (w : List ℕ) where
+  module _ (z : n ≡ 0) (g : Given) (w : List ℕ) where
     half-store : (c : Bool) → leb i k ≡ c → g ≡ answerOf c k → w ≡ bytesOf c k → (g ≡ storeAnswer p f b r i out) × (w ≡ storeBytes p f b r i out)
-    half-store c h x y = (
-      x
-          ∙ (ap (λ (u : Bool). answerOf u k) (sym h)
-          ∙ (ap (λ (m : ℕ). answerOf (leb i m) m) ek ∙ answer-yes (sidesAnswer p f b r i out) Given.Refused n (first (storeTests p f b r i out)) its-number z)),
+    half-store c h y u = (
       y
-          ∙ (ap (λ (u : Bool). bytesOf u k) (sym h)
+          ∙ (ap (λ (a : Bool). answerOf a k) (sym h)
+          ∙ (ap (λ (m : ℕ). answerOf (leb i m) m) ek ∙ answer-yes (sidesAnswer p f b r i out) Given.Refused n (first (storeTests p f b r i out)) its-number z)),
+      u
+          ∙ (ap (λ (a : Bool). bytesOf a k) (sym h)
           ∙ (ap (λ (m : ℕ). bytesOf (leb i m) m) ek ∙ answer-yes (sidesBytes p f b r i out) (λ (m : ℕ). out) n (first (storeTests p f b r i out)) its-number z)),
     )
 
-    pub front-store : i ≤ k → (q : Part) → q ≡ partOn Front (p .front) (p .entry) f → g ≡ partGiven q k f r i out → w ≡ partLeft q k f r i out
+    pub front-store : i ≤ k → (q : Part) → q ≡ partOf Front (p .front) (p .entry) x → g ≡ partGiven q k f r i out → w ≡ partLeft q k f r i out
         → (g ≡ storeAnswer p f b r i out) × (w ≡ storeBytes p f b r i out)
-    front-store h q eq x y =
-        half-store true (le-leb i k h) (x ∙ ap (λ (u : Part). partGiven u k f r i out) eq) (y ∙ ap (λ (u : Part). partLeft u k f r i out) eq)
+    front-store h q eq y u =
+        let t : leb i k ≡ true = le-leb i k h in
+        let fq : q ≡ partOn Front (p .front) (p .entry) f =
+        eq ∙ ap (partOf Front (p .front) (p .entry)) (ex ∙ ap (λ (a : Bool). fieldsOf (blockIn (cond a f b))) t) in
+        half-store true t (y ∙ ap (λ (a : Part). partGiven a k f r i out) fq) (u ∙ ap (λ (a : Part). partLeft a k f r i out) fq)
 
-    pub back-store : k < i → (q : Part) → q ≡ partOn Back (p .back) (p .entry) b → g ≡ partGiven q k b r (i - (k + 1)) out → w ≡ partLeft q k b r (i - (k + 1)) out
+    pub back-store : k < i → (q : Part) → q ≡ partOf Back (p .back) (p .entry) x → g ≡ partGiven q k b r (i - (k + 1)) out → w ≡ partLeft q k b r (i - (k + 1)) out
         → (g ≡ storeAnswer p f b r i out) × (w ≡ storeBytes p f b r i out)
-    back-store h q eq x y =
-        half-store false (lt-leb i k h) (x ∙ ap (λ (u : Part). partGiven u k b r (i - (k + 1)) out) eq) (y ∙ ap (λ (u : Part). partLeft u k b r (i - (k + 1)) out) eq)
+    back-store h q eq y u =
+        let t : leb i k ≡ false = lt-leb i k h in
+        let fq : q ≡ partOn Back (p .back) (p .entry) b =
+        eq ∙ ap (partOf Back (p .back) (p .entry)) (ex ∙ ap (λ (a : Bool). fieldsOf (blockIn (cond a f b))) t) in
+        half-store false t (y ∙ ap (λ (a : Part). partGiven a k b r (i - (k + 1)) out) fq) (u ∙ ap (λ (a : Part). partLeft a k b r (i - (k + 1)) out) fq)
+
+-- the numbers of a side's block, as the code reads them
+pub front-fields : (t : Bool) (f b : List ℕ) (g : BlockFields) → t ≡ true → g ≡ fieldsOf (blockIn f) → g ≡ fieldsOf (blockIn (cond t f b))
+front-fields t f b g h e = e ∙ ap (λ (a : Bool). fieldsOf (blockIn (cond a f b))) (sym h)
+
+pub back-fields : (t : Bool) (f b : List ℕ) (g : BlockFields) → t ≡ false → g ≡ fieldsOf (blockIn b) → g ≡ fieldsOf (blockIn (cond t f b))
+back-fields t f b g h e = e ∙ ap (λ (a : Bool). fieldsOf (blockIn (cond a f b))) (sym h)

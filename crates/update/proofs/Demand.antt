@@ -1,13 +1,13 @@
 -- Demand 3, proved: one claim over every start, update and cut.
 use Prim.Native.Nat.{ℕ, zero, suc, _+_, _-_, _*_, _^_, _≤_, _<_}
 use mathlib.Core.Path.{_≡_, refl, sym, ap, subst, _∙_}
-use mathlib.Core.Bool.{true, not, true≢false}
+use mathlib.Core.Bool.{Bool, true, cond, not, true≢false}
 use mathlib.Core.Logic.{_⊎_, inl, inr, _↔_}
-use mathlib.Core.List.{List, []}
+use mathlib.Core.List.{List}
 use native.Mathlib.Decide.{ℕ-discrete}
 use native.Mathlib.Nat.{le-refl}
 use native.Mathlib.Omega.{arith}
-use borrow.Author.Tests.{le-leb, lt-ltb, le-ltb, eq-eqb, ne-eqb}
+use borrow.Author.Tests.{le-leb, lt-leb, lt-ltb, le-ltb, eq-eqb, ne-eqb}
 use lib.Dec.{eqb, ltb}
 use lib.ListN.{length}
 use Rattle.endian.specs.Bytes.{same}
@@ -19,7 +19,7 @@ use Rattle.layout.specs.declared.Device.{Device}
 use Rattle.layout.specs.declared.Side.{Side}
 use Rattle.layout.specs.declared.Side.the-variants.{Front, Back}
 use Rattle.layout.specs.declared.Area.{Area}
-use Rattle.layout.specs.Limits.{lengthAllowed, mostNanoseconds, nanosecondsAllowed}
+use Rattle.layout.specs.Limits.{lengthAllowed, mostNanoseconds, nanosecondsAllowed, deviceTests}
 use Rattle.layout.specs.Places.{blockSector, areaSector}
 use Rattle.layout.proofs.Laws.{length-facts}
 use Rattle.block.specs.declared.Time.{Time}
@@ -62,12 +62,12 @@ use Rattle.stores.proofs.OneCopy.{used, block-of, stepped-held}
 use Rattle.stores.proofs.Choosing.{lent-right, block-given, area-given, part-given}
 use Rattle.stores.proofs.Facts.{other-differs, renamed, sized-copies, split, stands-as}
 use Rattle.stores.proofs.Agreeing.{found-front}
-use Rattle.stores.proofs.Places.{Sizes, sizes-accepted, near, area-near, area-below, block-below, block-apart, areas-apart}
+use Rattle.stores.proofs.Places.{Sizes, sizes-accepted, device-accepted, near, area-near, area-below, block-below, block-apart, areas-apart}
 use Rattle.stores.proofs.States.{stepped-found, stepped-present, made-ready, made-answered, ready-stepped, ready-time, ready-record}
 use Rattle.update.specs.declared.Plan.{Plan}
 use Rattle.update.specs.declared.Planned.the-variants as Planned
 use Rattle.update.specs.Update.{testsAfter, numberAfter, updateNumber, spare, newBlock}
-use Rattle.update.specs.Plan.{storesIn, groupOf, flushAfter, partOn, storeTests, storeAnswer, storeBytes}
+use Rattle.update.specs.Plan.{storesIn, groupOf, flushAfter, partOf, partOn, copyOf, storeTests, storeAnswer, storeBytes}
 use Rattle.update.specs.Demand.{Start, Outcome, groupsOn, planOn, copyAfter, Demand3, areaGroup, blockGroup, Places, Placing, Giving}
 use Rattle.update.proofs.NewBlock.{new-reads, new-writes, new-written}
 use Rattle.update.proofs.NewHeld.{new-held}
@@ -519,32 +519,45 @@ module _ (v : Device) (d : Sectors) (u : Time) (q : List ℕ) (t : Time) (r : Li
   -- what the plan's stores give with two copies, where that of the store's side has its block as it was
   module _ (f b : List ℕ) (lent : sized f b ≡ true) (out : List ℕ) (room : length out ≡ 512) where
     -- no test refuses a store that is there
-    passes : (i : ℕ) → i < storesIn plan → 0 ≡ first (storeTests plan f b r i out)
-    passes i l =
-        sym (first-all (storeTests plan f b r i out) (lent-right f b out lent room, (its-length, (eq-eqb (length r) (length r) refl, (lt-ltb i (storesIn plan) l, tt)))))
+    passes : (i : ℕ) → i < storesIn plan → (w : Side) → blockIn (copyOf plan i f b) ≡ blockIn (copy w) → 0 ≡ first (storeTests plan f b r i out)
+    passes i l w e =
+        sym (first-all (storeTests plan f b r i out) (
+          lent-right f b out lent room,
+          (
+            its-length,
+            (
+              eq-eqb (length r) (length r) refl,
+              (lt-ltb i (storesIn plan) l, subst (λ (c : List ℕ). AllHold (deviceTests (deviceOf c))) (sym e) (device-accepted (blockIn (copy w)) (stepped .accepted w))),
+            ),
+          ),
+        ))
 
     abbrev GivenAt : ℕ → Type 0
     GivenAt i = (storeAnswer plan f b r i out ≡ Given.At (storeIn groups i .sector)) × (storeBytes plan f b r i out ≡ storeIn groups i .content)
 
     front-given : blockIn f ≡ blockIn (copy Front) → (j : ℕ) → j ≤ k → GivenAt (begin k Front + j)
     front-given e j l =
+        let its : blockIn (copyOf plan (0 + j) f b) ≡ blockIn f = ap (λ (a : Bool). blockIn (cond a f b)) (le-leb (0 + j) k (omega arith)) in
         let n : j ≡ 0 + j = omega arith in
         let g : (partGiven (part Front) k f r j out ≡ Given.At (storeIn groups (0 + j) .sector)) × (partLeft (part Front) k f r j out ≡ storeIn groups (0 + j) .content) =
         given-store Front f (and-left (isCopy f) (isCopy b) lent) e out room j l in
         let x : (partGiven (part Front) k f r j out ≡ storeAnswer plan f b r (0 + j) out) × (partLeft (part Front) k f r j out ≡ storeBytes plan f b r (0 + j) out) =
-        front-store plan f b r (0 + j) out (storesIn plan) refl 0 (passes (0 + j) (omega arith)) refl k refl _ _ (omega arith)
-        (part Front) (sym (its-part Front f (and-left (isCopy f) (isCopy b) lent) e out room))
+        front-store plan f b r (0 + j) out k refl (fieldsOf (blockIn (copyOf plan (0 + j) f b))) refl (storesIn plan) refl 0
+        (passes (0 + j) (omega arith) Front (its ∙ e)) refl _ _ (omega arith)
+        (part Front) (sym (ap (λ (c : List ℕ). partOf Front (spare (copy Front)) (holdingFor t r) (fieldsOf c)) its ∙ its-part Front f (and-left (isCopy f) (isCopy b) lent) e out room))
         (ap (λ (i : ℕ). partGiven (part Front) k f r i out) n) (ap (λ (i : ℕ). partLeft (part Front) k f r i out) n) in
         (sym (x .0) ∙ g .0, sym (x .1) ∙ g .1)
 
     back-given : blockIn b ≡ blockIn (copy Back) → (j : ℕ) → j ≤ k → GivenAt (begin k Back + j)
     back-given e j l =
+        let its : blockIn (copyOf plan (k + 1 + j) f b) ≡ blockIn b = ap (λ (a : Bool). blockIn (cond a f b)) (lt-leb (k + 1 + j) k (omega arith)) in
         let n : j ≡ k + 1 + j - (k + 1) = omega arith in
         let g : (partGiven (part Back) k b r j out ≡ Given.At (storeIn groups (k + 1 + j) .sector)) × (partLeft (part Back) k b r j out ≡ storeIn groups (k + 1 + j) .content) =
         given-store Back b (and-right (isCopy f) (isCopy b) lent) e out room j l in
         let x : (partGiven (part Back) k b r j out ≡ storeAnswer plan f b r (k + 1 + j) out) × (partLeft (part Back) k b r j out ≡ storeBytes plan f b r (k + 1 + j) out) =
-        back-store plan f b r (k + 1 + j) out (storesIn plan) refl 0 (passes (k + 1 + j) (omega arith)) refl k refl _ _ (omega arith)
-        (part Back) (sym (its-part Back b (and-right (isCopy f) (isCopy b) lent) e out room))
+        back-store plan f b r (k + 1 + j) out k refl (fieldsOf (blockIn (copyOf plan (k + 1 + j) f b))) refl (storesIn plan) refl 0
+        (passes (k + 1 + j) (omega arith) Back (its ∙ e)) refl _ _ (omega arith)
+        (part Back) (sym (ap (λ (c : List ℕ). partOf Back (spare (copy Back)) (holdingFor t r) (fieldsOf c)) its ∙ its-part Back b (and-right (isCopy f) (isCopy b) lent) e out room))
         (ap (λ (i : ℕ). partGiven (part Back) k b r i out) n) (ap (λ (i : ℕ). partLeft (part Back) k b r i out) n) in
         (sym (x .0) ∙ g .0, sym (x .1) ∙ g .1)
 
@@ -553,10 +566,10 @@ module _ (v : Device) (d : Sectors) (u : Time) (q : List ℕ) (t : Time) (r : Li
     none-given i l =
         let n : 2 * k + 2 ≤ i = omega arith in
         let x : (Given.Refused noStore ≡ storeAnswer plan f b r i out) × (out ≡ storeBytes plan f b r i out) =
-        store-refused plan f b r i out (storesIn plan) refl noStore
+        store-refused plan f b r i out k refl (fieldsOf (blockIn (copyOf plan i f b))) refl (storesIn plan) refl noStore
         (sym (first-pass (lentRight f b out) 1 _ (lent-right f b out lent room)
         ∙ (first-pass (lengthAllowed (length r)) 15 _ its-length
-        ∙ (first-pass (eqb (length r) (length r)) 1 _ (eq-eqb (length r) (length r) refl) ∙ first-fail (ltb i (storesIn plan)) 23 [] (le-ltb i (storesIn plan) n)))))
+        ∙ (first-pass (eqb (length r) (length r)) 1 _ (eq-eqb (length r) (length r) refl) ∙ first-fail (ltb i (storesIn plan)) 23 _ (le-ltb i (storesIn plan) n)))))
         (λ z. omega arith) in
         (sym (x .0), sym (x .1))
 

@@ -9,3 +9,4 @@ pub mod Choosing
 pub mod Planning
 pub mod Changing
 pub mod Refusing
+pub mod Lying

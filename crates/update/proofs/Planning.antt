@@ -27,7 +27,7 @@ use Rattle.block.specs.Entry.{laterThan, sameTime, timeOf}
 use Rattle.block.specs.Block.{fieldsOf}
 use Rattle.copy.specs.declared.Present.{Present}
 use Rattle.copy.specs.declared.Present.the-variants.{Nothing, At}
-use Rattle.copy.specs.Copy.{deviceIn, blockIn, areaBytes, otherArea, newest, copyReading}
+use Rattle.copy.specs.Copy.{blockIn, areaBytes, otherArea, newest, copyReading}
 use Rattle.discovery.specs.declared.Finding.{Finding}
 use Rattle.discovery.specs.declared.Other.{Other}
 use Rattle.discovery.specs.declared.Other.the-variants.{Both, One}
@@ -45,17 +45,13 @@ use Rattle.update.specs.declared.Plan.{Plan}
 use Rattle.update.specs.declared.Planned.{Planned}
 use Rattle.update.specs.declared.Planned.the-variants as Planned
 use Rattle.update.specs.Update.{testsAfter, updateTests, numberAfter, updateNumber}
-use Rattle.update.specs.Plan.{planFor, planOf, planWith, planFound, planned, partOn}
+use Rattle.update.specs.Plan.{planFor, planOf, planWith, planFound, planned, partOf}
 
 -- one side, step by step
-pub part-made : (w : Side) (x : Area) (h : Holding) (c : List ℕ) (g u : BlockFields) (a m : ℕ)
-    → g ≡ fieldsOf (blockIn c) → u ≡ withEntry g x (Used h) → a ≡ areaSector w x (g .device) → m ≡ blockSector w (g .device)
-    → _≡_ {A = Part} (record { area = a; block = m; fields = u }) (partOn w x h c)
-part-made w x h c g u a m eg eu ea em =
-    let fu : u ≡ withEntry (fieldsOf (blockIn c)) x (Used h) = eu ∙ ap (λ (z : BlockFields). withEntry z x (Used h)) eg in
-    let fa : a ≡ areaSector w x (deviceIn c) = ea ∙ ap (λ (z : BlockFields). areaSector w x (z .device)) eg in
-    let fm : m ≡ blockSector w (deviceIn c) = em ∙ ap (λ (z : BlockFields). blockSector w (z .device)) eg in
-    λ i. record { area = fa i; block = fm i; fields = fu i }
+pub part-made : (w : Side) (x : Area) (h : Holding) (g u : BlockFields) (a m : ℕ)
+    → u ≡ withEntry g x (Used h) → a ≡ areaSector w x (g .device) → m ≡ blockSector w (g .device)
+    → _≡_ {A = Part} (record { area = a; block = m; fields = u }) (partOf w x h g)
+part-made w x h g u a m eu ea em = λ i. record { area = ea i; block = em i; fields = eu i }
 
 -- discovery never refuses with 0
 abbrev Nonzero : Answer → Type 0

@@ -1,5 +1,5 @@
 -- What an update promises. `proofs/Allowing.antt` proves `Exactly`, `Ordered` and `Started`, `proofs/Demand.antt` `Demand3`, `Placing` and
--- `Giving`, `proofs/Refusing.antt` `Refusing`, `proofs/Changing.antt` `Changing`. That there are copies in step on every allowed device is `format`'s `Possible`.
+-- `Giving`, `proofs/Refusing.antt` `Refusing`, `proofs/Lying.antt` `Within`, `proofs/Changing.antt` `Changing`. That there are copies in step on every allowed device is `format`'s `Possible`.
 use Prim.Native.Nat.{ℕ, suc, _+_, _*_, _^_, _≤_, _<_}
 use mathlib.Core.Path.{_≡_}
 use mathlib.Core.Logic.{_↔_}
@@ -32,12 +32,12 @@ use Rattle.discovery.specs.Newest.{timeAt}
 use Rattle.crash.specs.Crash.{Sectors, Sound, Groups, stores, storeIn, groupStart, landed, CutIn, copyFrom}
 use Rattle.stores.specs.declared.Given.the-variants.{At, Refused}
 use Rattle.stores.specs.Stores.{sectorsOf, sectorOf}
-use Rattle.stores.specs.States.{Presents, Gives, Ready, Answered, Excused, AllFit}
+use Rattle.stores.specs.States.{Presents, Gives, Ready, Answered, Excused, Lies, AllFit}
 use Rattle.update.specs.declared.Plan.{Plan}
 use Rattle.update.specs.declared.Planned.the-variants as Planned
 use Rattle.update.specs.Update.{updateNumber, spare, newBlock, updateGroups}
 use Rattle.update.specs.Answers.{plannedNumber, plannedValues}
-use Rattle.update.specs.Plan.{planOf, planned, storesIn, groupOf, flushAfter, storeAnswer, storeBytes}
+use Rattle.update.specs.Plan.{planOf, planned, sectorsIn, storesIn, groupOf, flushAfter, storeAnswer, storeBytes}
 
 -- An update that the format does not refuse, in plain words: two copies, which discovery answers and which are in step; a time within
 -- its limit, later than the present record's; and a record that is right on the device that the copies are of.
@@ -170,6 +170,13 @@ pub record Refusing : Type 0 where
   pub store : (p : Plan) (f b r : List ℕ) (i : ℕ) (out : List ℕ) (n : ℕ) → storeAnswer p f b r i out ≡ Refused n → storeBytes p f b r i out ≡ out
   pub number : (f b : List ℕ) (t : Time) (r : List ℕ) → plannedNumber (planned f b t r) ≡ updateNumber f b t r
   pub values : (f b : List ℕ) (t : Time) (r : List ℕ) → updateNumber f b t r ≡ 0 → plannedValues (planned f b t r) ≡ (2 * sectorsOf (length r) + 2) ∷ []
+
+-- Wherever a store is given, of any plan and any copies, made up or not, it goes to a sector of its own side, the front's stores coming
+-- first, on the device that this side's copy says it is of: its signature block's or one of those of an area that a record can fill.
+abbrev pub Within : Type 0
+Within =
+    (p : Plan) (f b r : List ℕ) (i : ℕ) (out : List ℕ) (s : ℕ) → storeAnswer p f b r i out ≡ At s
+    → (i ≤ sectorsIn p → Lies Front (deviceIn f) s) × (sectorsIn p < i → Lies Back (deviceIn b) s)
 
 -- where an area's entry lies in the block, 20 bytes
 abbrev pub entryPlace : Area → ℕ

@@ -70,14 +70,21 @@ groupOf p i =
 abbrev pub flushAfter : Plan → ℕ → Bool
 flushAfter p i = ltb i (storesIn p) && not (eqb (groupOf p i) (groupOf p (suc i)))
 
--- one side of a plan with the copy c of that side: where its area and its block lie, and the new block's numbers
-abbrev pub partOn : Side → Area → Holding → List ℕ → Part
-partOn w x h c =
-    record { area = areaSector w x (deviceIn c); block = blockSector w (deviceIn c); fields = withEntry (fieldsOf (blockIn c)) x (Used h) }
+-- one side of a plan where that side's block has the numbers g: where its area and its block lie, and the new block's numbers
+abbrev pub partOf : Side → Area → Holding → BlockFields → Part
+partOf w x h g = record { area = areaSector w x (g .device); block = blockSector w (g .device); fields = withEntry g x (Used h) }
 
--- the tests of a store: the sizes, the record's length, which is the plan's, its number
+-- the same with the copy c of that side
+abbrev pub partOn : Side → Area → Holding → List ℕ → Part
+partOn w x h c = partOf w x h (fieldsOf (blockIn c))
+
+-- the copy that store i is worked out from: the front's stores come first
+abbrev pub copyOf : Plan → ℕ → List ℕ → List ℕ → List ℕ
+copyOf p i f b = cond (leb i (sectorsIn p)) f b
+
+-- the tests of a store: the sizes, the record's length, which is the plan's, its number, and the device numbers of its copy
 abbrev pub storeTests : Plan → List ℕ → List ℕ → List ℕ → ℕ → List ℕ → List Test
-storeTests p f b r i out = planTests f b (length out) (length r) (p .entry .bytes) i (storesIn p)
+storeTests p f b r i out = planTests f b (length out) (length r) (p .entry .bytes) i (storesIn p) (deviceIn (copyOf p i f b))
 
 -- store i of both sides, the front's and then the back's: the sector and the bytes
 abbrev pub sidesAnswer : Plan → List ℕ → List ℕ → List ℕ → ℕ → List ℕ → Given

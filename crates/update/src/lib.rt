@@ -1,12 +1,14 @@
 // An update: its refusal number, and what it stores. The copies are lent as discovery takes them.
 ghost use mathlib.Core.Path.{_≡_};
-ghost use mathlib.Core.Bool.{true};
+ghost use mathlib.Core.Bool.{true, cond};
 ghost use lib.ListN.{length};
 ghost use Rattle.refusal.specs.Tests.{first};
 ghost use Rattle.layout.specs.Limits.{lengthAllowed};
+ghost use Rattle.block.specs.Block.{fieldsOf};
+ghost use Rattle.copy.specs.Copy.{blockIn};
 ghost use Rattle.discovery.specs.Newest.{timeAt};
 ghost use Rattle.update.specs.Update.{testsAfter, updateNumber};
-ghost use Rattle.update.specs.Plan.{planFor, planFound, planned, sectorsIn, storesIn, groupOf, flushAfter, partOn, storeAnswer, storeBytes};
+ghost use Rattle.update.specs.Plan.{planFor, planFound, planned, sectorsIn, storesIn, groupOf, flushAfter, partOf, storeAnswer, storeBytes};
 use block::BlockFields;
 use block::Entry;
 use block::Holding;
@@ -169,11 +171,20 @@ pub fn flush(p: Plan, i: u64) -> bool
     group(p, i) != group(p, i + 1)
 }
 
-// One side of a plan, with the copy c of that side.
-fn part_on(w: Side, x: Area, h: Holding, c: &[u8]) -> Part
-    ensures { λ p. ⌜ p ≡ partOn w x h (now (c .entry)) ⌝ }
+// The numbers of the front copy's signature block, or of the back's.
+fn side_fields(front: bool, f: &[u8], b: &[u8]) -> BlockFields
+    ensures { λ g. ⌜ g ≡ fieldsOf (blockIn (cond front (now (f .entry)) (now (b .entry)))) ⌝ }
 {
-    let g = copy::fields_in(c);
+    if front {
+        return copy::fields_in(f);
+    }
+    copy::fields_in(b)
+}
+
+// One side of a plan, where that side's block has the numbers g.
+fn part_on(w: Side, x: Area, h: Holding, g: BlockFields) -> Part
+    ensures { λ p. ⌜ p ≡ partOf w x h g ⌝ }
+{
     let fields = stores::with_entry(g, x, Entry::Used(h));
     let area = layout::area_sector(w, x, g.device);
     let block = layout::block_sector(w, g.device);
@@ -186,25 +197,35 @@ fn part_on(w: Side, x: Area, h: Holding, c: &[u8]) -> Part
 
 // The store of a plan with number i, counted from 0: its 512 bytes into out, its sector as the answer. The record is the one that the
 // plan was made of; the copies are those, as they were or with the plan's earlier stores in them. 1 for a slice of another size, 15 for
-// a length that no record has, 1 for a length that is not the plan's, 23 past the last store and where a copy's own numbers place it
-// past sector 2^64 - 1; a block that the writer refuses gives its number. Then out stays.
+// a length that no record has, 1 for a length that is not the plan's, 23 past the last store; then 4, 7 or 8 where the device numbers of
+// the store's own copy are not allowed; a block that the writer refuses gives its number. Then out stays.
 pub fn store(p: Plan, f: &[u8], b: &[u8], r: &[u8], i: u64, out: &mut [u8]) -> Given
     ensures { λ g. ⌜ g ≡ storeAnswer p (now (f .entry)) (now (b .entry)) (now (r .entry)) i (now (out .entry)) ⌝ }
     ensures { λ _. ⌜ now (out .exit) ≡ storeBytes p (now (f .entry)) (now (b .entry)) (now (r .entry)) i (now (out .entry)) ⌝ }
 {
     let h = p.entry;
-    let n = stores::check_store(f, b, out.len(), r.len() as u64, h.bytes, i, count(p));
+    let k = sectors(p);
+    let g = side_fields(i <= k as u64, f, b);
+    let n = stores::check_store(
+        f,
+        b,
+        out.len(),
+        r.len() as u64,
+        h.bytes,
+        i,
+        count(p),
+        g.device,
+    );
     if n != 0 {
         return Given::Refused(n);
     }
-    let k = sectors(p);
     if i <= k as u64 {
         let x = p.front;
-        return stores::put_part(part_on(Side::Front, x, h, f), k, f, r, i, out);
+        return stores::put_part(part_on(Side::Front, x, h, g), k, f, r, i, out);
     }
     let y = p.back;
     stores::put_part(
-        part_on(Side::Back, y, h, b),
+        part_on(Side::Back, y, h, g),
         k,
         b,
         r,

@@ -1,8 +1,6 @@
 -- `stores::check_store` meets its contract, a test at a time.
-use Prim.Native.Nat.{ℕ}
-use mathlib.Core.Path.{refl, sym}
-use mathlib.Core.List.{[]}
-use Rattle.refusal.proofs.Order.{refused, passed, first-all}
+use mathlib.Core.Path.{refl}
+use Rattle.refusal.proofs.Order.{refused, passed}
 use Rattle.stores.proofs.Choosing.{plan-sizes}
 use borrow.Author.Needs.{needs}
 use Rattle.stores.proofs.check_store.Statement.{statement}
@@ -26,8 +24,11 @@ returns-3 c = passed _ _ 1 _ (plan-sizes (c .before .before .before .before .bef
 returns-4 : tie.Need-returns-4
 returns-4 c = passed _ _ 1 _ (plan-sizes (c .before .before .before .before .before .before .before .before .args .f .now) (c .before .before .before .before .before .before .before .before .args .b .now) (c .before .before .before .before .before .before .before .before .args .room) (c .before .before .before .before .before .copy-bytes .result) (c .before .before .before .before .before .copy-bytes .ensures)) (c .before .before .before .before .if1 .left) 23 (passed _ _ 15 _ (c .before .before .before .length-allowed .ensures) (c .before .before .if2 .left) 23 (passed _ _ 1 _ refl (c .before .if3 .left) 23 (refused _ _ 23 _ refl (c .if4 .taken))))
 
+check-requires : tie.Need-check-requires
+check-requires c κs = search needs
+
 returns-5 : tie.Need-returns-5
-returns-5 c = passed _ _ 1 _ (plan-sizes (c .before .before .before .before .before .before .before .before .args .f .now) (c .before .before .before .before .before .before .before .before .args .b .now) (c .before .before .before .before .before .before .before .before .args .room) (c .before .before .before .before .before .copy-bytes .result) (c .before .before .before .before .before .copy-bytes .ensures)) (c .before .before .before .before .if1 .left) 0 (passed _ _ 15 _ (c .before .before .before .length-allowed .ensures) (c .before .before .if2 .left) 0 (passed _ _ 1 _ refl (c .before .if3 .left) 0 (passed _ _ 23 _ refl (c .if4 .left) 0 (sym (first-all [] tt)))))
+returns-5 c = passed _ _ 1 _ (plan-sizes (c .before .before .before .before .before .before .before .before .before .args .f .now) (c .before .before .before .before .before .before .before .before .before .args .b .now) (c .before .before .before .before .before .before .before .before .before .args .room) (c .before .before .before .before .before .before .copy-bytes .result) (c .before .before .before .before .before .before .copy-bytes .ensures)) (c .before .before .before .before .before .if1 .left) _ (passed _ _ 15 _ (c .before .before .before .before .length-allowed .ensures) (c .before .before .before .if2 .left) _ (passed _ _ 1 _ refl (c .before .before .if3 .left) _ (passed _ _ 23 _ refl (c .before .if4 .left) _ (c .check .ensures))))
 
 pub check-store-spec : {M : Type 1} → statement M
 check-store-spec =
@@ -39,4 +40,5 @@ check-store-spec =
     returns-2
     returns-3
     returns-4
+    check-requires
     returns-5)

@@ -4,9 +4,6 @@ use borrow.Author.Needs.{needs}
 use Rattle.update.proofs.part_on.Statement.{statement}
 use Rattle.update.proofs.part_on.Tie as tie
 
-fields-in-requires : tie.Need-fields-in-requires
-fields-in-requires c κs = search needs
-
 with-entry-requires : tie.Need-with-entry-requires
 with-entry-requires c κs = search needs
 
@@ -17,13 +14,12 @@ block-sector-requires : tie.Need-block-sector-requires
 block-sector-requires c κs = search needs
 
 returns : tie.Need-returns
-returns c = part-made (c .before .before .before .before .before .args .w) (c .before .before .before .before .before .args .x) (c .before .before .before .before .before .args .h) (c .before .before .before .before .before .args .c .now) _ _ _ _ (c .before .before .before .fields-in .ensures) (c .before .before .with-entry .ensures) (c .before .area-sector .ensures) (c .block-sector .ensures)
+returns c = part-made (c .before .before .before .args .w) (c .before .before .before .args .x) (c .before .before .before .args .h) (c .before .before .before .args .g) _ _ _ (c .before .before .with-entry .ensures) (c .before .area-sector .ensures) (c .block-sector .ensures)
 
 pub part-on-spec : {M : Type 1} → statement M
 part-on-spec =
     tie.close
     (tie.spec
-    fields-in-requires
     with-entry-requires
     area-sector-requires
     block-sector-requires

@@ -4,6 +4,15 @@ use borrow.Author.Needs.{needs}
 use Rattle.update.proofs.store.Statement.{statement}
 use Rattle.update.proofs.store.Tie as tie
 
+sectors-requires : tie.Need-sectors-requires
+sectors-requires c κs = search needs
+
+cast-side-fields : tie.Need-cast-side-fields
+cast-side-fields c = search needs
+
+side-fields-requires : tie.Need-side-fields-requires
+side-fields-requires c κs = search needs
+
 count-requires : tie.Need-count-requires
 count-requires c κs = search needs
 
@@ -11,10 +20,7 @@ check-store-requires : tie.Need-check-store-requires
 check-store-requires c κs = search needs
 
 returns : tie.Need-returns
-returns c = store-refused (c .before .before .before .before .before .before .before .before .args .p) (c .before .before .before .before .before .before .before .before .args .f .now) (c .before .before .before .before .before .before .before .before .args .b .now) (c .before .before .before .before .before .before .before .before .args .r .now) (c .before .before .before .before .before .before .before .before .args .i) (c .before .before .before .before .before .before .before .before .args .out .now) _ (c .before .before .count .ensures) _ (c .before .check-store .ensures) (c .if1 .taken)
-
-sectors-requires : tie.Need-sectors-requires
-sectors-requires c κs = search needs
+returns c = store-refused (c .before .before .before .before .before .before .before .before .before .before .args .p) (c .before .before .before .before .before .before .before .before .before .before .args .f .now) (c .before .before .before .before .before .before .before .before .before .before .args .b .now) (c .before .before .before .before .before .before .before .before .before .before .args .r .now) (c .before .before .before .before .before .before .before .before .before .before .args .i) (c .before .before .before .before .before .before .before .before .before .before .args .out .now) _ (c .before .before .before .before .sectors .ensures) _ (c .before .before .before .side-fields .ensures) _ (c .before .before .count .ensures) _ (c .before .check-store .ensures) (c .if1 .taken)
 
 cast-if2 : tie.Need-cast-if2
 cast-if2 c = search needs
@@ -29,7 +35,7 @@ same-length : tie.Need-same-length
 same-length c = search needs
 
 returns-2 : tie.Need-returns-2
-returns-2 c = front-store (c .before .before .before .before .before .before .before .before .before .before .before .before .before .before .before .args .p) (c .before .before .before .before .before .before .before .before .before .before .before .before .before .before .before .args .f .now) (c .before .before .before .before .before .before .before .before .before .before .before .before .before .before .before .args .b .now) (c .before .before .before .before .before .before .before .before .before .before .before .before .before .before .before .args .r .now) (c .before .before .before .before .before .before .before .before .before .before .before .before .before .before .before .args .i) (c .before .before .before .before .before .before .before .before .before .before .before .before .before .before .before .args .out .now) _ (c .before .before .before .before .before .before .before .before .before .count .ensures) _ (c .before .before .before .before .before .before .before .before .check-store .ensures) (c .before .before .before .before .before .before .before .if1 .left) _ (c .before .before .before .before .before .before .sectors .ensures) _ _ (c .before .before .before .before .before .if2 .taken) _ (c .before .before .before .before .part-on .ensures) (c .before .before .put-part .ensures .0) (c .before .before .put-part .ensures .1)
+returns-2 c = front-store (c .before .before .before .before .before .before .before .before .before .before .before .before .before .before .before .before .args .p) (c .before .before .before .before .before .before .before .before .before .before .before .before .before .before .before .before .args .f .now) (c .before .before .before .before .before .before .before .before .before .before .before .before .before .before .before .before .args .b .now) (c .before .before .before .before .before .before .before .before .before .before .before .before .before .before .before .before .args .r .now) (c .before .before .before .before .before .before .before .before .before .before .before .before .before .before .before .before .args .i) (c .before .before .before .before .before .before .before .before .before .before .before .before .before .before .before .before .args .out .now) _ (c .before .before .before .before .before .before .before .before .before .before .sectors .ensures) _ (c .before .before .before .before .before .before .before .before .before .side-fields .ensures) _ (c .before .before .before .before .before .before .before .before .count .ensures) _ (c .before .before .before .before .before .before .before .check-store .ensures) (c .before .before .before .before .before .before .if1 .left) _ _ (c .before .before .before .before .before .if2 .taken) _ (c .before .before .before .before .part-on .ensures) (c .before .before .put-part .ensures .0) (c .before .before .put-part .ensures .1)
 
 part-on-requires-2 : tie.Need-part-on-requires-2
 part-on-requires-2 c κs = search needs
@@ -50,16 +56,18 @@ same-length-2 : tie.Need-same-length-2
 same-length-2 c = search needs
 
 returns-3 : tie.Need-returns-3
-returns-3 c = back-store (c .before .before .before .before .before .before .before .before .before .before .before .before .before .before .before .args .p) (c .before .before .before .before .before .before .before .before .before .before .before .before .before .before .before .args .f .now) (c .before .before .before .before .before .before .before .before .before .before .before .before .before .before .before .args .b .now) (c .before .before .before .before .before .before .before .before .before .before .before .before .before .before .before .args .r .now) (c .before .before .before .before .before .before .before .before .before .before .before .before .before .before .before .args .i) (c .before .before .before .before .before .before .before .before .before .before .before .before .before .before .before .args .out .now) _ (c .before .before .before .before .before .before .before .before .before .count .ensures) _ (c .before .before .before .before .before .before .before .before .check-store .ensures) (c .before .before .before .before .before .before .before .if1 .left) _ (c .before .before .before .before .before .before .sectors .ensures) _ _ (c .before .before .before .before .before .if2 .left) _ (c .before .before .before .before .part-on2 .ensures) (c .before .before .put-part2 .ensures .0) (c .before .before .put-part2 .ensures .1)
+returns-3 c = back-store (c .before .before .before .before .before .before .before .before .before .before .before .before .before .before .before .before .args .p) (c .before .before .before .before .before .before .before .before .before .before .before .before .before .before .before .before .args .f .now) (c .before .before .before .before .before .before .before .before .before .before .before .before .before .before .before .before .args .b .now) (c .before .before .before .before .before .before .before .before .before .before .before .before .before .before .before .before .args .r .now) (c .before .before .before .before .before .before .before .before .before .before .before .before .before .before .before .before .args .i) (c .before .before .before .before .before .before .before .before .before .before .before .before .before .before .before .before .args .out .now) _ (c .before .before .before .before .before .before .before .before .before .before .sectors .ensures) _ (c .before .before .before .before .before .before .before .before .before .side-fields .ensures) _ (c .before .before .before .before .before .before .before .before .count .ensures) _ (c .before .before .before .before .before .before .before .check-store .ensures) (c .before .before .before .before .before .before .if1 .left) _ _ (c .before .before .before .before .before .if2 .left) _ (c .before .before .before .before .part-on2 .ensures) (c .before .before .put-part2 .ensures .0) (c .before .before .put-part2 .ensures .1)
 
 pub store-spec : {M : Type 1} → statement M
 store-spec =
     tie.close
     (tie.spec
+    sectors-requires
+    cast-side-fields
+    side-fields-requires
     count-requires
     check-store-requires
     returns
-    sectors-requires
     cast-if2
     part-on-requires
     put-part-requires
