@@ -223,7 +223,12 @@ pub extern "C" fn amseokbin_in_step(front: &[u8], back: &[u8]) -> StepAnswer
 
 // Whether the sectors that could not be read matter neither to what discovery answers nor to what is stored.
 #[no_mangle]
-pub extern "C" fn amseokbin_settled(front: &[u8], back: &[u8], front_marks: &[u8], back_marks: &[u8]) -> bool
+pub extern "C" fn amseokbin_settled(
+    front: &[u8],
+    back: &[u8],
+    front_marks: &[u8],
+    back_marks: &[u8],
+) -> bool
     ensures { λ r. ⌜ r ≡ settled (now (front .entry)) (now (back .entry)) (now («front_marks» .entry)) (now («back_marks» .entry)) ⌝ }
 {
     sectors::settled(front, back, front_marks, back_marks)
