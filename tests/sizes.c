@@ -101,6 +101,7 @@ static void sizes(void)
 static uint8_t front[AMSEOKBIN_COPY], back[AMSEOKBIN_COPY], bytes[AMSEOKBIN_SECTOR];
 static uint8_t record[AMSEOKBIN_RECORD], changed[AMSEOKBIN_RECORD];
 static const uint8_t pool[] = "0123456789abcdef0123456789abcdef", blockdev[] = "fedcba9876543210fedcba9876543210";
+static const uint8_t marks[AMSEOKBIN_COPY_SECTORS], unread[AMSEOKBIN_COPY_SECTORS] = {[24] = 2};
 static const struct amseokbin_device device = {3000000, 2044, 7};
 
 #define COPIES front, sizeof front, back, sizeof back
@@ -252,6 +253,7 @@ static void copies(void)
     struct amseokbin_update_answer update;
     struct amseokbin_mend_answer mend;
     struct amseokbin_block expected;
+    bool settled;
 
     /* Record 1 of 48 bytes in area a of both. */
     OK(amseokbin_format(COPIES, device, pool, 32, blockdev, 32, first, record, 48));
@@ -292,6 +294,8 @@ static void copies(void)
     LOOK(memcmp(changed, record, 28) == 0);
     step = amseokbin_in_step(COPIES);
     OK(step.refusal), FLAG(step.in_step, 0);
+    settled = amseokbin_settled(COPIES, unread, sizeof unread, marks, sizeof marks), FLAG(settled, 1);
+    settled = amseokbin_settled(COPIES, marks, sizeof marks, unread, sizeof unread), FLAG(settled, 0);
 
     /* Mended: record 2 is in area a of the front and in area b of the back. */
     mend = amseokbin_mend_plan(COPIES);

@@ -22,6 +22,7 @@ static struct amseokbin_run table[AMSEOKBIN_MOST_RUNS];
 static struct amseokbin_update update;
 static struct amseokbin_mend mend;
 static struct amseokbin_block block;
+static const uint8_t marks[AMSEOKBIN_COPY_SECTORS];
 static const uint8_t uuid[] = "0123456789abcdef0123456789abcdef";
 static const struct amseokbin_device device = {(uint64_t)1 << 40, AMSEOKBIN_MOST_METADATA, AMSEOKBIN_MOST_RESERVED};
 static const struct amseokbin_time first = {10, 5}, second = {11, 0};
@@ -81,6 +82,7 @@ static int reading_copy(void) {
 static int discovering(void) { return amseokbin_discover(COPIES).refusal.number; }
 static int reading(void) { return amseokbin_read_found(COPIES, changed, sizeof changed).refusal.number; }
 static int stepping(void) { return !amseokbin_in_step(COPIES).in_step; }
+static int settling(void) { return !amseokbin_settled(COPIES, marks, sizeof marks, marks, sizeof marks); }
 static int testing(void) { return amseokbin_update_check(COPIES, second, RECORD).number; }
 static int planning(void) {
     const struct amseokbin_update_answer planned = amseokbin_update_plan(COPIES, second, RECORD);
@@ -171,6 +173,7 @@ int main(int words, char **word) {
         {"discover", discovering, 0},
         {"read_found", reading, 0},
         {"in_step", stepping, 0},
+        {"settled", settling, 0},
         {"update_check", testing, 0},
         {"update_plan", planning, 0},
         {"update_count", counting, 0},

@@ -21,10 +21,20 @@ extern "C" {
         front_length: usize,
         back: *const u8,
         back_length: usize,
-        record: *mut u8,
-        record_length: usize,
+        buffer: *mut u8,
+        buffer_length: usize,
     ) -> FoundAnswer;
     fn amseokbin_in_step(front: *const u8, front_length: usize, back: *const u8, back_length: usize) -> StepAnswer;
+    fn amseokbin_settled(
+        front: *const u8,
+        front_length: usize,
+        back: *const u8,
+        back_length: usize,
+        front_marks: *const u8,
+        front_marks_length: usize,
+        back_marks: *const u8,
+        back_marks_length: usize,
+    ) -> bool;
     fn amseokbin_apply(
         device: Device,
         sector: u64,
@@ -123,10 +133,10 @@ extern "C" {
         table: *mut u64,
         table_length: usize,
     ) -> CountAnswer;
-    fn amseokbin_record_begin(record: *mut u8, record_length: usize, block_size: u32) -> Refused;
+    fn amseokbin_record_begin(buffer: *mut u8, buffer_length: usize, block_size: u32) -> Refused;
     fn amseokbin_record_put(
-        record: *mut u8,
-        record_length: usize,
+        buffer: *mut u8,
+        buffer_length: usize,
         position: u64,
         segment: SegmentFields,
     ) -> LengthAnswer;
@@ -231,14 +241,29 @@ impl Interface for Library {
         unsafe { amseokbin_discover(start(front), front.len(), start(back), back.len()) }
     }
 
-    fn read_found(&self, front: &[u8], back: &[u8], record: &mut [u8]) -> FoundAnswer {
+    fn read_found(&self, front: &[u8], back: &[u8], buffer: &mut [u8]) -> FoundAnswer {
         unsafe {
-            amseokbin_read_found(start(front), front.len(), start(back), back.len(), start_mut(record), record.len())
+            amseokbin_read_found(start(front), front.len(), start(back), back.len(), start_mut(buffer), buffer.len())
         }
     }
 
     fn in_step(&self, front: &[u8], back: &[u8]) -> StepAnswer {
         unsafe { amseokbin_in_step(start(front), front.len(), start(back), back.len()) }
+    }
+
+    fn settled(&self, front: &[u8], back: &[u8], front_marks: &[u8], back_marks: &[u8]) -> bool {
+        unsafe {
+            amseokbin_settled(
+                start(front),
+                front.len(),
+                start(back),
+                back.len(),
+                start(front_marks),
+                front_marks.len(),
+                start(back_marks),
+                back_marks.len(),
+            )
+        }
     }
 
     fn apply(&self, device: Device, sector: u64, bytes: &[u8], front: &mut [u8], back: &mut [u8]) -> Refused {
@@ -409,12 +434,12 @@ impl Interface for Library {
         }
     }
 
-    fn record_begin(&self, record: &mut [u8], block_size: u32) -> Refused {
-        unsafe { amseokbin_record_begin(start_mut(record), record.len(), block_size) }
+    fn record_begin(&self, buffer: &mut [u8], block_size: u32) -> Refused {
+        unsafe { amseokbin_record_begin(start_mut(buffer), buffer.len(), block_size) }
     }
 
-    fn record_put(&self, record: &mut [u8], position: u64, segment: SegmentFields) -> LengthAnswer {
-        unsafe { amseokbin_record_put(start_mut(record), record.len(), position, segment) }
+    fn record_put(&self, buffer: &mut [u8], position: u64, segment: SegmentFields) -> LengthAnswer {
+        unsafe { amseokbin_record_put(start_mut(buffer), buffer.len(), position, segment) }
     }
 
     fn free_total(&self, device: Device, record: &[u8]) -> TotalAnswer {

@@ -8,6 +8,7 @@ use crate::model::block::MAX_NANOSECONDS;
 use crate::model::layout::{AREA_OFFSET, BACK, BLOCK_OFFSET, COPY, FRONT, RECORD_LIMIT, SECTOR};
 use crate::model::record::{is_block_size, HEAD_BYTES, MAX_SEGMENTS, SEGMENT_BYTES};
 use crate::model::refusal::Refusal;
+use crate::model::settled::COPY_SECTORS;
 use crate::model::Model;
 
 const HEADER: &str = include_str!("../../../include/amseokbin.h");
@@ -176,7 +177,7 @@ fn structs_of(source: &str) -> Vec<String> {
 fn declarations_are_those_of_the_header() {
     let statements = statements();
     let header: Vec<String> = statements.iter().filter_map(|statement| function(statement)).collect();
-    assert_eq!(header.len(), 41, "the header could not be read");
+    assert_eq!(header.len(), 42, "the header could not be read");
     assert_eq!(header, functions_of(include_str!("ffi.rs")));
 }
 
@@ -290,6 +291,7 @@ fn numbers_are_those_of_the_header() {
         ("MOST_RESERVED", Device::MAX_RESERVED as usize),
         ("LEAST_BLOCK_SIZE", 128),
         ("MOST_BLOCK_SIZE", 2_097_152),
+        ("COPY_SECTORS", COPY_SECTORS),
         ("MOST_NANOSECONDS", MAX_NANOSECONDS as usize),
         ("MOST_SEGMENTS", MAX_SEGMENTS),
         ("MOST_RUNS", MAX_SEGMENTS + 1),

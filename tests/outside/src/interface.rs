@@ -22,8 +22,9 @@ pub trait Interface {
     fn copy_read(&self, copy: &[u8]) -> CopyAnswer;
 
     fn discover(&self, front: &[u8], back: &[u8]) -> FoundAnswer;
-    fn read_found(&self, front: &[u8], back: &[u8], record: &mut [u8]) -> FoundAnswer;
+    fn read_found(&self, front: &[u8], back: &[u8], buffer: &mut [u8]) -> FoundAnswer;
     fn in_step(&self, front: &[u8], back: &[u8]) -> StepAnswer;
+    fn settled(&self, front: &[u8], back: &[u8], front_marks: &[u8], back_marks: &[u8]) -> bool;
 
     fn apply(&self, device: Device, sector: u64, bytes: &[u8], front: &mut [u8], back: &mut [u8]) -> Refused;
     fn lay(&self, copy: &mut [u8], area: u8, record: &[u8]) -> Refused;
@@ -65,8 +66,8 @@ pub trait Interface {
     fn record_head(&self, device: Device, record: &[u8]) -> HeadAnswer;
     fn record_segment(&self, device: Device, record: &[u8], position: u64) -> SegmentAnswer;
     fn record_segments(&self, device: Device, record: &[u8], position: u64, table: &mut [u64]) -> CountAnswer;
-    fn record_begin(&self, record: &mut [u8], block_size: u32) -> Refused;
-    fn record_put(&self, record: &mut [u8], position: u64, segment: SegmentFields) -> LengthAnswer;
+    fn record_begin(&self, buffer: &mut [u8], block_size: u32) -> Refused;
+    fn record_put(&self, buffer: &mut [u8], position: u64, segment: SegmentFields) -> LengthAnswer;
 
     fn free_total(&self, device: Device, record: &[u8]) -> TotalAnswer;
     fn free_runs(&self, device: Device, record: &[u8], table: &mut [FreeRun]) -> CountAnswer;

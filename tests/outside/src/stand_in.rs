@@ -87,10 +87,10 @@ unsafe extern "C" fn amseokbin_read_found(
     front_length: usize,
     back: *const u8,
     back_length: usize,
-    record: *mut u8,
-    record_length: usize,
+    buffer: *mut u8,
+    buffer_length: usize,
 ) -> FoundAnswer {
-    Model.read_found(shared(front, front_length), shared(back, back_length), unique(record, record_length))
+    Model.read_found(shared(front, front_length), shared(back, back_length), unique(buffer, buffer_length))
 }
 
 #[no_mangle]
@@ -101,6 +101,25 @@ unsafe extern "C" fn amseokbin_in_step(
     back_length: usize,
 ) -> StepAnswer {
     Model.in_step(shared(front, front_length), shared(back, back_length))
+}
+
+#[no_mangle]
+unsafe extern "C" fn amseokbin_settled(
+    front: *const u8,
+    front_length: usize,
+    back: *const u8,
+    back_length: usize,
+    front_marks: *const u8,
+    front_marks_length: usize,
+    back_marks: *const u8,
+    back_marks_length: usize,
+) -> bool {
+    Model.settled(
+        shared(front, front_length),
+        shared(back, back_length),
+        shared(front_marks, front_marks_length),
+        shared(back_marks, back_marks_length),
+    )
 }
 
 #[no_mangle]
@@ -310,18 +329,18 @@ unsafe extern "C" fn amseokbin_record_segments(
 }
 
 #[no_mangle]
-unsafe extern "C" fn amseokbin_record_begin(record: *mut u8, record_length: usize, block_size: u32) -> Refused {
-    Model.record_begin(unique(record, record_length), block_size)
+unsafe extern "C" fn amseokbin_record_begin(buffer: *mut u8, buffer_length: usize, block_size: u32) -> Refused {
+    Model.record_begin(unique(buffer, buffer_length), block_size)
 }
 
 #[no_mangle]
 unsafe extern "C" fn amseokbin_record_put(
-    record: *mut u8,
-    record_length: usize,
+    buffer: *mut u8,
+    buffer_length: usize,
     position: u64,
     segment: SegmentFields,
 ) -> LengthAnswer {
-    Model.record_put(unique(record, record_length), position, segment)
+    Model.record_put(unique(buffer, buffer_length), position, segment)
 }
 
 #[no_mangle]

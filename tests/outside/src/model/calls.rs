@@ -7,7 +7,7 @@ use super::mend::Mend;
 use super::record::{self, check, check_length, Segment, HEAD_BYTES, SEGMENT_BYTES};
 use super::refusal::{self, require, Refusal};
 use super::update::Update;
-use super::{apply, crc, format, mend, room, update};
+use super::{apply, crc, format, mend, room, settled, update};
 use crate::interface::*;
 
 /// The independent implementation.
@@ -164,10 +164,10 @@ fn found_answer(found: &Found) -> FoundAnswer {
     }
 }
 
-fn read_found(front: &[u8], back: &[u8], record: &mut [u8]) -> Done<FoundAnswer> {
+fn read_found(front: &[u8], back: &[u8], buffer: &mut [u8]) -> Done<FoundAnswer> {
     let found = discovery::discover(front, back)?;
-    has_room(record, found.bytes)?;
-    record[..found.bytes].copy_from_slice(found.record([front, back]));
+    has_room(buffer, found.bytes)?;
+    buffer[..found.bytes].copy_from_slice(found.record([front, back]));
     Ok(found_answer(&found))
 }
 
@@ -232,19 +232,19 @@ fn record_segments(device: &Device, record: &[u8], position: u64, table: &mut [u
     Ok(CountAnswer { count: left.min(table.len() / 3) as u64, ..Default::default() })
 }
 
-fn record_begin(record: &mut [u8], block_size: u32) -> Done<()> {
+fn record_begin(buffer: &mut [u8], block_size: u32) -> Done<()> {
     // The room needed does not depend on the answer, so the lowest number that applies is given.
-    has_room(record, HEAD_BYTES)?;
-    record[..HEAD_BYTES].copy_from_slice(&record::head(block_size)?);
+    has_room(buffer, HEAD_BYTES)?;
+    buffer[..HEAD_BYTES].copy_from_slice(&record::head(block_size)?);
     Ok(())
 }
 
-fn record_put(record: &mut [u8], position: u64, segment: SegmentFields) -> Done<LengthAnswer> {
-    require(record::begins_with_head(record), Refusal::RecordForm)?;
+fn record_put(buffer: &mut [u8], position: u64, segment: SegmentFields) -> Done<LengthAnswer> {
+    require(record::begins_with_head(buffer), Refusal::RecordForm)?;
     let end = u128::from(position) * SEGMENT_BYTES as u128 + (HEAD_BYTES + SEGMENT_BYTES) as u128;
-    require(end <= record.len() as u128, Refusal::SliceSize)?;
+    require(end <= buffer.len() as u128, Refusal::SliceSize)?;
     let end = end as usize;
-    record[end - SEGMENT_BYTES..end].copy_from_slice(&Segment::from(segment).item());
+    buffer[end - SEGMENT_BYTES..end].copy_from_slice(&Segment::from(segment).item());
     Ok(LengthAnswer { length: end as u64, ..Default::default() })
 }
 
@@ -355,12 +355,16 @@ impl Interface for Model {
         answer(discovery::discover(front, back).map(|found| found_answer(&found)))
     }
 
-    fn read_found(&self, front: &[u8], back: &[u8], record: &mut [u8]) -> FoundAnswer {
-        answer(read_found(front, back, record))
+    fn read_found(&self, front: &[u8], back: &[u8], buffer: &mut [u8]) -> FoundAnswer {
+        answer(read_found(front, back, buffer))
     }
 
     fn in_step(&self, front: &[u8], back: &[u8]) -> StepAnswer {
         answer(in_step(front, back))
+    }
+
+    fn settled(&self, front: &[u8], back: &[u8], front_marks: &[u8], back_marks: &[u8]) -> bool {
+        settled::is_known(front, front_marks) && settled::is_known(back, back_marks)
     }
 
     fn apply(&self, device: Device, sector: u64, bytes: &[u8], front: &mut [u8], back: &mut [u8]) -> Refused {
@@ -458,12 +462,12 @@ impl Interface for Model {
         answer(record_segments(&device, record, position, table))
     }
 
-    fn record_begin(&self, record: &mut [u8], block_size: u32) -> Refused {
-        refused(record_begin(record, block_size))
+    fn record_begin(&self, buffer: &mut [u8], block_size: u32) -> Refused {
+        refused(record_begin(buffer, block_size))
     }
 
-    fn record_put(&self, record: &mut [u8], position: u64, segment: SegmentFields) -> LengthAnswer {
-        answer(record_put(record, position, segment))
+    fn record_put(&self, buffer: &mut [u8], position: u64, segment: SegmentFields) -> LengthAnswer {
+        answer(record_put(buffer, position, segment))
     }
 
     fn free_total(&self, device: Device, record: &[u8]) -> TotalAnswer {

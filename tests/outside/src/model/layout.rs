@@ -50,8 +50,8 @@ impl Device {
         self.check_reserved()
     }
 
-    // The sectors of blocks and areas are asked for any numbers, which a block that is not accepted may hold: a difference
-    // that would be negative is 0.
+    // The sectors of blocks and areas are asked for any numbers, also for those of a call that is refused: a difference that
+    // would be negative is 0.
 
     /// The sector of the signature block, front or back.
     pub fn block_sector(&self, side: usize) -> u64 {

@@ -63,7 +63,8 @@ impl Mend {
     }
 
     /// A store's bytes, and the sector that they go to. The copies have their size; they are those that the plan was made of,
-    /// perhaps with earlier stores applied, or any. 15 and 1 for the kept record's length, 23, and the writer's 4, 6 to 9.
+    /// perhaps with earlier stores applied, or any. 15 and 1 for the kept record's length, 23; then 4, 7, 8 for the device numbers
+    /// of the kept copy, and the writer's 6 and 9.
     pub fn store(&self, copies: [&[u8]; 2], number: u64, bytes: &mut BlockBytes) -> Result<u64, Refusal> {
         require(self.needed, Refusal::NoStore)?;
         let Block { identity, mut entries } = Block::fields(block_of(copies[self.kept]));
@@ -73,6 +74,7 @@ impl Mend {
         require(entry.bytes == self.bytes, Refusal::SliceSize)?;
         require(number < self.count(), Refusal::NoStore)?;
         let Identity { device, .. } = identity;
+        device.check()?;
         let other = if self.kept == FRONT { BACK } else { FRONT };
         let sectors = self.record_sectors();
         let other_block = |entry| Block { identity, entries: [entry, Entry::UNUSED] };
@@ -81,10 +83,9 @@ impl Mend {
             Ok(device.block_sector(other))
         } else if number <= sectors {
             let index = number - 1;
-            let sector = device.area_sector(other, 0).checked_add(index).ok_or(Refusal::NoStore)?;
             let record = &copies[self.kept][AREA_OFFSET[self.area]..][..length];
             record_sector(record, index, bytes);
-            Ok(sector)
+            Ok(device.area_sector(other, 0) + index)
         } else if number == sectors + 1 {
             *bytes = other_block(entry).write()?;
             Ok(device.block_sector(other))

@@ -10,6 +10,7 @@ pub mod mend;
 pub mod record;
 pub mod refusal;
 pub mod room;
+pub mod settled;
 pub mod update;
 
 mod calls;

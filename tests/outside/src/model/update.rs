@@ -71,7 +71,8 @@ impl Update {
     }
 
     /// A store's bytes, and the sector that they go to. The copies have their size, and the record the plan's length; the
-    /// copies are those that the plan was made of, perhaps with earlier stores applied, or any. 23, and the writer's 4, 6 to 9.
+    /// copies are those that the plan was made of, perhaps with earlier stores applied, or any. 23; then 4, 7, 8 for the device
+    /// numbers of the side's copy, and the writer's 6 and 9.
     pub fn store(
         &self,
         copies: [&[u8]; 2],
@@ -85,10 +86,10 @@ impl Update {
         let (index, area) = (number % half, self.areas[side]);
         let mut block = Block::fields(block_of(copies[side]));
         let device = block.identity.device;
+        device.check()?;
         if index < half - 1 {
-            let sector = device.area_sector(side, area).checked_add(index).ok_or(Refusal::NoStore)?;
             record_sector(record, index, bytes);
-            Ok(sector)
+            Ok(device.area_sector(side, area) + index)
         } else {
             block.entries[area] = self.entry;
             *bytes = block.write()?;

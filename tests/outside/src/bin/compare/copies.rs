@@ -1,4 +1,4 @@
-//! Each copy read alone, discovery, reading, in step, and mending, on two copies in any state.
+//! Each copy read alone, discovery, reading, in step, settled, and mending, on two copies in any state.
 
 use outside::ffi::Library;
 use outside::interface::{FoundAnswer, Interface, MendPlan};
@@ -9,7 +9,8 @@ use outside::sample::copies::{any_pair, damage_pair, in_step, payload};
 use outside::sample::numbers::{identity, time, wrong_length};
 
 use crate::blocks::length;
-use crate::plans::{foreign_copies, made_up_mend, store_number};
+use crate::marks::settled;
+use crate::plans::{broken_numbers, broken_uuid, foreign_copies, made_up_mend, store_number};
 use crate::readings::readings;
 use crate::run::Run;
 
@@ -18,6 +19,7 @@ pub fn case(run: &mut Run, rng: &mut Rng, _: u64) {
     let [front, back] = lend(rng, copies);
     readings(run, &front, &back);
     discovery(run, rng, &front, &back);
+    settled(run, rng, &front, &back);
     mend(run, rng, &front, &back);
 }
 
@@ -128,11 +130,25 @@ fn made_up(run: &mut Run, rng: &mut Rng, plan: MendPlan, [front, back]: [&Lent<u
     let number = store_number(rng, count);
     let answer = mend_store(run, rng, plan, [&front, &back], number);
     run.reached("a store of a mend that no call made");
-    if answer == 23 && number < count {
-        run.reached("mend_store, 23 for a sector past the last number");
-    }
+    note_numbers(run, plan, [&front, &back], number, answer);
     if answer == 1 && plan.needed != 0 && number < count {
         run.reached("mend_store, 1 for a record of another length");
+    }
+}
+
+/// Device numbers of the kept copy that are not allowed: 4, 7 or 8, after 23 and before what the block's writer refuses.
+fn note_numbers(run: &mut Run, plan: MendPlan, copies: [&Lent<u8>; 2], number: u64, answer: u64) {
+    let side = usize::from(plan.kept != 0);
+    let [kept, other] = [side, 1 - side].map(|side| broken_numbers(copies[side].part()));
+    let record = Library.mend_group(plan, number) == 1;
+    match (answer, kept) {
+        (4, _) if record => run.reached("mend_store, 4 for a store of the record"),
+        (7, _) if record => run.reached("mend_store, 7 for a store of the record"),
+        (8, _) if record => run.reached("mend_store, 8 for a store of the record"),
+        (7 | 8, _) if broken_uuid(copies[side].part()) => run.reached("mend_store, 7 or 8 before 6"),
+        (0, None) if other.is_some() => run.reached("mend_store, the other copy's device numbers not allowed"),
+        (23, Some(_)) if plan.needed != 0 => run.reached("mend_store, 23 before the device numbers"),
+        _ => {}
     }
 }
 

@@ -8,6 +8,7 @@ use outside::guard::Guarded;
 use outside::interface::{Answer, FreeRun, Interface, SegmentFields, UUID};
 use outside::model::block::Block;
 use outside::model::layout::{COPY, RECORD_LIMIT, SECTOR};
+use outside::model::settled::matters;
 use outside::model::Model;
 use outside::rng::Rng;
 use outside::sample::blocks::block;
@@ -162,6 +163,7 @@ fn copies(edge: &mut Edge, rng: &mut Rng) {
     edge.bytes("copy_read", [&front], |api, [copy]| api.copy_read(copy));
     edge.bytes("discover", [&front, &back], |api, [front, back]| api.discover(front, back));
     edge.bytes("in_step", [&front, &back], |api, [front, back]| api.in_step(front, back));
+    marks(edge, rng, [&front, &back]);
     edge.bytes("mend_plan", [&front, &back], |api, [front, back]| api.mend_plan(front, back));
     let found = Model.discover(&front, &back);
     let record = vec![7; if found.number() == 0 { found.bytes as usize } else { rng.index(RECORD_LIMIT) }];
@@ -175,6 +177,22 @@ fn copies(edge: &mut Edge, rng: &mut Rng) {
             api.mend_store(plan, front, back, number, bytes)
         });
     }
+}
+
+/// Marks at an edge, as many as are right; then each of the four slices empty, which is lent as a null pointer, in all ways.
+fn marks(edge: &mut Edge, rng: &mut Rng, copies: [&[u8]; 2]) {
+    let marks = copies.map(|copy| {
+        let unread = rng.coin();
+        matters(copy).map(|matters| u8::from(unread && !matters))
+    });
+    let slices: [&[u8]; 4] = [copies[0], copies[1], &marks[0], &marks[1]];
+    for empty in 0..16 {
+        let slices = [0, 1, 2, 3].map(|which| if empty >> which & 1 == 1 { &[] } else { slices[which] });
+        edge.bytes("settled", slices, |api, [front, back, front_marks, back_marks]| {
+            api.settled(front, back, front_marks, back_marks)
+        });
+    }
+    edge.run.reached("settled, empty slices");
 }
 
 fn updates(edge: &mut Edge, rng: &mut Rng) {

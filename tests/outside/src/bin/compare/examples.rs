@@ -30,6 +30,7 @@ pub fn case(run: &mut Run, _: &mut Rng, _: u64) {
         free_room(api, &mut expect);
         stores(api, &mut expect);
         worked(api, &mut expect);
+        unread(api, &mut expect);
     }
 }
 
@@ -227,4 +228,54 @@ fn worked(api: &dyn Interface, expect: &mut Expect) {
     let found = api.discover(&front, &back);
     expect("updated in memory", found.number() == 0 && found.time == time(11) && api.in_step(&front, &back).in_step);
     expect("the same in both", front == back);
+}
+
+/// Sectors that could not be read, one at a time: of copies with a record of 8 bytes in area a, and a later one of 28 in area b.
+fn unread(api: &dyn Interface, expect: &mut Expect) {
+    let time = |seconds| Time { seconds, nanoseconds: 0 };
+    let (mut front, mut back) = (vec![0; COPY], vec![0; COPY]);
+    api.format(&mut front, &mut back, DEVICE, UUID, UUID, time(10), &RECORD[..8]);
+    let matter = |front: &[u8], back: &[u8]| -> Vec<usize> {
+        let settled = |sector: usize| {
+            let mut marks = [0; 80];
+            marks[sector] = 1;
+            api.settled(front, back, &marks[..40], &marks[40..])
+        };
+        (0..80).filter(|&sector| !settled(sector)).collect()
+    };
+    expect("unread, a record in area a", matter(&front, &back) == [1, 8, 41, 48]);
+    let plan = api.update_plan(&front, &back, time(11), &RECORD).plan;
+    for number in 0..4 {
+        let mut bytes = [0; SECTOR];
+        let answer = api.update_store(plan, &front, &back, &RECORD, number, &mut bytes);
+        api.apply(DEVICE, answer.sector, &bytes, &mut front, &mut back);
+    }
+    expect("unread, a later record in area b", matter(&front, &back) == [1, 24, 41, 64]);
+    front[24 * SECTOR] ^= 1;
+    expect("unread, the later record torn in the front", matter(&front, &back) == [1, 8, 24, 41, 64]);
+    expect("unread, a slice that is no copy", matter(&front[1..], &back) == [1, 41, 64]);
+    expect("unread, no copies", matter(&[], &[]) == [1, 41]);
+    let marks = [0; 41];
+    let settled = |first, second| api.settled(&front, &back, &marks[..first], &marks[..second]);
+    expect("marks enough", settled(25, 25) && settled(40, 40) && settled(41, 41));
+    expect("marks too few", !settled(24, 25) && !settled(25, 24) && !settled(0, 40) && !settled(40, 0));
+
+    // S of 0 in the front's block, then L and R of 2^32 - 1 too: the lowest number that applies.
+    let mut bytes = [0; SECTOR];
+    let mut numbers = |front: &[u8]| -> Vec<u64> {
+        let mut store = |number| api.update_store(plan, front, &back, &RECORD, number, &mut bytes).number();
+        (0..5).map(&mut store).collect()
+    };
+    let (sectors, sizes) = (SECTOR + 20..SECTOR + 28, SECTOR + 160..SECTOR + 168);
+    let right = front[sectors.clone()].to_vec();
+    front[sectors.clone()].fill(0);
+    front[sizes.clone()].fill(0xff);
+    expect("stores where S, L and R are not allowed", numbers(&front) == [4, 4, 0, 0, 23]);
+    front[sectors].copy_from_slice(&right);
+    expect("stores where L and R are not allowed", numbers(&front) == [7, 7, 0, 0, 23]);
+    front[sizes.start..sizes.start + 4].copy_from_slice(&DEVICE.metadata.to_le_bytes());
+    front[SECTOR + 32] = b'g';
+    expect("stores where R and a UUID are not allowed", numbers(&front) == [8, 8, 0, 0, 23]);
+    front[sizes].copy_from_slice(&[DEVICE.metadata.to_le_bytes(), [0; 4]].concat());
+    expect("stores where a UUID is not allowed", numbers(&front) == [0, 6, 0, 0, 23]);
 }

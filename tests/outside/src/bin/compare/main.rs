@@ -13,6 +13,7 @@ mod edges;
 mod examples;
 mod expected;
 mod formats;
+mod marks;
 mod plans;
 mod readings;
 mod records;

@@ -1,7 +1,7 @@
 //! Plans that no call made, and copies that are not a plan's.
 
-use outside::interface::{EntryFields, MendPlan, Time, UpdatePlan};
-use outside::model::block::{seal, Block, ENTRY_OFFSET};
+use outside::interface::{Device, EntryFields, MendPlan, Time, UpdatePlan};
+use outside::model::block::{is_uuid, seal, Block, Identity, ENTRY_OFFSET};
 use outside::model::discovery::block_of;
 use outside::model::layout::RECORD_LIMIT;
 use outside::rng::Rng;
@@ -21,14 +21,22 @@ pub fn foreign_copies(rng: &mut Rng, copies: [&[u8]; 2]) -> [Vec<u8>; 2] {
                 let mut block = get_block(copy);
                 match rng.below(8) {
                     0 => rng.fill(&mut block),
-                    // A device that ends just below 2^64, with areas that reach past it.
-                    1 | 2 => {
+                    // A device that ends just below 2^64, at times with areas that would reach past it.
+                    1 => {
                         let sectors = u64::MAX - rng.below(4);
                         block[20..28].copy_from_slice(&sectors.to_le_bytes());
-                        let metadata = rng.below(8) as u32;
+                        let small = rng.below(8) as u32;
+                        let metadata = rng.one_of(&[small, Device::MIN_METADATA, Device::MAX_METADATA]);
                         block[160..164].copy_from_slice(&metadata.to_le_bytes());
                         if rng.coin() {
                             seal(&mut block);
+                        }
+                    }
+                    // More than one fault: of the device numbers, and of a UUID.
+                    2 => {
+                        for _ in 0..2 {
+                            let refusal = rng.one_of(&[4, 6, 6, 7, 8]);
+                            damage(rng, &mut block, refusal);
                         }
                     }
                     // Device numbers for which a difference would be negative.
@@ -54,6 +62,18 @@ pub fn foreign_copies(rng: &mut Rng, copies: [&[u8]; 2]) -> [Vec<u8>; 2] {
         }
     }
     copies
+}
+
+/// What the device numbers in a copy's block are refused with, if they are: 4, 7 or 8.
+pub fn broken_numbers(copy: &[u8]) -> Option<u64> {
+    let device = Block::fields(block_of(copy)).identity.device;
+    device.check().err().map(|refusal| u64::from(refusal.number()))
+}
+
+/// A UUID in a copy's block has a byte that is not allowed.
+pub fn broken_uuid(copy: &[u8]) -> bool {
+    let Identity { pool_uuid, device_uuid, .. } = Block::fields(block_of(copy)).identity;
+    !(is_uuid(&pool_uuid) && is_uuid(&device_uuid))
 }
 
 /// A side, an area or yes: 0 and 1, or any number.

@@ -1,4 +1,4 @@
-//! Updates: refusals, plans, stores and groups; laying a record into a copy.
+//! Updates: refusals, plans, stores and groups; settled; laying a record into a copy.
 
 use outside::ffi::Library;
 use outside::interface::{Interface, UpdatePlan};
@@ -12,7 +12,8 @@ use outside::sample::records::{any_record, record, segment_count};
 
 use crate::blocks::length;
 use crate::copies::lend;
-use crate::plans::{foreign_copies, made_up_update, store_number};
+use crate::marks::settled;
+use crate::plans::{broken_numbers, broken_uuid, foreign_copies, made_up_update, store_number};
 use crate::run::Run;
 
 pub fn case(run: &mut Run, rng: &mut Rng, _: u64) {
@@ -21,6 +22,7 @@ pub fn case(run: &mut Run, rng: &mut Rng, _: u64) {
     }
     let (identity, present, copies) = copies(rng);
     let lent = lend(rng, copies);
+    settled(run, rng, &lent[0], &lent[1]);
     let time = update_time(rng, present);
     let record = if rng.coin() {
         let count = segment_count(rng);
@@ -153,11 +155,26 @@ fn made_up(run: &mut Run, rng: &mut Rng, plan: UpdatePlan, [front, back, record]
     let number = store_number(rng, count);
     let answer = store(run, rng, plan, [&front, &back, &record], number);
     run.reached("a store of an update that no call made");
-    if answer == 23 && number < count {
-        run.reached("update_store, 23 for a sector past the last number");
-    }
+    note_numbers(run, plan, [&front, &back], number, answer);
     if answer == 1 && size != planned {
         run.reached("update_store, 1 for a record of another length");
+    }
+}
+
+/// Device numbers of the side's copy that are not allowed: 4, 7 or 8, after 23 and before what the block's writer refuses.
+fn note_numbers(run: &mut Run, plan: UpdatePlan, copies: [&Lent<u8>; 2], number: u64, answer: u64) {
+    let group = Library.update_group(plan, number);
+    let side = usize::from(group > 1);
+    let [own, other] = [side, 1 - side].map(|side| broken_numbers(copies[side].part()));
+    let area = group == 0 || group == 2;
+    match (answer, own) {
+        (4, _) if area => run.reached("update_store, 4 for a store to an area"),
+        (7, _) if area => run.reached("update_store, 7 for a store to an area"),
+        (8, _) if area => run.reached("update_store, 8 for a store to an area"),
+        (7 | 8, _) if broken_uuid(copies[side].part()) => run.reached("update_store, 7 or 8 before 6"),
+        (0, None) if other.is_some() => run.reached("update_store, the other copy's device numbers not allowed"),
+        (23, Some(_)) => run.reached("update_store, 23 before the device numbers"),
+        _ => {}
     }
 }
 
