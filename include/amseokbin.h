@@ -114,8 +114,8 @@
  * A copy in memory is 20,480 bytes: the 8 sectors of the header from `header` on, the first 16 sectors of area a from `a` on, the first
  * 16 of area b from `b` on. The signature block lies at AMSEOKBIN_BLOCK_OFFSET in it, the areas at AMSEOKBIN_AREA_A_OFFSET and
  * AMSEOKBIN_AREA_B_OFFSET. Fill a sector that cannot be read with zeros, and mark it: an unread sector of an area can make an older
- * record the newest whole one, and a mend or an update would then give the newer one up for good. amseokbin_settled says whether what was
- * not read matters; where it does, neither mend nor update.
+ * record the newest whole one, and a mend or an update would then give the newer one up for good. Unless amseokbin_settled says that what
+ * was not read does not matter, neither mend nor update.
  */
 #ifndef AMSEOKBIN_H
 #define AMSEOKBIN_H
@@ -373,9 +373,9 @@ struct amseokbin_step_answer {
 /* Whether two copies are in step; those that discovery refuses are not. 1. */
 struct amseokbin_step_answer amseokbin_in_step(const uint8_t *front, size_t front_length, const uint8_t *back, size_t back_length);
 
-/* Whether the sectors that could not be read matter to nothing: with any bytes in their places discovery, a mend and an update answer and
- * store the same. Marks have a byte for each of a copy's AMSEOKBIN_COPY_SECTORS sectors, 0 where it was read; one that is missing counts as
- * not read. */
+/* Whether it is sure that the sectors that could not be read matter to nothing: with any bytes in their places discovery, a mend and an
+ * update answer and store the same. Where it is not sure the answer is no. Marks have a byte for each of a copy's AMSEOKBIN_COPY_SECTORS
+ * sectors, 0 where it was read; one that is missing counts as not read. */
 bool amseokbin_settled(const uint8_t *front, size_t front_length, const uint8_t *back, size_t back_length,
                        const uint8_t *front_marks, size_t front_marks_length, const uint8_t *back_marks, size_t back_marks_length);
 
