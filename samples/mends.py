@@ -267,18 +267,18 @@ def samples():
         yield from part()
 
 
-def made_up(side, kept, area, n, blank=None, number=0, write=0):
+def made_up(side, kept, area, n, blank=None, number=0, device=0):
     """The stores of a plan that the program makes up itself: it keeps this copy, whose area gives the record's n bytes. The format says
     nothing of it; the library's promise says that a plan's store is refused with 15 where the entry's length is none, with 1 where it is
-    not the plan's, and a block that the writer refuses with the writer's number."""
+    not the plan's, and a store that is there with 7 where the kept copy's L is not allowed."""
     fields = read(kept)[1]
     used = fields.entries[area][2]
-    assert number == (15 if used == 0 else 1 if used != n else 0) and write == (7 if fields.identity[0][1] % 2 else 0)
+    assert number == (15 if used == 0 else 1 if used != n else 0) and device == (7 if fields.identity[0][1] % 2 else 0)
     stores = rewrite(side, fields, area, kept[OFFSETS[area]:OFFSETS[area] + n], blank)
     still = f"{crc32(LENT * SECTOR):08x}"
     yield f"stores {len(stores)}"
     for i, (group, sector, data) in enumerate(stores):
-        refused = number or (write if group != 1 else 0)
+        refused = number or device
         yield f"store {i} {group} " + (f"refused {refused} {still}" if refused else f"{sector} {crc32(data):08x}") + flush(stores, i)
     yield f"store {len(stores)} 4 refused {number or 23} {still}"
 
@@ -313,7 +313,7 @@ def main():
     lines += made_up("back", back, "a", 28)
     lines += made_up("front", front, "b", 799, number=1)
     lines += made_up("front", front, "a", 800, number=15)
-    lines += made_up("front", laid(front, [(SECTOR + 160, b"\xf9")]), "b", 800, write=7)
+    lines += made_up("front", laid(front, [(SECTOR + 160, b"\xf9")]), "b", 800, device=7)
     write("mend_samples", lines, stream)
     print(f"mends: {len(names)} samples, {len(stream)} bytes, {len(lines)} lines")
 
