@@ -594,8 +594,8 @@ struct amseokbin_allocation_answer {
     uint64_t length;
 };
 
-/* Appends a segment of a kind and so many sectors, in the free run of lowest start that is long enough. The new record goes to a buffer; bytes past it
- * stay. Then 17, 18, 21, 20, and 1 for too little room, last. */
+/* Appends a segment of a kind and so many sectors, in the free run of lowest start that is long enough. The new record goes to a buffer;
+ * bytes past it stay. Then 17, 18, 21, 20, and 1 for too little room, last. */
 struct amseokbin_allocation_answer amseokbin_allocate(struct amseokbin_device device, const uint8_t *record, size_t record_length,
                                                       uint16_t kind, uint64_t sectors, uint8_t *changed, size_t changed_length);
 
