@@ -289,7 +289,7 @@ struct amseokbin_words {
 /* What a refusal number says: the words beside it above, without a limit's value. 0 and numbers that are not known have words too. */
 struct amseokbin_words amseokbin_refusal_words(uint8_t number);
 
-/* The layout's CRC32 of a slice. */
+/* The layout's CRC32 of a slice: CRC-32C, Castagnoli's polynomial (reflected 0x82f63b78). "123456789" gives 0xe3069283, no bytes 0. */
 uint32_t amseokbin_checksum(const uint8_t *bytes, size_t bytes_length);
 
 /* The CRC32 of bytes whose CRC32 is `before`, with these after them; `before` is 0 for none. */

@@ -117,6 +117,8 @@ def checksums():
     wrong.append(crc[::-1] + good[4:])
     wrong.append(bytes(x ^ 255 for x in crc) + good[4:])
     wrong.append(bytes(4) + good[4:])
+    # the older polynomial
+    wrong.append(seal(good[4:], layout.OLDER_POLYNOMIAL))
     return [(b, 3) for b in wrong]
 
 

@@ -9,8 +9,10 @@ script stops.
 dump: one whole dump and its line. dump_samples: all samples, packed as `packed` in layout.py says, with the dump's size, and a
 line each.
 """
-from layout import (COPY, LONG, OFFSETS, OTHER, POOL, RECORD, SECTOR, UUID, WAYS, broken, copy, discover, held, line, packed,
-                    write)
+from hashlib import sha256
+
+from layout import (COPY, LONG, OFFSETS, OLDER_POLYNOMIAL, OTHER, POOL, RECORD, SECTOR, UUID, WAYS, broken, copy, discover, held,
+                    line, packed, read, write)
 
 
 def answer(dump):
@@ -20,6 +22,10 @@ def answer(dump):
 # The samples: name, dump, line.
 
 GOOD = copy(a=held(10, 5))
+# The same with the older polynomial, in block and area: to the byte the copy of which the program's sample dump was made before.
+OLDER = copy(a=held(10, 5, polynomial=OLDER_POLYNOMIAL), polynomial=OLDER_POLYNOMIAL)
+assert sha256(OLDER + OLDER).hexdigest() == "4899cbbeda382d4a8080fc7b566ccdf4570f60472f9b142bad6aa513af2743aa"
+assert read(OLDER)[0] == 3
 
 
 def samples():
@@ -98,6 +104,14 @@ def samples():
     apart = copy(a=held(10, 5, OTHER), b=held(12, 0))
     yield "earlier records of one time, the newest one record", copy(a=held(10, 5), b=held(12, 0)) + apart, \
         "found front b 28 12 0 both"
+
+    yield "the older polynomial in both", OLDER + OLDER, "refused 10"
+    yield "the older polynomial in front", OLDER + GOOD, "found back a 28 10 5 3"
+    yield "the older polynomial in back", GOOD + OLDER, "found front a 28 10 5 3"
+    block_only = copy(a=held(10, 5), polynomial=OLDER_POLYNOMIAL)
+    yield "the older polynomial in both blocks alone", block_only + block_only, "refused 10"
+    area_only = copy(a=held(10, 5, polynomial=OLDER_POLYNOMIAL))
+    yield "the older polynomial in both areas alone", area_only + area_only, "refused 12"
 
     one = copy(a=held(10, 5, b"\x00"))
     yield "a record of 1 byte", one + one, "found front a 1 10 5 both"

@@ -32,25 +32,29 @@ HEAD_KIND = 16
 
 # The checksum. Everything that has one comes from this polynomial, the checksum's table in the source too.
 
-POLYNOMIAL = 0xEDB88320
+POLYNOMIAL = 0x82F63B78
+# That of the drives and dumps made before; only samples of what is refused have it.
+OLDER_POLYNOMIAL = 0xEDB88320
 ONES = 0xFFFFFFFF
 
 
-def shifted(register, n):
+def shifted(register, n, polynomial=POLYNOMIAL):
     """The register after n bits have left it at its low end; for each that is 1, the polynomial is added."""
     for _ in range(n):
-        register = (register >> 1) ^ (POLYNOMIAL if register & 1 else 0)
+        register = (register >> 1) ^ (polynomial if register & 1 else 0)
     return register
 
 
-BYTES = [shifted(byte, 8) for byte in range(256)]
+@cache
+def shifted_bytes(polynomial):
+    return [shifted(byte, 8, polynomial) for byte in range(256)]
 
 
 @cache
-def crc32(data):
-    register = ONES
+def crc32(data, polynomial=POLYNOMIAL):
+    register, table = ONES, shifted_bytes(polynomial)
     for byte in data:
-        register = (register >> 8) ^ BYTES[(register ^ byte) & 255]
+        register = (register >> 8) ^ table[(register ^ byte) & 255]
     return register ^ ONES
 
 
@@ -99,9 +103,9 @@ def number(value, width):
     return value.to_bytes(width, "little")
 
 
-def seal(body):
+def seal(body, polynomial=POLYNOMIAL):
     """The block with these bytes 4 to 511 and their CRC."""
-    return number(crc32(body), 4) + body
+    return number(crc32(body, polynomial), 4) + body
 
 
 def block(device, pool, uuid, a=UNUSED, b=UNUSED, flags=0, signature=SIGNATURE):
@@ -285,9 +289,10 @@ class Area(NamedTuple):
     stored: bytes
 
 
-def held(seconds, nanoseconds, data=RECORD, used=None, stored=None):
+def held(seconds, nanoseconds, data=RECORD, used=None, stored=None, polynomial=POLYNOMIAL):
     """An area that holds a record; or with other used bytes, or other bytes stored, than its entry should have."""
-    return Area((seconds, nanoseconds, len(data) if used is None else used, crc32(data)), data if stored is None else stored)
+    entry = (seconds, nanoseconds, len(data) if used is None else used, crc32(data, polynomial))
+    return Area(entry, data if stored is None else stored)
 
 
 def broken(seconds, nanoseconds, data=RECORD):
@@ -308,9 +313,9 @@ def laid(data, parts):
 
 
 def copy(a=NO_AREA, b=NO_AREA, size=LEAST_SIZE, metadata=LEAST_METADATA, reserved=0, pool=POOL, uuid=UUID, lay=(),
-         sealed=True, after=(), **odd):
+         sealed=True, after=(), polynomial=POLYNOMIAL, **odd):
     """A copy. `lay` is laid over the block before it is sealed, `after` over the copy at the end."""
-    whole = seal(laid(block((size, metadata, reserved), pool, uuid, a.entry, b.entry, **odd), lay)[4:])
+    whole = seal(laid(block((size, metadata, reserved), pool, uuid, a.entry, b.entry, **odd), lay)[4:], polynomial)
     if not sealed:
         whole = laid(whole, [(0, bytes([whole[0] ^ 1]))])
     parts = [(SECTOR, whole), (OFFSETS["a"], a.stored), (OFFSETS["b"], b.stored)]

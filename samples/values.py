@@ -4,14 +4,43 @@
     python3 samples/values.py [FOLDER]
 
 It takes the checksums and the numbers of the same bytes as crates/check_values/src/main.rt. The script stops where a checksum
-is not the one that is published for the polynomial.
+is not the one that is published for its polynomial.
 """
-from layout import POLYNOMIAL, crc32, laid, number, write
+from layout import OLDER_POLYNOMIAL, POLYNOMIAL, crc32, laid, number, write
 
 FOX = b"The quick brown fox jumps over the lazy dog"
 ASCENDING = bytes(range(32))
-# For each polynomial the check values that others have published.
+# The read command of RFC 3720, appendix B.4.
+READ = bytes.fromhex("01 c0 00 00 00 00 00 00 00 00 00 00 00 00 00 00 14 00 00 00 00 00 04 00 00 00 00 14 00 00 00 18"
+                     "28 00 00 00 00 00 00 00 02 00 00 00 00 00 00 00")
+# What the checksum is taken of: the bytes and their name; then, for each polynomial, the check values that others have published.
+SUMMED = {
+    b"": "the empty string",
+    b"a": "a",
+    b"abc": "abc",
+    b"123456789": "123456789",
+    b"message digest": "message digest",
+    FOX: FOX.decode("ascii"),
+    bytes(32): "32 bytes of 0x00",
+    b"\xff" * 32: "32 bytes of 0xff",
+    ASCENDING: "32 bytes ascending from 0x00",
+    ASCENDING[::-1]: "32 bytes descending to 0x00",
+    READ: "a read command of 48 bytes",
+}
 PUBLISHED = {
+    0x82F63B78: {
+        b"": 0x00000000,
+        b"a": 0xC1D04330,
+        b"abc": 0x364B3FB7,
+        b"123456789": 0xE3069283,
+        b"message digest": 0x02BD79D0,
+        FOX: 0x22620404,
+        bytes(32): 0x8A9136AA,
+        b"\xff" * 32: 0x62A8AB43,
+        ASCENDING: 0x46DD794E,
+        ASCENDING[::-1]: 0x113FDB5C,
+        READ: 0xD9963A56,
+    },
     0xEDB88320: {
         b"": 0x00000000,
         b"a": 0xE8B7BE43,
@@ -40,10 +69,7 @@ def read(data, at, width):
 
 
 def checksums():
-    for data, name in ((b"", "the empty string"), (b"a", "a"), (b"abc", "abc"), (b"123456789", "123456789"),
-                       (b"message digest", "message digest"), (FOX, FOX.decode("ascii")), (bytes(32), "32 bytes of 0x00"),
-                       (b"\xff" * 32, "32 bytes of 0xff"), (ASCENDING, "32 bytes ascending from 0x00"),
-                       (ASCENDING[::-1], "32 bytes descending to 0x00")):
+    for data, name in SUMMED.items():
         say(crc32(data), name)
     for _ in range(len(b"123456789") + 1):
         say(crc32(b"123456789"), "123456789 in two pieces")
@@ -62,9 +88,11 @@ def numbers():
 
 
 def main():
-    assert POLYNOMIAL in PUBLISHED, f"no check values are here for the polynomial {POLYNOMIAL:#010x}"
-    for data, value in PUBLISHED[POLYNOMIAL].items():
-        assert crc32(data) == value, (data, f"{crc32(data):08x}", f"{value:08x}")
+    for polynomial in (POLYNOMIAL, OLDER_POLYNOMIAL):
+        assert polynomial in PUBLISHED, f"no check values are here for the polynomial {polynomial:#010x}"
+        for data, value in PUBLISHED[polynomial].items():
+            assert crc32(data, polynomial) == value, (data, f"{crc32(data, polynomial):08x}", f"{value:08x}")
+    assert PUBLISHED[POLYNOMIAL].keys() == SUMMED.keys()
     checksums()
     numbers()
     write("check_values", lines)

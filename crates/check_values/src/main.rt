@@ -57,6 +57,10 @@ fn checksums() {
     sum(&run(255, 0), b"32 bytes of 0xff");
     sum(&run(0, 1), b"32 bytes ascending from 0x00");
     sum(&run(31, 255), b"32 bytes descending to 0x00");
+    sum(
+        b"\x01\xc0\0\0\0\0\0\0\0\0\0\0\0\0\0\0\x14\0\0\0\0\0\x04\0\0\0\0\x14\0\0\0\x18\x28\0\0\0\0\0\0\0\x02\0\0\0\0\0\0\0",
+        b"a read command of 48 bytes",
+    );
     cuts(b"123456789", b"123456789 in two pieces");
 }
 

@@ -11,9 +11,10 @@ use lib.Seq.{drop-cons, drop-drop}
 use lib.Bits.{bitXor, xor-comm, xor-zero-r, xor-self, xor-lt, xor-shifted}
 use Rattle.endian.specs.Bytes.{le, window}
 use Rattle.endian.proofs.Numbers.{le-nil, le-cons}
-use Rattle.checksum.specs.Crc.{shifts, absorb, register, invert, checksum, continued}
-use Rattle.checksum.proofs.Xor.{xor-assoc}
-use Rattle.checksum.proofs.Shifts.{shifts-xor, shifts-add, shifts-scaled, shifts-below}
+use Rattle.shifts.specs.Shifts.{shifts}
+use Rattle.checksum.specs.Crc.{absorb, register, invert, checksum, continued}
+use Rattle.shifts.proofs.Xor.{xor-assoc}
+use Rattle.shifts.proofs.Laws.{shifts-none, shifts-xor, shifts-add, shifts-scaled, shifts-below}
 
 pub register-nil : (c : ℕ) → register c [] ≡ c
 unfolding register
@@ -49,10 +50,6 @@ pub absorb-shifts : (c b : ℕ) → absorb c b ≡ shifts 8 (bitXor c (b % 256))
 unfolding absorb
 absorb-shifts c b = refl
 
-pub shifts-none : (c : ℕ) → shifts 0 c ≡ c
-unfolding shifts
-shifts-none c = refl
-
 -- eight bits leave, with more bytes behind them
 absorbed : (c w l : ℕ) → w < 256 → shifts 8 (bitXor c (w + 256 * l)) ≡ bitXor (shifts 8 (bitXor c w)) l
 absorbed c w l h =
@@ -87,14 +84,14 @@ invert-below : (c : ℕ) → c < 2 ^ 32 → invert c < 2 ^ 32
 unfolding invert
 invert-below c h = xor-lt 32 c 0xFFFF_FFFF h (lit< tt)
 
-invert-twice : (c : ℕ) → invert (invert c) ≡ c
+pub invert-twice : (c : ℕ) → invert (invert c) ≡ c
 unfolding invert
 invert-twice c = xor-assoc c 0xFFFF_FFFF 0xFFFF_FFFF ∙ (ap (bitXor c) (xor-self 0xFFFF_FFFF) ∙ xor-zero-r c)
 
 -- a checksum is 32 bits wide
 pub checksum-below : (s : List ℕ) → checksum s < 2 ^ 32
 unfolding checksum
-checksum-below s = invert-below (register 0xFFFF_FFFF s) (register-below 0xFFFF_FFFF s (lit< tt))
+checksum-below s = invert-below _ (register-below _ s (lit< tt))
 
 pub continued-below : (c : ℕ) (s : List ℕ) → c < 2 ^ 32 → continued c s < 2 ^ 32
 unfolding continued

@@ -1,3 +1,3 @@
 -- What the contracts of `checksum` cite.
 pub mod Crc
-pub mod Table
+pub mod Demand

@@ -1,7 +1,7 @@
 -- `checksum::eight` meets its contract.
 use mathlib.Core.Path.{ap, ap₂, _∙_}
 use lib.Bits.{bitXor}
-use Rattle.checksum.specs.Crc.{shifts}
+use Rattle.shifts.specs.Shifts.{shifts}
 use Rattle.checksum.proofs.Lookup.{eight-law}
 use borrow.Author.Needs.{needs}
 use Rattle.checksum.proofs.eight.Statement.{statement}
@@ -22,7 +22,7 @@ far-word-requires c κs = search needs
 returns : tie.Need-returns
 returns c =
     ap₂ bitXor (c .far-word .ensures) (c .before .before .near-word .ensures ∙ ap (shifts 32) (c .before .before .before .read-u32 .ensures))
-    ∙ eight-law (c .before .before .before .before .before .args .c) (c .before .before .before .before .before .args .s .now) _ (c .before .before .before .before .before .fits .c .fits) (c .before .before .before .before .before .pre .1)
+    ∙ eight-law (c .before .before .before .before .before .args .c) (c .before .before .before .before .before .args .s .now) _ (c .before .before .before .before .before .fits .c .fits) (c .before .before .before .before .before .pre)
     (ap (bitXor (c .before .before .before .before .before .args .c)) (c .before .read-u322 .ensures))
 
 pub eight-spec : {M : Type 1} → statement M

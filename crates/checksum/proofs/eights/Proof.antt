@@ -11,16 +11,16 @@ use Rattle.checksum.proofs.eights.Statement.{statement}
 use Rattle.checksum.proofs.eights.Tie as tie
 
 abbrev Inv-loop : tie.InvT-loop
-Inv-loop t c s r₀ i₀ r i = (i ≤ length s) × (i % 8 ≡ 0) × (register r (drop i s) ≡ register c s)
+Inv-loop c s r₀ i₀ r i = (i ≤ length s) × (i % 8 ≡ 0) × (register r (drop i s) ≡ register c s)
 
 abbrev μ-loop : tie.MeasureT-loop
-μ-loop t c s r₀ i₀ r i = length s - i
+μ-loop c s r₀ i₀ r i = length s - i
 
 loop-holds : tie.Need-loop-holds Inv-loop μ-loop
 loop-holds c = (omega arith, refl, refl)
 
 add-eight : tie.Need-add-eight Inv-loop μ-loop
-add-eight c = omega (arith, c .before .before .before .pre .1)
+add-eight c = omega (arith, c .before .before .before .pre)
 
 sub-eight : tie.Need-sub-eight Inv-loop μ-loop
 sub-eight c = omega arith
@@ -29,13 +29,13 @@ part-eight-start : tie.Need-part-eight-start Inv-loop μ-loop
 part-eight-start c = omega arith
 
 part-eight-end : tie.Need-part-eight-end Inv-loop μ-loop
-part-eight-end c = omega (arith, c .before .before .before .pre .1)
+part-eight-end c = omega (arith, c .before .before .before .pre)
 
 eight-requires : tie.Need-eight-requires Inv-loop μ-loop
-eight-requires c κs = (c .before .before .before .before .pre .0, rw (length-take, length-drop) (omega (arith, c .before .before .before .before .pre .1)))
+eight-requires c κs = rw (length-take, length-drop) (omega (arith, c .before .before .before .before .pre))
 
 add-i : tie.Need-add-i Inv-loop μ-loop
-add-i c = omega (arith, c .before .before .before .before .before .pre .1)
+add-i c = omega (arith, c .before .before .before .before .before .pre)
 
 loop-less : tie.Need-loop-less Inv-loop μ-loop
 loop-less c = omega arith
@@ -45,7 +45,7 @@ loop-again c =
     let s : List ℕ = c .before .before .before .before .before .args .s .now in
     let i : ℕ = c .before .before .before .loop .i in
     let r : ℕ = c .before .before .before .loop .r in (
-      omega (arith, c .before .before .before .before .before .pre .1),
+      omega (arith, c .before .before .before .before .before .pre),
       omega arith,
       ap (λ (x : ℕ). register x (drop (i + 8) s)) (c .eight .ensures ∙ ap (register r) (window-part s i 8))
           ∙ (sym (register-part r s i 8) ∙ c .before .before .before .loop .inv .2),

@@ -6,14 +6,15 @@ use native.Mathlib.Omega.{arith}
 use lib.ListN.{length, drop}
 use Rattle.checksum.specs.Crc.{register}
 use Rattle.checksum.proofs.Laws.{register-drop, register-end}
+use borrow.Author.Needs.{needs}
 use Rattle.checksum.proofs.ones.Statement.{statement}
 use Rattle.checksum.proofs.ones.Tie as tie
 
 abbrev Inv-loop : tie.InvT-loop
-Inv-loop t c s r₀ i₀ r i = (i ≤ length s) × (register r (drop i s) ≡ register c s)
+Inv-loop c s r₀ i₀ r i = (i ≤ length s) × (register r (drop i s) ≡ register c s)
 
 abbrev μ-loop : tie.MeasureT-loop
-μ-loop t c s r₀ i₀ r i = length s - i
+μ-loop c s r₀ i₀ r i = length s - i
 
 loop-holds : tie.Need-loop-holds Inv-loop μ-loop
 loop-holds c = (omega arith, refl)
@@ -22,7 +23,7 @@ shared-slice-read-one : tie.Need-shared-slice-read-one Inv-loop μ-loop
 shared-slice-read-one c = omega arith
 
 one-requires : tie.Need-one-requires Inv-loop μ-loop
-one-requires c κs = c .before .before .before .before .pre
+one-requires c κs = search needs
 
 add-i : tie.Need-add-i Inv-loop μ-loop
 add-i c = omega arith

@@ -12,9 +12,6 @@ use borrow.Author.Needs.{needs}
 use Rattle.checksum.proofs.run.Statement.{statement}
 use Rattle.checksum.proofs.run.Tie as tie
 
-entries-requires : tie.Need-entries-requires
-entries-requires c κs = search needs
-
 mul-n : tie.Need-mul-n
 mul-n c = search needs
 
@@ -22,26 +19,26 @@ slice-aggregate-eights : tie.Need-slice-aggregate-eights
 slice-aggregate-eights c = rw length-take (omega arith)
 
 eights-requires : tie.Need-eights-requires
-eights-requires c κs = (c .before .before .before .entries .ensures, rw length-take (omega arith))
+eights-requires c κs = rw length-take (omega arith)
 
-sub-few : tie.Need-sub-few
-sub-few c = search needs
+sub-ones : tie.Need-sub-ones
+sub-ones c = search needs
 
-part-few-start : tie.Need-part-few-start
-part-few-start c = search needs
+part-ones-start : tie.Need-part-ones-start
+part-ones-start c = search needs
 
-part-few-end : tie.Need-part-few-end
-part-few-end c = search needs
+part-ones-end : tie.Need-part-ones-end
+part-ones-end c = search needs
 
-few-requires : tie.Need-few-requires
-few-requires c κs = search needs
+ones-requires : tie.Need-ones-requires
+ones-requires c κs = search needs
 
 returns : tie.Need-returns
 returns c =
-    let s : List ℕ = c .before .before .before .before .before .before .before .before .args .s .now in
-    let k : ℕ = c .before .before .before .before .before .before .before .before .args .c in
+    let s : List ℕ = c .before .before .before .before .before .args .s .now in
+    let k : ℕ = c .before .before .before .before .before .args .c in
     let n : ℕ = length s / 8 * 8 in
-    c .few .ensures
+    c .ones .ensures
     ∙ (ap₂ register (c .before .before .eights .ensures) (take-all (length s - n) (drop n s) (rw length-drop (le-refl (length s - n))))
     ∙ (sym (register-append k (take n s) (drop n s)) ∙ ap (register k) (take-append-drop n s)))
 
@@ -49,12 +46,11 @@ pub run-spec : {M : Type 1} → statement M
 run-spec =
     tie.close
     (tie.spec
-    entries-requires
     mul-n
     slice-aggregate-eights
     eights-requires
-    sub-few
-    part-few-start
-    part-few-end
-    few-requires
+    sub-ones
+    part-ones-start
+    part-ones-end
+    ones-requires
     returns)

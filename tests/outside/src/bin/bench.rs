@@ -1,7 +1,9 @@
 //! Compares the library's speed with the independent implementation's: the same input, in the same run, in turn.
 //!
-//! Build it for release and run it on an idle machine. It is no part of the tests.
+//! Build it for release and run it on an idle machine. It is no part of the tests. The checksum's rows have zlib's `crc32` beside them
+//! where `libz.so.1` is installed: another polynomial, the same work.
 
+use std::ffi::{c_char, c_int, c_uint, c_ulong, c_void, CStr};
 use std::hint::black_box;
 use std::time::Instant;
 
@@ -42,33 +44,40 @@ fn main() {
 
 /// Times a call by both and prints a row.
 fn row(name: &str, mut call: impl FnMut(&dyn Interface)) {
-    let (library, model): (&dyn Interface, &dyn Interface) = (&Library, &Model);
-    let repeats = [library, model].map(|api| repeats(api, &mut call));
-    let mut samples = [Vec::new(), Vec::new()];
+    let times = in_turn(2, |index| call([&Library as &dyn Interface, &Model][index]));
+    print_row(name, times[0], times[1]);
+}
+
+fn print_row(name: &str, library: f64, other: f64) {
+    println!("{name:48} {library:>9.1} ns {other:>9.1} ns {:>8.2}", library / other);
+}
+
+/// Nanoseconds for one call by each of so many, who take turns.
+fn in_turn(count: usize, mut call: impl FnMut(usize)) -> Vec<f64> {
+    let repeats: Vec<u64> = (0..count).map(|index| repeats(index, &mut call)).collect();
+    let mut samples = vec![Vec::new(); count];
     for round in 0..ROUNDS {
-        let order = if round % 2 == 0 { [0, 1] } else { [1, 0] };
-        for index in order {
-            let api = [library, model][index];
-            samples[index].push(sample(api, repeats[index], &mut call));
+        for turn in 0..count {
+            let index = if round % 2 == 0 { turn } else { count - 1 - turn };
+            samples[index].push(sample(index, repeats[index], &mut call));
         }
     }
-    let [library, model] = samples.map(median);
-    println!("{name:48} {:>9.1} ns {:>9.1} ns {:>8.2}", library, model, library / model);
+    samples.into_iter().map(median).collect()
 }
 
 /// Nanoseconds for one call.
-fn sample(api: &dyn Interface, repeats: u64, call: &mut impl FnMut(&dyn Interface)) -> f64 {
+fn sample(index: usize, repeats: u64, call: &mut impl FnMut(usize)) -> f64 {
     let start = Instant::now();
     for _ in 0..repeats {
-        call(api);
+        call(index);
     }
     start.elapsed().as_secs_f64() * 1e9 / repeats as f64
 }
 
 /// How many calls make a sample long enough.
-fn repeats(api: &dyn Interface, call: &mut impl FnMut(&dyn Interface)) -> u64 {
+fn repeats(index: usize, call: &mut impl FnMut(usize)) -> u64 {
     let mut repeats = 1;
-    while sample(api, repeats, call) * (repeats as f64) < SAMPLE * 1e9 {
+    while sample(index, repeats, call) * (repeats as f64) < SAMPLE * 1e9 {
         repeats *= 2;
     }
     repeats
@@ -123,11 +132,66 @@ fn clashing(rng: &mut Rng, count: usize, position: usize) -> Vec<u8> {
 }
 
 fn checksums(rng: &mut Rng) {
+    let zlib = Zlib::installed();
     for length in [SECTOR, RECORD_LIMIT] {
         let bytes = rng.bytes(length);
-        row(&format!("checksum of {length} bytes"), |api| {
-            black_box(api.checksum(black_box(&bytes)));
+        let count = if zlib.is_some() { 3 } else { 2 };
+        let times = in_turn(count, |index| {
+            let bytes = black_box(&bytes);
+            black_box(match index {
+                0 => Library.checksum(bytes),
+                1 => Model.checksum(bytes),
+                _ => zlib.as_ref().map_or(0, |zlib| zlib.checksum(bytes)),
+            });
         });
+        let name = format!("checksum of {length} bytes");
+        print_row(&name, times[0], times[1]);
+        match &zlib {
+            Some(zlib) => print_row(&format!("{name}, zlib {} as model", zlib.version), times[0], times[2]),
+            None => println!("{name}: no zlib beside it, libz.so.1 is not installed"),
+        }
+    }
+}
+
+extern "C" {
+    fn dlopen(name: *const c_char, flags: c_int) -> *mut c_void;
+    fn dlsym(library: *mut c_void, name: *const c_char) -> *mut c_void;
+}
+
+/// zlib as it is installed, found when the program runs, so that it builds without it.
+struct Zlib {
+    version: String,
+    crc32: unsafe extern "C" fn(c_ulong, *const u8, c_uint) -> c_ulong,
+}
+
+impl Zlib {
+    fn installed() -> Option<Zlib> {
+        const RTLD_NOW: c_int = 2;
+        // SAFETY: the names end in zero, and the two functions have these types in every zlib that has this soname.
+        unsafe {
+            let library = dlopen(c"libz.so.1".as_ptr(), RTLD_NOW);
+            if library.is_null() {
+                return None;
+            }
+            let [crc32, version] = [c"crc32", c"zlibVersion"].map(|name| dlsym(library, name.as_ptr()));
+            if crc32.is_null() || version.is_null() {
+                return None;
+            }
+            let version: extern "C" fn() -> *const c_char = std::mem::transmute(version);
+            let zlib = Zlib {
+                version: CStr::from_ptr(version()).to_string_lossy().into_owned(),
+                crc32: std::mem::transmute::<*mut c_void, unsafe extern "C" fn(c_ulong, *const u8, c_uint) -> c_ulong>(
+                    crc32,
+                ),
+            };
+            assert_eq!(zlib.checksum(b"123456789"), 0xCBF4_3926, "zlib's check value");
+            Some(zlib)
+        }
+    }
+
+    fn checksum(&self, bytes: &[u8]) -> u32 {
+        // SAFETY: reads `bytes` alone.
+        unsafe { (self.crc32)(0, bytes.as_ptr(), bytes.len() as c_uint) as u32 }
     }
 }
 

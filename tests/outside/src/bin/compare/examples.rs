@@ -37,12 +37,30 @@ pub fn case(run: &mut Run, _: &mut Rng, _: u64) {
 type Expect<'a> = dyn FnMut(&str, bool) + 'a;
 
 fn check_values(api: &dyn Interface, expect: &mut Expect) {
-    expect("check value of 123456789", api.checksum(b"123456789") == 0xCBF4_3926);
-    expect("CRC32 of nothing", api.checksum(b"") == 0);
-    expect("CRC32 of 32 zero bytes", api.checksum(&[0; 32]) == 0x190A_55AD);
-    expect("CRC32 of 32 bytes 255", api.checksum(&[0xff; 32]) == 0xFF6C_AB0B);
-    let fox = b"The quick brown fox jumps over the lazy dog";
-    expect("CRC32 of a sentence", api.checksum(fox) == 0x414F_A339);
+    let mut ascending = [0; 32];
+    (0..).zip(&mut ascending).for_each(|(value, byte)| *byte = value);
+    let mut descending = ascending;
+    descending.reverse();
+    // The read command of RFC 3720, appendix B.4: its bytes that are not zero.
+    let mut read = [0; 48];
+    for (at, byte) in
+        [(0, 0x01), (1, 0xc0), (16, 0x14), (22, 0x04), (27, 0x14), (31, 0x18), (32, 0x28), (40, 0x02)]
+    {
+        read[at] = byte;
+    }
+    let published: [(&str, &[u8], u32); 8] = [
+        ("123456789", b"123456789", 0xE306_9283),
+        ("nothing", b"", 0),
+        ("32 zero bytes", &[0; 32], 0x8A91_36AA),
+        ("32 bytes 255", &[0xff; 32], 0x62A8_AB43),
+        ("32 bytes from 0 up", &ascending, 0x46DD_794E),
+        ("32 bytes from 31 down", &descending, 0x113F_DB5C),
+        ("a read command", &read, 0xD996_3A56),
+        ("a sentence", b"The quick brown fox jumps over the lazy dog", 0x2262_0404),
+    ];
+    for (name, bytes, value) in published {
+        expect(&format!("CRC32 of {name}"), api.checksum(bytes) == value);
+    }
 }
 
 /// The head of a record: the lowest number that applies, for too little room and a block size that is not allowed.

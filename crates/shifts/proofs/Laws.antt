@@ -1,17 +1,22 @@
--- Laws of the register's shifts. Of the polynomial they use only that it is 32 bits wide.
-use Prim.Native.Nat.{ℕ, zero, suc, _+_, _*_, _/_, _%_, _^_, _<_}
+-- Laws of the register's shifts. Of the polynomial they use only that it is 32 bits wide and has the highest of them, that of x^0.
+use Prim.Native.Nat.{ℕ, zero, suc, _+_, _*_, _/_, _%_, _^_, _≤_, _<_}
 use mathlib.Core.Path.{_≡_, refl, sym, ap, ap₂, _∙_}
 use mathlib.Core.Bool.{Bool, true, false, cond}
 use native.Mathlib.Nat.{mod-lt, not-suc-le-zero, le-of-suc-le-suc, zero-add, suc-add, pow-suc, mul-one, mul-assoc}
 use native.Mathlib.Omega.{arith}
-use lib.Dec.{eqb, lit<}
+use borrow.Author.Tests.{eqb-false}
+use lib.Dec.{eqb, lit<, lit≤}
 use lib.Bits.{bitXor, differ, xor-comm, xor-zero-l, xor-zero-r, xor-self, xor-lt, xor-shifted}
-use Rattle.checksum.specs.Crc.{polynomial, shift, shifts}
-use Rattle.checksum.proofs.Xor.{xor-half, xor-odd, xor-assoc}
+use Rattle.shifts.specs.Shifts.{polynomial, shift, shifts}
+use Rattle.shifts.proofs.Xor.{xor-half, xor-odd, xor-assoc, xor-same}
 
-polynomial-width : polynomial < 2 ^ 32
+pub polynomial-width : polynomial < 2 ^ 32
 unfolding polynomial
 polynomial-width = lit< tt
+
+pub polynomial-highest : 2 ^ 31 ≤ polynomial
+unfolding polynomial
+polynomial-highest = lit≤ tt
 
 -- what is added as the lowest bit leaves
 added : ℕ → ℕ
@@ -41,17 +46,21 @@ added-xor a b =
     ap (λ (x : ℕ). cond (eqb x 1) polynomial 0) (xor-odd a b)
     ∙ added-bits (a % 2) (b % 2) (mod-lt a (lit< tt)) (mod-lt b (lit< tt))
 
-regroup : (p q r s : ℕ) → bitXor (bitXor p q) (bitXor r s) ≡ bitXor (bitXor p r) (bitXor q s)
+pub regroup : (p q r s : ℕ) → bitXor (bitXor p q) (bitXor r s) ≡ bitXor (bitXor p r) (bitXor q s)
 regroup p q r s =
     xor-assoc p q (bitXor r s)
     ∙ (ap (bitXor p) (sym (xor-assoc q r s) ∙ (ap (λ (x : ℕ). bitXor x s) (xor-comm q r) ∙ xor-assoc r q s))
     ∙ sym (xor-assoc p r (bitXor q s)))
 
-shift-xor : (a b : ℕ) → shift (bitXor a b) ≡ bitXor (shift a) (shift b)
+pub shift-xor : (a b : ℕ) → shift (bitXor a b) ≡ bitXor (shift a) (shift b)
 shift-xor a b =
     shift-added (bitXor a b)
     ∙ (ap₂ bitXor (xor-half a b) (added-xor a b)
     ∙ (regroup (a / 2) (b / 2) (added a) (added b) ∙ sym (ap₂ bitXor (shift-added a) (shift-added b))))
+
+pub shifts-none : (c : ℕ) → shifts 0 c ≡ c
+unfolding shifts
+shifts-none c = refl
 
 -- bits leave each of two registers as they leave their sum
 pub shifts-xor : (n a b : ℕ) → shifts n (bitXor a b) ≡ bitXor (shifts n a) (shifts n b)
@@ -65,12 +74,27 @@ unfolding shifts
 shifts-add zero n c = ap (λ (k : ℕ). shifts k c) (zero-add n)
 shifts-add (suc m) n c = ap (λ (k : ℕ). shifts k c) (suc-add m n) ∙ shifts-add m n (shift c)
 
-shift-double : (r : ℕ) → shift (r * 2) ≡ r
+pub shift-double : (r : ℕ) → shift (r * 2) ≡ r
 unfolding shift
 shift-double r =
     let e : r * 2 % 2 ≡ 0 = omega arith in
     let h : r * 2 / 2 ≡ r = omega arith in
     rw e h
+
+pub shift-odd : (r : ℕ) → shift (r * 2 + 1) ≡ bitXor r polynomial
+unfolding shift
+shift-odd r =
+    let o : (r * 2 + 1) % 2 ≡ 1 = omega arith in
+    let h : (r * 2 + 1) / 2 ≡ r = omega arith in
+    rw (o, h)
+
+pub shift-zero : shift 0 ≡ 0
+unfolding shift
+shift-zero = refl
+
+-- the polynomial with its highest power, which leaves first
+pub shift-divisor : shift (polynomial * 2 + 1) ≡ 0
+shift-divisor = shift-odd polynomial ∙ xor-self polynomial
 
 -- zeros leave and change nothing
 pub shifts-scaled : (k r : ℕ) → shifts k (r * 2 ^ k) ≡ r
@@ -79,11 +103,6 @@ shifts-scaled zero r = mul-one r
 shifts-scaled (suc k) r =
     ap (λ (x : ℕ). shifts k (shift x)) (ap (λ (p : ℕ). r * p) (pow-suc 2 k) ∙ sym (mul-assoc r (2 ^ k) 2))
     ∙ (ap (shifts k) (shift-double (r * 2 ^ k)) ∙ shifts-scaled k r)
-
-pub shifts-zero : (n : ℕ) → shifts n 0 ≡ 0
-unfolding shifts shift
-shifts-zero zero = refl
-shifts-zero (suc n) = shifts-zero n
 
 -- the lowest k bits and those above them, each by itself
 pub shifts-split : (k n w r : ℕ) → w < 2 ^ k → shifts (k + n) (r * 2 ^ k + w) ≡ bitXor (shifts n r) (shifts (k + n) w)
@@ -105,3 +124,22 @@ pub shifts-below : (n c : ℕ) → c < 2 ^ 32 → shifts n c < 2 ^ 32
 unfolding shifts
 shifts-below zero c h = h
 shifts-below (suc n) c h = shifts-below n (shift c) (shift-below c h)
+
+shift-nothing : (c : ℕ) → c < 2 ^ 32 → shift c ≡ 0 → c ≡ 0
+unfolding shift
+shift-nothing c h = go (eqb (c % 2) 1) refl
+  where
+    go : (b : Bool) → eqb (c % 2) 1 ≡ b → cond b (bitXor (c / 2) polynomial) (c / 2) ≡ 0 → c ≡ 0
+    go true e z =
+        let p : c / 2 ≡ polynomial = xor-same (c / 2) polynomial z in
+        let q : 2 ^ 31 ≤ polynomial = polynomial-highest in
+        omega arith
+    go false e z =
+        let n : c % 2 ≡ 1 → ⊥ = eqb-false (c % 2) 1 e in
+        omega arith
+
+-- of 32 bits that are not all zero something is left
+pub shifts-nothing : (n c : ℕ) → c < 2 ^ 32 → shifts n c ≡ 0 → c ≡ 0
+unfolding shifts
+shifts-nothing zero c h z = z
+shifts-nothing (suc n) c h z = shift-nothing c h (shifts-nothing n (shift c) (shift-below c h) z)

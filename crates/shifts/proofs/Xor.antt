@@ -5,7 +5,7 @@ use native.Mathlib.Nat.{mod-lt, not-suc-le-zero, le-of-suc-le-suc}
 use native.Mathlib.Omega.{arith}
 use lib.Dec.{lit<}
 use lib.Arith.{bin-ind}
-use lib.Bits.{bitXor, differ, xor-step, xor-zero-l, xor-shr}
+use lib.Bits.{bitXor, differ, xor-step, xor-zero-l, xor-zero-r, xor-self, xor-shr}
 
 pub xor-half : (a b : ℕ) → bitXor a b / 2 ≡ bitXor (a / 2) (b / 2)
 xor-half a b = xor-shr a b 1
@@ -46,3 +46,9 @@ xor-assoc =
     ∙ (ap₂ (λ (x y : ℕ). x * 2 + y) (ih (b / 2) (c / 2)) (differ-assoc (a % 2) (b % 2) (c % 2) (bit a) (bit b) (bit c))
     ∙ (sym (ap₂ (λ (x y : ℕ). bitXor (a / 2) x * 2 + differ (a % 2) y) (xor-half b c) (xor-odd b c))
     ∙ sym (xor-step a (bitXor b c))))))
+
+-- two that leave nothing are the same
+pub xor-same : (a b : ℕ) → bitXor a b ≡ 0 → a ≡ b
+xor-same a b z =
+    sym (xor-zero-r a)
+    ∙ (ap (bitXor a) (sym (xor-self b)) ∙ (sym (xor-assoc a b b) ∙ (ap (λ (x : ℕ). bitXor x b) z ∙ xor-zero-l b)))
