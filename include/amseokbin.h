@@ -17,10 +17,10 @@
  * Everything else is tested, and has a number.
  *
  * Answers. A call that can refuse answers a struct whose first field is the refusal, or the refusal alone: number 0 where the call did
- * what it says, else 1 to 23 (enum amseokbin_number). Then every other field is zero, and nothing that was lent is changed. Where
- * nothing else is said the lowest number that applies is given: 1 for a slice of another size is tested first, 1 for too little room for an
- * answer last. A copy has exactly AMSEOKBIN_COPY bytes, a block and a store exactly AMSEOKBIN_SECTOR; a record is lent with its own
- * length, a buffer with all its room.
+ * what it says, else 1 to 23 (enum amseokbin_number). Then every other field is zero, and nothing that was lent is changed. 19 alone has
+ * more: every call that gives it returns two segments that clash beside it (struct amseokbin_refusal). Where nothing else is said the lowest
+ * number that applies is given: 1 for a slice of another size is tested first, 1 for too little room for an answer last. A copy has exactly
+ * AMSEOKBIN_COPY bytes, a block and a store exactly AMSEOKBIN_SECTOR; a record is lent with its own length, a buffer with all its room.
  *
  * A worked example; the tests build and run it as it stands here. It makes a pool in two copies in memory, books 1,000 sectors, stores
  * the new record and finds it again. A device of your own takes the place of the two functions at the top.
@@ -42,6 +42,8 @@
  *         struct amseokbin_words w = amseokbin_refusal_words(r.number);
  *         if (r.number != AMSEOKBIN_OK)
  *             printf("%s: refused %d: %.*s\n", call, r.number, (int)w.used, (const char *)w.bytes);
+ *         if (r.number == AMSEOKBIN_SEGMENT_CLASH)
+ *             printf("%s: segments %u and %u\n", call, (unsigned)r.first, (unsigned)r.second);
  *         return r.number != AMSEOKBIN_OK;
  *     }
  *
@@ -209,7 +211,11 @@ enum amseokbin_kind {
 
 /* ---- What the layout has ------------------------------------------------------------------------------------------------- */
 
-/* A refusal: its number, and what stands beside it, which no number has yet: both zero. */
+/* A refusal: its number, and what stands beside it. Beside 19, AMSEOKBIN_SEGMENT_CLASH, those are two segments that share a sector: `first`
+ * is the lowest position that clashes with a later one, `second` the lowest such later position; others may clash too. Positions count from 0
+ * in the record that the call was handed, for an update the new one. amseokbin_record_segment refuses such a record too: a segment
+ * begins at byte AMSEOKBIN_HEAD + position * AMSEOKBIN_SEGMENT of it, with its length in bytes (2 bytes), its kind (2), its first sector (8)
+ * and its sectors (8), little-endian. Beside every other number, and beside 0, both are zero. */
 struct amseokbin_refusal {
     uint8_t number;
     uint64_t first;

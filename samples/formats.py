@@ -10,8 +10,8 @@ A sample, every number little-endian: the sizes of the two copies that are lent,
 in 8, nanoseconds in 4; the lengths of the pool UUID, the block device UUID and the record, 2 bytes each; then these three.
 Before each sample the front copy holds the first bytes of the whole input, and the back copy those from byte 7 on.
 """
-from layout import (COPY, LEAST_SIZE, MOST_NANOSECONDS, MOST_RESERVED, POOL, RECORD, SMALL, UUID, copy, crc32, data_range,
-                    discover, held, line, metadata_allowed, number, record, record_refusal, uuid_allowed, write)
+from layout import (COPY, LEAST_SIZE, MOST_NANOSECONDS, MOST_RESERVED, POOL, RECORD, SMALL, UUID, beside, copy, crc32,
+                    data_range, discover, held, line, metadata_allowed, number, record, record_refusal, uuid_allowed, write)
 
 LARGE = (2 ** 40 + 3, 16384, 65536)
 BACK_FROM = 7
@@ -114,7 +114,8 @@ def main():
             front = back = copy(held(*x["time"], x["data"]), size=size, metadata=metadata, reserved=reserved, pool=x["pool"],
                                 uuid=x["uuid"])
             lengths.add(len(x["data"]))
-        lines.append(f"{n} {crc32(front):08x} {crc32(back):08x} {line(discover(front, back))}")
+        named = " ".join(map(str, [n] + beside(n, x["data"])))
+        lines.append(f"{named} {crc32(front):08x} {crc32(back):08x} {line(discover(front, back))}")
     assert {8, 28, 508, 528, 8188} <= lengths, lengths
     assert {n for n, _ in stated} == {0, 1, 4, 6, 7, 8, 9, 15, 17, 18, 19}
     write("format_samples", lines, stream)

@@ -209,6 +209,14 @@ def record_refusal(device, data):
     return 19 if any(a[1] > b[0] for a, b in zip(taken, taken[1:])) else 0
 
 
+def beside(n, data):
+    """What stands beside the number n of a call that takes a record: for 19 alone the two segments that clash."""
+    if n != 19:
+        return []
+    held = list(enumerate(parse(data)[1]))
+    return next([i, j] for i, (_, a, m) in held for j, (_, b, n) in held if i < j and max(a, b) < min(a + m, b + n))
+
+
 def in_sectors(data):
     """A record as it is stored: sector by sector, the last one filled with zeros."""
     return [data[at:at + SECTOR].ljust(SECTOR, b"\0") for at in range(0, len(data), SECTOR)]

@@ -8,7 +8,7 @@ It runs the same records and requests as crates/record_samples/src/main.rt, by i
 import struct
 
 import layout
-from layout import KINDS, MOST_SEGMENTS, RECORD, RECORD_LIMIT, SMALL, data_range, device_refusal, item, parse, record, write
+from layout import KINDS, MOST_SEGMENTS, RECORD, SMALL, beside, data_range, device_refusal, item, parse, record, write
 
 MOST = 2 ** 64 - 1
 lines = []
@@ -52,48 +52,53 @@ def say(name, *values):
     lines.append(name + ":" + "".join(f" {value}" for value in values))
 
 
-def answer(name, number, *values):
-    """The values, or the refusal number."""
-    say(name, *(("refused", number) if number else values))
+def refused(number, data):
+    return "refused", number, *beside(number, data)
+
+
+def answer(name, number, data, *values):
+    """The values, or the refusal."""
+    say(name, *(refused(number, data) if number else values))
 
 
 def check(name, data, device=SMALL):
-    say(name, refusal(data, device))
+    n = refusal(data, device)
+    say(name, n, *beside(n, data))
 
 
 def head(data):
     n = refusal(data)
-    answer("block size", n, *([] if n else [parse(data)[0]]))
+    answer("block size", n, data, *([] if n else [parse(data)[0]]))
 
 
 def count(data):
     n = refusal(data)
-    answer("segments", n, *([] if n else [len(segments_of(data))]))
+    answer("segments", n, data, *([] if n else [len(segments_of(data))]))
 
 
 def segment(data, position):
     n = refusal(data)
     if not n and position >= len(segments_of(data)):
         n = 22
-    say("segment", position, *(("refused", n) if n else segments_of(data)[position]))
+    say("segment", position, *(refused(n, data) if n else segments_of(data)[position]))
 
 
 def run_at(data, k):
     n = refusal(data)
     found = [] if n else runs(data)
-    say("run", k, *(("refused", n) if n else found[k] if k < len(found) else (0, 0)))
+    say("run", k, *(refused(n, data) if n else found[k] if k < len(found) else (0, 0)))
 
 
 def free(data):
     n = refusal(data)
-    answer("free runs", n, *([] if n else [len(runs(data))]))
+    answer("free runs", n, data, *([] if n else [len(runs(data))]))
     low, high = data_range(SMALL)
-    answer("free total", n, *([] if n else [high - low - sum(s for _, _, s in segments_of(data))]))
+    answer("free total", n, data, *([] if n else [high - low - sum(s for _, _, s in segments_of(data))]))
 
 
 def fit(data, sectors):
     n = refusal(data) or (18 if sectors == 0 else 0) or (0 if first_run(data, sectors) else 20)
-    say("first fit for", sectors, *(("refused", n) if n else first_run(data, sectors)))
+    say("first fit for", sectors, *(refused(n, data) if n else first_run(data, sectors)))
 
 
 def allocate(data, kind, sectors, lent):
@@ -110,7 +115,7 @@ def allocate(data, kind, sectors, lent):
     if not n and lent < len(data) + 20:
         n = 1
     start = None if n else first_run(data, sectors)[0]
-    answer("allocated", n, start, len(data) + 20)
+    answer("allocated", n, data, start, len(data) + 20)
     return None if n else data + item(kind, start, sectors)
 
 
@@ -121,20 +126,8 @@ def release(data, position, lent):
         n = 22
     if not n and lent < len(data) - 20:
         n = 1
-    answer("released", n, len(data) - 20)
+    answer("released", n, data, len(data) - 20)
     return None if n else data[:8 + 20 * position] + data[28 + 20 * position:]
-
-
-def clash(data):
-    """The first two segments that share a sector, of a record of any content."""
-    if not 1 <= len(data) <= RECORD_LIMIT:
-        return say("clash", "refused", 15)
-    held = segments_of(data)
-    for i, (_, a, m) in enumerate(held):
-        for j, (_, b, n) in enumerate(held[:]):
-            if i < j and max(a, b) < min(a + m, b + n):
-                return say("clash", i, j)
-    return say("clash")
 
 
 def handed(what, data, position, lent):
@@ -145,7 +138,7 @@ def handed(what, data, position, lent):
         n = 1
     taken = [] if n else rest[:lent // 3]
     table = [x for g in taken for x in g] + [9] * (lent - 3 * len(taken))
-    say(what, position, n + 100 if n else len(taken), *table)
+    say(what, position, n + 100 if n else len(taken), *beside(n, data), *table)
 
 
 def shown(data, first, second):
@@ -155,6 +148,40 @@ def shown(data, first, second):
     free(data)
     run_at(data, 0)
     run_at(data, 1)
+
+
+def data_segments(*places):
+    return record(*((2, start, sectors) for start, sectors in places))
+
+
+def every_call():
+    """Two pairs that clash; every call names the lower one."""
+    data = data_segments((2048, 100), (3000, 50), (2147, 1), (3049, 10))
+    check("0 and 2, 1 and 3", data)
+    head(data)
+    count(data)
+    segment(data, 0)
+    segment(data, 4)
+    free(data)
+    run_at(data, 0)
+    fit(data, 1)
+    fit(data, 0)
+    for kind, sectors in ((1, 1), (5, 0)):
+        assert allocate(data, kind, sectors, 70) is None
+        say("two bytes left", 0x0707)
+    release(data, 2, 70)
+    handed("segments from", data, 0, 7)
+    handed("no room from", data, 1, 2)
+
+
+def clashes():
+    a, b, c = (3049, 10), (3010, 1), (3000, 50)
+    check("1 and 2, 1 and 3", data_segments((5000, 10), c, a, b))
+    check("1 and 3, 2 and 3", data_segments((5000, 10), a, b, c))
+    check("0 and 1, 1 and 3, 2 and 3", data_segments((3058, 2), a, b, c))
+    check("1 and 3, 2 and 3 beside one that touches", data_segments((3059, 2), (3049, 9), b, c))
+    check("1 and 3 beside an empty one", data_segments((3059, 2), (3049, 9), (3010, 0), c))
+    check("the same twice", two(2048, 100, 2048, 100))
 
 
 def main():
@@ -225,9 +252,11 @@ def main():
     check("L 2041", far, (2097152, 2041, 65537))
     check("R 65537", b"", (2097152, 2040, 65537))
     check("L 16384 and R 65536", far, (2097152, 16384, 65536))
-    for pair in ((2048, 100, 2147, 1), (2147, 1, 2048, 100), (2048, 100, 2148, 1), (2048, 100, 2050, 0), (MOST, 2, MOST, 1)):
-        clash(two(*pair))
-    clash(b"")
+    every_call()
+    clashes()
+    many = record(*((3, 2048 + i, 1) for i in range(408)))
+    check("the last two of 409", many + item(2, 2455, 2))
+    check("the first and the last of 409", many + item(2, 2048, 1))
     for position in (0, 1, 2, MOST):
         handed("segments from", example, position, 7)
     handed("segments from", two(2048, 100, 2147, 1), 0, 7)

@@ -5,7 +5,7 @@
 
 It runs the same records and devices as crates/run_table_samples/src/main.rt, by the rules of records.py.
 """
-from layout import SMALL, record, write
+from layout import SMALL, beside, record, write
 from records import MOST, refusal, runs
 
 ENTRIES = 3
@@ -20,7 +20,7 @@ def on(name, device, data):
     if len(found) > ENTRIES:
         number, found = 1, []
     table[:len(found)] = found
-    answer = f"refused {number}" if number else len(found)
+    answer = " ".join(map(str, ["refused", number] + beside(number, data))) if number else len(found)
     lines.append(f"{name}: {answer};" + "".join(f" {start} {sectors}" for start, sectors in table))
 
 
@@ -58,6 +58,7 @@ def main():
     show("past the data range", (2095103, 2))
     show("a sum that wraps", (MOST, 2))
     show("example 11", (2048, 100), (2147, 1))
+    show("three, of which the last two clash", *three(2048, 2200, 2209))
     data = record(*((2, start, sectors) for start, sectors in three(3000, 5000, 4000)))
     on("four runs, S 2097151", (2097151, 2040, 0), data)
     on("four runs, L 2041", (2097152, 2041, 0), data)

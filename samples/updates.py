@@ -7,8 +7,8 @@ The two copies are in step on one record, which the front holds in area a and th
 copy, then for each update seconds in 8 bytes, nanoseconds in 4, the record's length in 2, and the record, every number
 little-endian.
 """
-from layout import (COPY, ENTRY_OFFSETS, MOST_NANOSECONDS, OFFSETS, RECORD, RECORD_LIMIT, SECTOR, copy, crc32, data_range, held,
-                    in_sectors, laid, number, places, record, record_refusal, seal, write)
+from layout import (COPY, ENTRY_OFFSETS, MOST_NANOSECONDS, OFFSETS, RECORD, RECORD_LIMIT, SECTOR, beside, copy, crc32, data_range,
+                    held, in_sectors, laid, number, places, record, record_refusal, seal, write)
 
 DEVICE = SIZE, METADATA, RESERVED = 2097154, 2044, 3
 FIRST, END = data_range(DEVICE)
@@ -78,6 +78,7 @@ def main():
         ((11, 0), record((2, FIRST, 0))),
         ((11, 0), record((2, 2 ** 64 - 1, 2 ** 64 - 1))),
         ((11, 0), record((2, FIRST, 2), (2, FIRST + 1, 1))),
+        ((11, 0), record((1, FIRST + 20, 1), (2, FIRST + 5, 2), (3, FIRST, 9), (4, FIRST + 6, 3))),
         ((11, 5), full),
     ]
     stream, lines = front + back, []
@@ -85,7 +86,7 @@ def main():
         stream += number(time[0], 8) + number(time[1], 4) + number(len(data), 2) + data
         n = refusal(time, data)
         if n:
-            lines.append(f"refused {n}")
+            lines.append(" ".join(map(str, ["refused", n] + beside(n, data))))
             continue
         made = list(stores(front, back, time, data))
         lines.append(f"stores {len(made)}")

@@ -25,6 +25,7 @@ static void look(int holds, const char *what, int line)
 /* A flag is the byte 0 or 1. */
 #define FLAG(flag, value) look(byte_of(&(flag)) == (value), #flag " is " #value, __LINE__)
 #define OK(refusal) look(is_ok(refusal), #refusal " is 0", __LINE__)
+#define CLASH(refusal) look(is_clash(refusal), #refusal " is 19 with the pair", __LINE__)
 
 static int byte_of(const bool *flag)
 {
@@ -34,6 +35,8 @@ static int byte_of(const bool *flag)
 }
 
 static int is_ok(struct amseokbin_refusal r) { return r.number == 0 && r.first == 0 && r.second == 0; }
+/* The pair of the record that `clashes` makes. */
+static int is_clash(struct amseokbin_refusal r) { return r.number == 19 && r.first == 257 && r.second == 402; }
 
 static void sizes(void)
 {
@@ -99,7 +102,7 @@ static void sizes(void)
 }
 
 static uint8_t front[AMSEOKBIN_COPY], back[AMSEOKBIN_COPY], bytes[AMSEOKBIN_SECTOR];
-static uint8_t record[AMSEOKBIN_RECORD], changed[AMSEOKBIN_RECORD];
+static uint8_t record[AMSEOKBIN_RECORD], changed[AMSEOKBIN_RECORD], clash[AMSEOKBIN_RECORD];
 static const uint8_t pool[] = "0123456789abcdef0123456789abcdef", blockdev[] = "fedcba9876543210fedcba9876543210";
 static const uint8_t marks[AMSEOKBIN_COPY_SECTORS], unread[AMSEOKBIN_COPY_SECTORS] = {[24] = 2};
 static const struct amseokbin_device device = {3000000, 2044, 7};
@@ -222,6 +225,68 @@ static void records(void)
     OK(allocation.refusal), LOOK(allocation.start == 2111 && allocation.length == 68);
     length = amseokbin_release(device, changed, 68, 0, changed + 100, 48);
     OK(length.refusal), LOOK(length.length == 48);
+}
+
+/* Every call that can give 19 has the pair that clashes beside it, zero in every other field, and leaves what was lent as it was. */
+static void clashes(void)
+{
+    struct amseokbin_time early = {1000000000, 8}, late = {1000000000, 9};
+    struct amseokbin_segment segment = {AMSEOKBIN_THIN_DATA, 0, 10};
+    struct amseokbin_head_answer head;
+    struct amseokbin_segment_answer read;
+    struct amseokbin_count_answer count;
+    struct amseokbin_total_answer total;
+    struct amseokbin_run_answer run;
+    struct amseokbin_allocation_answer allocation;
+    struct amseokbin_length_answer length;
+    struct amseokbin_update_answer update;
+    struct amseokbin_refusal refused;
+    struct amseokbin_run table[1] = {{1, 2}};
+    uint64_t numbers[3] = {9, 9, 9};
+    size_t used = 0;
+
+    OK(amseokbin_format(COPIES, device, pool, 32, blockdev, 32, early, record, 48));
+    OK(amseokbin_record_begin(clash, sizeof clash, 256));
+    /* A row without gaps, but for two that lie where others do. */
+    for (uint64_t i = 0; i < AMSEOKBIN_MOST_SEGMENTS; i++) {
+        segment.start = 2059 + 10 * (i == 402 ? 257 : i == 408 ? 300 : i);
+        length = amseokbin_record_put(clash, sizeof clash, i, segment);
+        OK(length.refusal), used = (size_t)length.length;
+    }
+    LOOK(used == 8188);
+    CLASH(amseokbin_record_check(device, clash, used));
+    head = amseokbin_record_head(device, clash, used);
+    CLASH(head.refusal), LOOK(head.block_size == 0 && head.segments == 0);
+    read = amseokbin_record_segment(device, clash, used, 0);
+    CLASH(read.refusal), LOOK(read.segment.kind == 0 && read.segment.start == 0 && read.segment.sectors == 0);
+    count = amseokbin_record_segments(device, clash, used, 0, numbers, 3);
+    CLASH(count.refusal), LOOK(count.count == 0 && numbers[0] == 9 && numbers[1] == 9 && numbers[2] == 9);
+    total = amseokbin_free_total(device, clash, used);
+    CLASH(total.refusal), LOOK(total.sectors == 0);
+    count = amseokbin_free_runs(device, clash, used, table, 1);
+    CLASH(count.refusal), LOOK(count.count == 0 && table[0].start == 1 && table[0].sectors == 2);
+    count = amseokbin_run_count(device, clash, used);
+    CLASH(count.refusal), LOOK(count.count == 0);
+    run = amseokbin_run_at(device, clash, used, 0);
+    CLASH(run.refusal), LOOK(run.run.start == 0 && run.run.sectors == 0);
+    run = amseokbin_first_fit(device, clash, used, 1);
+    CLASH(run.refusal), LOOK(run.run.start == 0 && run.run.sectors == 0);
+    changed[0] = 77;
+    allocation = amseokbin_allocate(device, clash, used, AMSEOKBIN_THIN_DATA, 1, changed, sizeof changed);
+    CLASH(allocation.refusal), LOOK(allocation.start == 0 && allocation.length == 0);
+    length = amseokbin_release(device, clash, used, 0, changed, sizeof changed);
+    CLASH(length.refusal), LOOK(length.length == 0 && changed[0] == 77);
+    CLASH(amseokbin_update_check(COPIES, late, clash, used));
+    update = amseokbin_update_plan(COPIES, late, clash, used);
+    CLASH(update.refusal), LOOK(update.plan.entry.seconds == 0 && update.plan.entry.bytes == 0 && update.plan.front == 0);
+    CLASH(amseokbin_format(COPIES, device, pool, 32, blockdev, 32, late, clash, used));
+    LOOK(amseokbin_discover(COPIES).time.nanoseconds == 8);
+
+    /* The same with a place outside the data range: 18, and nothing beside it. */
+    segment.start = 2058;
+    OK(amseokbin_record_put(clash, sizeof clash, 5, segment).refusal);
+    refused = amseokbin_record_check(device, clash, used);
+    LOOK(refused.number == AMSEOKBIN_SEGMENT_PLACE && refused.first == 0 && refused.second == 0);
 }
 
 /* All stores of an update or a mend are applied to the copies. */
@@ -388,6 +453,7 @@ int main(void)
     small();
     blocks();
     records();
+    clashes();
     copies();
     plans();
     padding();

@@ -30,6 +30,7 @@ static const size_t length = AMSEOKBIN_HEAD + AMSEOKBIN_SEGMENT * SEGMENTS;
 
 #define COPIES front, sizeof front, back, sizeof back
 #define RECORD record, length
+#define CLASH clash, length
 
 static int nothing(void) { return 0; }
 static int versioned(void) { return amseokbin_version() != AMSEOKBIN_VERSION; }
@@ -40,7 +41,21 @@ static int comparing(void) { return !amseokbin_later(second, first); }
 static int locating(void) { return amseokbin_locate_blocks(device.sectors).refusal.number; }
 static int placing(void) { return amseokbin_places(device).refusal.number; }
 static int checking(void) { return amseokbin_record_check(device, RECORD).number; }
-static int clashing(void) { return amseokbin_record_check(device, clash, length).number; }
+/* 19 where the pair beside it is the last two segments. */
+static int paired(struct amseokbin_refusal r) {
+    return r.first == SEGMENTS - 2 && r.second == SEGMENTS - 1 ? r.number : -r.number;
+}
+static int clashing(void) { return paired(amseokbin_record_check(device, CLASH)); }
+static int clashing_in_runs(void) {
+    return paired(amseokbin_free_runs(device, CLASH, table, AMSEOKBIN_MOST_RUNS).refusal);
+}
+static int clashing_in_allocating(void) {
+    return paired(amseokbin_allocate(device, CLASH, 2, 20000, changed, sizeof changed).refusal);
+}
+static int clashing_in_planning(void) { return paired(amseokbin_update_plan(COPIES, second, CLASH).refusal); }
+static int clashing_in_formatting(void) {
+    return paired(amseokbin_format(COPIES, device, uuid, 32, uuid, 32, first, CLASH));
+}
 static int heading(void) { return amseokbin_record_head(device, RECORD).refusal.number; }
 static int taking_one(void) { return amseokbin_record_segment(device, RECORD, 7).refusal.number; }
 static int handing_on(void) {
@@ -157,12 +172,15 @@ int main(int words, char **word) {
         {"record_put", putting, 0},
         {"free_total", totalling, 0},
         {"free_runs", running_free, 0},
+        {"free_runs, 19", clashing_in_runs, 19},
         {"run_count", counting_runs, 0},
         {"run_at", running_one, 0},
         {"first_fit", fitting, 0},
         {"allocate", allocating, 0},
+        {"allocate, 19", clashing_in_allocating, 19},
         {"release", releasing, 0},
         {"format", formatting, 0},
+        {"format, 19", clashing_in_formatting, 19},
         {"format_count", format_counting, 0},
         {"format_group", format_grouping, 0},
         {"format_store", format_storing, 0},
@@ -176,6 +194,7 @@ int main(int words, char **word) {
         {"settled", settling, 0},
         {"update_check", testing, 0},
         {"update_plan", planning, 0},
+        {"update_plan, 19", clashing_in_planning, 19},
         {"update_count", counting, 0},
         {"update_group", grouping, 0},
         {"update_store, area", storing, 0},

@@ -11,7 +11,9 @@ use lib.ListN.{length, take, drop, length-append, drop-of-length-le}
 use lib.Seq.{length-take-le, take-length, drop-cons}
 use Rattle.endian.specs.Bytes.{zeros}
 use Rattle.endian.proofs.Tests.{length-zeros}
-use Rattle.refusal.specs.Numbers.{sliceSize, recordForm, segmentPlace, noRoom, recordFull}
+use Rattle.refusal.specs.declared.Refusal.{Refusal}
+use Rattle.refusal.specs.Numbers.{sliceSize, recordForm, segmentPlace, segmentClash, noRoom, recordFull}
+use Rattle.refusal.specs.Refusals.{plain}
 use Rattle.refusal.specs.Tests.{Test, _elseRefuse_, first}
 use Rattle.refusal.proofs.Order.{first-nil, first-pass, first-fail, refused, passed, answer-no, answer-yes}
 use Rattle.layout.specs.declared.Device.{Device}
@@ -30,11 +32,14 @@ use Rattle.items.specs.declared.Head.{Head}
 use Rattle.items.specs.Head.{headOf, allows, dataRange, rangeFor, itemBytes, mostSegments, mostOfAny}
 use Rattle.items.specs.Items.{itemsOf, segmentsIn, segments}
 use Rattle.order.specs.declared.Order.{Order}
+use Rattle.order.specs.declared.Clash.the-variants.{Nothing}
 use Rattle.record.specs.declared.Checked.{Checked}
-use Rattle.record.specs.Accept.{recordTests, checked}
+use Rattle.record.specs.Accept.{recordTests, named, checked}
 use Rattle.record.proofs.Testing.{more-no, more-yes}
 use Rattle.record.proofs.Accepted.{Accepted, accepted, ends, laid, fewer}
-use Rattle.record.proofs.Checking.{checked-number}
+use Rattle.record.proofs.Checking.{checked-refusal}
+use Rattle.record.proofs.Naming as Naming
+use Rattle.record.proofs.Naming.{named-other, named-again, refuse-no, refuse-yes}
 use Rattle.record.proofs.Demand.{order-is, order-taken}
 use Rattle.allocation.specs.declared.RunCount.{RunCount}
 use Rattle.allocation.specs.declared.RunCount.the-variants as RunCount
@@ -53,7 +58,7 @@ pub record Prepared (d : Device) (s : List ℕ) (q : Checked) (t : List ℕ) (n 
   pub chain : Chain (r .start) (r .end) (pickedAt (segmentsIn t) (take n (q .order .at)))
   pub runs : walked r (segmentsIn t) (take n (q .order .at)) ≡ runsIn d s
 
-pub prepared : (d : Device) (s : List ℕ) (q : Checked) (t : List ℕ) (n : ℕ) (r : Range) → q ≡ checked (first (recordTests d s)) s → q .number ≡ 0
+pub prepared : (d : Device) (s : List ℕ) (q : Checked) (t : List ℕ) (n : ℕ) (r : Range) → q ≡ checked (first (recordTests d s)) s → q .refusal .number ≡ 0
     → t ≡ itemsOf s → n ≡ length (segmentsIn t) → r ≡ dataRange d → Prepared d s q t n r
 prepared d s q t n r e z i m k =
     record {
@@ -69,12 +74,12 @@ prepared d s q t n r e z i m k =
     }
   where
     zero : first (recordTests d s) ≡ 0
-    zero = sym (checked-number q (first (recordTests d s)) s e) ∙ z
+    zero = sym (Naming.number-is (q .refusal) (first (recordTests d s)) s (checked-refusal q (first (recordTests d s)) s e)) ∙ z
 
     many : n ≡ length (segments s)
     many = m ∙ ap (λ (u : List ℕ). length (segmentsIn u)) i
 
-    the-order : q .order ≡ record { at = orderOf (segments s) ++ zeros (mostOfAny - length (segments s)); ordered = true }
+    the-order : q .order ≡ record { at = orderOf (segments s) ++ zeros (mostOfAny - length (segments s)); ordered = true; clash = Nothing }
     the-order = ap (λ (c : Checked). c .order) e ∙ order-is d s zero
 
     inside : n ≤ length (q .order .at)
@@ -85,9 +90,12 @@ prepared d s q t n r e z i m k =
     taken : take n (q .order .at) ≡ orderOf (segments s)
     taken = ap (λ (c : Checked). take n (c .order .at)) e ∙ (ap (λ (k : ℕ). take k (checked (first (recordTests d s)) s .order .at)) many ∙ order-taken d s zero)
 
--- the number of a check that refused
-pub number-is : (d : Device) (s : List ℕ) (q : Checked) → q ≡ checked (first (recordTests d s)) s → q .number ≡ first (recordTests d s)
-number-is d s q e = checked-number q (first (recordTests d s)) s e
+-- the refusal of a check: its number, and the same by its own number
+pub number-is : (d : Device) (s : List ℕ) (q : Checked) → q ≡ checked (first (recordTests d s)) s → q .refusal .number ≡ first (recordTests d s)
+number-is d s q e = Naming.number-is (q .refusal) (first (recordTests d s)) s (checked-refusal q (first (recordTests d s)) s e)
+
+pub refusal-is : (d : Device) (s : List ℕ) (q : Checked) → q ≡ checked (first (recordTests d s)) s → q .refusal ≡ named (q .refusal .number) s
+refusal-is d s q e = named-again (q .refusal) (first (recordTests d s)) s (checked-refusal q (first (recordTests d s)) s e)
 
 -- a search for m sectors: none asked for, no run long enough, one found
 pub fit-zero : (d : Device) (s : List ℕ) (rs : List Run) (m : ℕ) → first (recordTests d s) ≡ 0 → m < 1 → 18 ≡ first (recordTests d s ++ fitTests rs m)
@@ -177,18 +185,24 @@ range-is d s h r k z e f = f ∙ (ap (λ (v : Head). rangeFor d v k) e ∙ for-a
 abbrev pub Numbers : Device → List ℕ → List ℕ → RunCount → List ℕ → Type 0
 Numbers d s t a q = (a ≡ numbersAnswer d s (length t)) × (q ≡ numbersLeft d s t)
 
-pub numbers-no : (d : Device) (s t : List ℕ) (n : ℕ) → n ≡ first (tableTests d s (length t / 2)) → (n ≡ 0 → ⊥) → Numbers d s t (RunCount.Refused n) t
-numbers-no d s t n e h = (
-  answer-no (RunCount.Runs (length (runsIn d s))) RunCount.Refused n (first (tableTests d s (length t / 2))) e h,
-  answer-no (numbersOf (runsIn d s) ++ drop (2 * length (runsIn d s)) t) (λ (x : ℕ). t) n (first (tableTests d s (length t / 2))) e h,
+pub numbers-no : (d : Device) (s t : List ℕ) (r : Refusal) → r ≡ named (r .number) s → r .number ≡ first (tableTests d s (length t / 2)) → (r .number ≡ 0 → ⊥)
+    → Numbers d s t (RunCount.Refused r) t
+numbers-no d s t r g e h = (
+  refuse-no (RunCount.Runs (length (runsIn d s))) RunCount.Refused s r (first (tableTests d s (length t / 2))) g e h,
+  answer-no (numbersOf (runsIn d s) ++ drop (2 * length (runsIn d s)) t) (λ (x : ℕ). t) (r .number) (first (tableTests d s (length t / 2))) e h,
 )
+
+pub numbers-own : (d : Device) (s t : List ℕ) (n : ℕ) (r : Refusal) → r ≡ plain n → (n ≡ segmentClash → ⊥) → n ≡ first (tableTests d s (length t / 2)) → (n ≡ 0 → ⊥)
+    → Numbers d s t (RunCount.Refused r) t
+numbers-own d s t n r q g e h =
+    subst (λ (x : Refusal). Numbers d s t (RunCount.Refused x) t) (sym q) (numbers-no d s t (plain n) (sym (named-other n s g)) e h)
 
 pub numbers-yes : (d : Device) (s t : List ℕ) (k : ℕ) (rs : List Run) (q : List ℕ) → rs ≡ runsIn d s → k ≡ length rs → first (recordTests d s) ≡ 0 → k ≤ length t / 2
     → q ≡ numbersOf (take k rs) ++ drop (2 * k) t → Numbers d s t (RunCount.Runs k) q
 numbers-yes d s t k rs q e f z l h =
     let m : k ≡ length (runsIn d s) = f ∙ ap (λ (v : List Run). length v) e in
     let o : 0 ≡ first (tableTests d s (length t / 2)) = table-room d s (length t / 2) z (let v : length (runsIn d s) ≤ length t / 2 = omega arith in v) in (
-      ap RunCount.Runs m ∙ answer-yes (RunCount.Runs (length (runsIn d s))) RunCount.Refused 0 (first (tableTests d s (length t / 2))) o refl,
+      ap RunCount.Runs m ∙ refuse-yes (RunCount.Runs (length (runsIn d s))) RunCount.Refused s 0 (first (tableTests d s (length t / 2))) o refl,
       h
           ∙ (ap (λ (v : List Run). numbersOf v ++ drop (2 * k) t) (ap (λ (u : ℕ). take u rs) f ∙ (take-length rs ∙ e))
           ∙ (ap (λ (v : ℕ). numbersOf (runsIn d s) ++ drop (2 * v) t) m

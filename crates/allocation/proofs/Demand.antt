@@ -3,7 +3,7 @@ use Prim.Native.Nat.{ℕ, suc, _+_, _-_, _*_, _/_, _^_, _≤_, _<_}
 use mathlib.Core.Path.{_≡_, refl, sym, ap, _∙_, subst}
 use mathlib.Core.Bool.{Bool, true, false, cond, not, _&&_, _||_, and-true}
 use mathlib.Core.List.{List, [], _∷_, _++_}
-use native.Mathlib.Decide.{decLe}
+use native.Mathlib.Decide.{decLe, decLt}
 use native.Mathlib.Nat.{le-refl}
 use native.Mathlib.Omega.{arith}
 use borrow.Author.Tests.{le-leb, lt-ltb}
@@ -12,13 +12,13 @@ use lib.ListN.{length, take, drop, List·getD-append}
 use lib.Seq.{take-at, drop-at, split-at}
 use Rattle.endian.specs.Bytes.{splice, Bytes}
 use Rattle.endian.proofs.Parts.{splice-fits}
-use Rattle.refusal.specs.Tests.{first}
+use Rattle.refusal.specs.Tests.{Test, first}
 use Rattle.refusal.proofs.Order.{first-zero, first-after, first-all, answer-no, answer-yes}
 use Rattle.layout.specs.declared.Device.{Device}
 use Rattle.layout.specs.Limits.{recordLimit}
 use Rattle.layout.specs.Places.{dataStart, dataEnd}
 use Rattle.search.specs.Search.{one}
-use Rattle.search.proofs.Search.{and-false-right, both}
+use Rattle.search.proofs.Search.{and-false-right, both, not-true-false}
 use Rattle.segments.specs.declared.Segment.{Segment}
 use Rattle.segments.specs.declared.Range.{Range}
 use Rattle.segments.specs.Segments.{none, nth, endOf, holds, InRange}
@@ -33,34 +33,35 @@ use Rattle.runs.specs.Demand.{FreeRun, InRun, LowestFit}
 use Rattle.runs.proofs.Fit.{none-fits, fitting-no}
 use Rattle.runs.proofs.Fit as Fit
 use Rattle.runs.proofs.Demand.{longest, every-run, ascending, all-free, fit}
-use Rattle.items.specs.Head.{headOf, headSize, dataRange, rangeFor, itemBytes, mostSegments}
+use Rattle.items.specs.Head.{headOf, headSize, dataRange, rangeFor, itemBytes, mostSegments, allows}
 use Rattle.items.specs.Items.{segments}
 use Rattle.items.specs.Making.{recordOf, appended, removed, unless}
 use Rattle.items.proofs.Heads.{most-room, room-most}
 use Rattle.items.proofs.Items.{formed}
 use Rattle.items.proofs.Making.{length-record, length-appended, appended-is, removed-is}
-use Rattle.record.specs.Accept.{recordTests}
+use Rattle.record.specs.Accept.{recordTests, named}
 use Rattle.record.specs.Answers.{positionTests}
 use Rattle.record.specs.Demand.{Right}
-use Rattle.record.proofs.Testing.{record-ascending, more-yes}
+use Rattle.record.proofs.Testing.{record-ascending, more-no, more-yes}
+use Rattle.record.proofs.Naming.{refuse-own, refuse-yes}
 use Rattle.record.proofs.Accepted.{Accepted, accepted, laid}
 use Rattle.record.proofs.Right.{read-head, read-segments, accepted-made, accepted-right}
 use Rattle.record.proofs.Change.{right-append, right-remove, less}
-use Rattle.record.proofs.Demand.{order-taken, number-of}
+use Rattle.record.proofs.Demand.{order-taken, refusal-of}
 use Rattle.allocation.specs.declared.RunCount.the-variants as RunCount
 use Rattle.allocation.specs.declared.RunFound.the-variants as RunFound
 use Rattle.allocation.specs.declared.FreeTotal.the-variants as FreeTotal
 use Rattle.allocation.specs.declared.Allocation.the-variants as Allocation
 use Rattle.allocation.specs.declared.Released.the-variants as Released
 use Rattle.allocation.specs.Tables.{numbersOf}
-use Rattle.allocation.specs.Answers.{runsIn, runsNumber, runNumber, totalNumber, fitTests, tableTests, tableLeft, numbersLeft}
-use Rattle.allocation.specs.Change.{runsFor, ownTests, allocateTests, allocation, allocateLeft, allocationNumber, given, roomTests, releaseTests, released, releaseLeft, releaseNumber}
-use Rattle.allocation.specs.Demand.{freeIn, freeFor, Runs, Fitting, Tables, Grantable, Granted, Allocated, Allocates, Freeable, Freed, Releases, Refusing, Numbered}
+use Rattle.allocation.specs.Answers.{runsIn, runsRefusal, runRefusal, totalRefusal, fitTests, tableTests, tableLeft, numbersLeft}
+use Rattle.allocation.specs.Change.{runsFor, ownTests, allocateTests, allocation, allocateLeft, allocationRefusal, given, roomTests, releaseTests, released, releaseLeft, releaseRefusal}
+use Rattle.allocation.specs.Demand.{freeIn, freeFor, Runs, Fitting, Tables, Grantable, Granted, Allocated, Allocates, Freeable, Freed, Releases, RecordFirst, Owned, Refusing, Numbered, Valued}
 use Rattle.allocation.proofs.Finding.{runs-walked, for-any}
 use Rattle.allocation.proofs.Allowed.{Allowed, allowed, Releasable, releasable}
-use Rattle.allocation.proofs.Leaving.{release-passed}
+use Rattle.allocation.proofs.Leaving.{release-past, release-short, release-passed}
 use Rattle.allocation.proofs.Tables.{numbers-length, numbers-at}
-use Rattle.allocation.proofs.Calls.{fit-zero, fit-none, fit-some, table-short, table-room}
+use Rattle.allocation.proofs.Calls.{fit-zero, fit-none, fit-some, table-short, table-room, alloc-kind, alloc-zero, alloc-full, alloc-none, alloc-short}
 
 pub runs : Runs
 runs d s h =
@@ -82,16 +83,16 @@ not-false-true false h = absurd (h refl)
 
 pub fitting-run : Fitting
 fitting-run d s m z = (
-  λ l. sym (answer-no (RunFound.At (fitOf m (runsIn d s))) RunFound.Refused 18 (first (recordTests d s ++ fitTests (runsIn d s) m)) (fit-zero d s (runsIn d s) m z l) (λ q. omega arith)),
+  λ l. sym (refuse-own (RunFound.At (fitOf m (runsIn d s))) RunFound.Refused s 18 (first (recordTests d s ++ fitTests (runsIn d s) m)) (λ q. omega arith) (fit-zero d s (runsIn d s) m z l) (λ q. omega arith)),
   (
     λ k o l h. (
       fitOf m (runsIn d s),
       (
-        sym (answer-yes (RunFound.At (fitOf m (runsIn d s))) RunFound.Refused 0 (first (recordTests d s ++ fitTests (runsIn d s) m)) (fit-some d s (runsIn d s) m (fitOf m (runsIn d s)) z o refl (some k o l h)) refl),
+        sym (refuse-yes (RunFound.At (fitOf m (runsIn d s))) RunFound.Refused s 0 (first (recordTests d s ++ fitTests (runsIn d s) m)) (fit-some d s (runsIn d s) m (fitOf m (runsIn d s)) z o refl (some k o l h)) refl),
         fit (freeIn d s) (dataEnd d) m o .0 (long k o l h),
       ),
     ),
-    λ o h. sym (answer-no (RunFound.At (fitOf m (runsIn d s))) RunFound.Refused 20 (first (recordTests d s ++ fitTests (runsIn d s) m)) (fit-none d s (runsIn d s) m (fitOf m (runsIn d s)) z o refl (ap (λ (r : Run). r .sectors) (Fit.fit-none m (runsIn d s) (fit (freeIn d s) (dataEnd d) m o .1 .1 h)))) (λ q. omega arith)),
+    λ o h. sym (refuse-own (RunFound.At (fitOf m (runsIn d s))) RunFound.Refused s 20 (first (recordTests d s ++ fitTests (runsIn d s) m)) (λ q. omega arith) (fit-none d s (runsIn d s) m (fitOf m (runsIn d s)) z o refl (ap (λ (r : Run). r .sectors) (Fit.fit-none m (runsIn d s) (fit (freeIn d s) (dataEnd d) m o .1 .1 h)))) (λ q. omega arith)),
   ),
 )
   where
@@ -110,24 +111,24 @@ tables d s z =
           let o : 0 ≡ first (tableTests d s (length t)) = table-room d s (length t) z l in
           let e : tableLeft d s t ≡ runsIn d s ++ drop (length (runsIn d s)) t = sym (answer-yes (runsIn d s ++ drop (length (runsIn d s)) t) (λ (x : ℕ). t) 0 (first (tableTests d s (length t))) o refl) in
           record {
-            answer = sym (answer-yes (RunCount.Runs (length (runsIn d s))) RunCount.Refused 0 (first (tableTests d s (length t))) o refl);
+            answer = sym (refuse-yes (RunCount.Runs (length (runsIn d s))) RunCount.Refused s 0 (first (tableTests d s (length t))) o refl);
             each = λ k h. ap (λ (q : List Run). runAt q k) e ∙ List·getD-append (runsIn d s) (drop (length (runsIn d s)) t) noRun k h;
             past = ap (λ (q : List Run). drop (length (runsIn d s)) q) e ∙ drop-at (runsIn d s) (drop (length (runsIn d s)) t) (length (runsIn d s)) refl;
           };
       table-small = λ t l.
           let o : first (tableTests d s (length t)) ≡ 1 = sym (table-short d s (length t) z l) in
-          (refuses (RunCount.Runs (length (runsIn d s))) RunCount.Refused (first (tableTests d s (length t))) 1 o (omega arith), refuses (runsIn d s ++ drop (length (runsIn d s)) t) (λ (x : ℕ). t) (first (tableTests d s (length t))) 1 o (omega arith));
+          (sym (refuse-own (RunCount.Runs (length (runsIn d s))) RunCount.Refused s 1 (first (tableTests d s (length t))) (λ q. omega arith) (sym o) (λ q. omega arith)), refuses (runsIn d s ++ drop (length (runsIn d s)) t) (λ (x : ℕ). t) (first (tableTests d s (length t))) 1 o (omega arith));
       numbers = λ t l.
           let o : 0 ≡ first (tableTests d s (length t / 2)) = table-room d s (length t / 2) z (let v : length (runsIn d s) ≤ length t / 2 = omega arith in v) in
           let e : numbersLeft d s t ≡ numbersOf (runsIn d s) ++ drop (2 * length (runsIn d s)) t = sym (answer-yes (numbersOf (runsIn d s) ++ drop (2 * length (runsIn d s)) t) (λ (x : ℕ). t) 0 (first (tableTests d s (length t / 2))) o refl) in
           record {
-            answer = sym (answer-yes (RunCount.Runs (length (runsIn d s))) RunCount.Refused 0 (first (tableTests d s (length t / 2))) o refl);
+            answer = sym (refuse-yes (RunCount.Runs (length (runsIn d s))) RunCount.Refused s 0 (first (tableTests d s (length t / 2))) o refl);
             each = λ k h. ap (λ (q : List ℕ). take 2 (drop (2 * k) q)) e ∙ numbers-at (runsIn d s) k (drop (2 * length (runsIn d s)) t) h;
             past = ap (λ (q : List ℕ). drop (2 * length (runsIn d s)) q) e ∙ drop-at (numbersOf (runsIn d s)) (drop (2 * length (runsIn d s)) t) (2 * length (runsIn d s)) (numbers-length (runsIn d s));
           };
       numbers-small = λ t l.
           let o : first (tableTests d s (length t / 2)) ≡ 1 = sym (table-short d s (length t / 2) z (let v : length t / 2 < length (runsIn d s) = omega arith in v)) in
-          (refuses (RunCount.Runs (length (runsIn d s))) RunCount.Refused (first (tableTests d s (length t / 2))) 1 o (omega arith), refuses (numbersOf (runsIn d s) ++ drop (2 * length (runsIn d s)) t) (λ (x : ℕ). t) (first (tableTests d s (length t / 2))) 1 o (omega arith));
+          (sym (refuse-own (RunCount.Runs (length (runsIn d s))) RunCount.Refused s 1 (first (tableTests d s (length t / 2))) (λ q. omega arith) (sym o) (λ q. omega arith)), refuses (numbersOf (runsIn d s) ++ drop (2 * length (runsIn d s)) t) (λ (x : ℕ). t) (first (tableTests d s (length t / 2))) 1 o (omega arith));
     }
 
 -- EXACTLY WHEN AN ALLOCATION IS NOT REFUSED
@@ -181,6 +182,59 @@ freeable d s p w z = (forth, back)
 
     back : (p < length (segments s)) × (length s - itemBytes ≤ w) → first (releaseTests d s p w) ≡ 0
     back h = sym (more-yes d s (positionTests s p ++ roomTests s w) 0 0 (sym z) refl (release-passed s p w (h .0) (h .1)))
+
+-- THE RECORD FIRST, THEN THE CALL'S OWN TESTS
+pub record-first : RecordFirst
+record-first d s k m w l =
+    record {
+      runs = sym (no (RunCount.Runs (length (runsIn d s))) (λ (x : ℕ). RunCount.Refused (named x s)) (first (recordTests d s)) refl);
+      run = sym (no (RunFound.At (runAt (runsIn d s) k)) (λ (x : ℕ). RunFound.Refused (named x s)) (first (recordTests d s)) refl);
+      free = sym (no (FreeTotal.Sectors (freeSectors (dataRange d) (segments s))) (λ (x : ℕ). FreeTotal.Refused (named x s)) (first (recordTests d s)) refl);
+      fit = sym (no (RunFound.At (fitOf m (runsIn d s))) (λ (x : ℕ). RunFound.Refused (named x s)) (first (recordTests d s ++ fitTests (runsIn d s) m)) (more (fitTests (runsIn d s) m)));
+      table = sym (no (RunCount.Runs (length (runsIn d s))) (λ (x : ℕ). RunCount.Refused (named x s)) (first (tableTests d s w)) (more _));
+      numbers = sym (no (RunCount.Runs (length (runsIn d s))) (λ (x : ℕ). RunCount.Refused (named x s)) (first (tableTests d s (w / 2))) (more _));
+      allocation = sym (no (Allocation.Placed (given d s k m .start) (length s + itemBytes)) (λ (x : ℕ). Allocation.Refused (named x s)) (first (allocateTests d s k m w)) (more (ownTests d s k m w)));
+      release = sym (no (Released.Length (length s - itemBytes)) (λ (x : ℕ). Released.Refused (named x s)) (first (releaseTests d s k w)) (more (positionTests s k ++ roomTests s w)));
+    }
+  where
+    more : (us : List Test) → first (recordTests d s) ≡ first (recordTests d s ++ us)
+    more us = more-no d s us (first (recordTests d s)) refl (λ z. omega arith)
+
+    no : {A : Type 0} (value : A) (number : ℕ → A) (t : ℕ) → first (recordTests d s) ≡ t → number (first (recordTests d s)) ≡ cond (eqb t 0) value (number t)
+    no value number t e = answer-no value number (first (recordTests d s)) t e (λ z. omega arith)
+
+pub owned : Owned
+owned d s k m p w z =
+    record {
+      kind = λ a. sym (alloc-kind d s k m w z (allows (headOf s) k) refl (rw a refl));
+      zero = λ a l. sym (alloc-zero d s k m w z (allows (headOf s) k) refl (rw a refl) l);
+      full = λ a o l. sym (alloc-full d s k m w z (allows (headOf s) k) refl (rw a refl) o (not-few l));
+      none = λ a o l h.
+          sym (alloc-none d s k m w z (allows (headOf s) k) refl (rw a refl) o (room-most (headOf s) (length (segments s)) l) (fitOf m (runsFor d s k)) refl
+          (ap (λ (r : Run). r .sectors) (Fit.fit-none m (runsFor d s k) (unfit o h))));
+      short = λ v g l.
+          sym (alloc-short d s k m w z (allows (headOf s) k) refl (rw (g .kind) refl) (g .some) (room-most (headOf s) (length (segments s)) (g .more)) (fitOf m (runsFor d s k)) refl
+          (λ e. both (fitting m (runsFor d s k)) (fitted d s k m w z (g .some) (g .run .0) (g .run .1 .0) (g .run .1 .1)) (fitting-no m (runsFor d s k) (g .some) e)) l);
+      past = λ l. sym (more-yes d s (positionTests s p ++ roomTests s w) 0 22 (sym z) refl (release-past s p w l));
+      small = λ l h. sym (more-yes d s (positionTests s p ++ roomTests s w) 0 1 (sym z) refl (release-short s p w l h));
+    }
+  where
+    not-few : recordLimit < headSize (headOf s) + itemBytes * (length (segments s) + 1) → mostSegments (headOf s) ≤ length (segments s)
+    not-few l =
+        elim (decLt (length (segments s)) (mostSegments (headOf s))) [
+          | yes q ↦
+              let r : headSize (headOf s) + itemBytes * (length (segments s) + 1) ≤ recordLimit = most-room (headOf s) (length (segments s)) q in
+              absurd (omega arith)
+          | no q ↦ omega arith
+        ]
+
+    unfit : 1 ≤ m → ((r : Run) → FreeRun (freeFor d s k) (rangeFor d (headOf s) k .end) r → r .sectors < m) → fitting m (runsFor d s k) ≡ false
+    unfit o h =
+        not-true-false (fitting m (runsFor d s k)) (λ e.
+        let f : LowestFit (runsFor d s k) m (fitOf m (runsFor d s k)) = fit (freeFor d s k) (rangeFor d (headOf s) k .end) m o .0 e in
+        let q : fitOf m (runsFor d s k) .sectors < m = h (fitOf m (runsFor d s k)) (subst (FreeRun (freeFor d s k) (rangeFor d (headOf s) k .end)) (f .same) (longest (freeFor d s k) (rangeFor d (headOf s) k .end) (f .at) (f .there))) in
+        let u : m ≤ fitOf m (runsFor d s k) .sectors = f .long in
+        omega arith)
 
 -- what was laid over the start of a buffer, and the bytes past it
 laid-start : (out v : List ℕ) (n : ℕ) → length v ≡ n → n ≤ length out → take n (splice out 0 v) ≡ v
@@ -302,7 +356,7 @@ module _ (d : Device) (s : List ℕ) (k m : ℕ) (out : List ℕ) (small : d .se
   allocated-all : Allocated d s k m out
   allocated-all =
       record {
-        answer = ap (λ (n : ℕ). allocation n (given d s k m .start) (length s + itemBytes)) h;
+        answer = ap (λ (n : ℕ). allocation n s (given d s k m .start) (length s + itemBytes)) h;
         lowest = lowest;
         starts = refl;
         free = free;
@@ -388,7 +442,7 @@ module _ (d : Device) (s : List ℕ) (p : ℕ) (out : List ℕ) (small : d .sect
       rw rest
       (granting d after (gone .kind) (gone .sectors) w after-zero
       (record {
-        kind = rw (read-head d (headOf s) others small still) (accepted-right d s (may .zero) .kinds p (may .there));
+        kind = rw (read-head d (headOf s) others small still) (accepted-right d s (may .zero) .each .kinds p (may .there));
         some = laid d s taken .ranges p (may .there) .some;
         more = rw (read-head d (headOf s) others small still, read-segments d (headOf s) others small still) more-room;
         run = run-again;
@@ -399,7 +453,7 @@ module _ (d : Device) (s : List ℕ) (p : ℕ) (out : List ℕ) (small : d .sect
       fewer = less d (headOf s) (segments s) p (may .there)
 
       more-room : headSize (headOf s) + itemBytes * (length others + 1) ≤ recordLimit
-      more-room = rw fewer (accepted-right d s (may .zero) .bytes)
+      more-room = rw fewer (accepted-right d s (may .zero) .each .bytes)
 
       room-again : length after + itemBytes ≤ w
       room-again =
@@ -410,7 +464,7 @@ module _ (d : Device) (s : List ℕ) (p : ℕ) (out : List ℕ) (small : d .sect
   released-all : Freed d s p out
   released-all =
       record {
-        answer = ap (λ (n : ℕ). released n (length s - itemBytes)) h;
+        answer = ap (λ (n : ℕ). released n s (length s - itemBytes)) h;
         new = rest;
         past = ap (drop (length s - itemBytes)) released-leaves ∙ laid-rest out (removed s p) (length s - itemBytes) size (may .room);
         accepted = rw rest (accepted-made d (headOf s) others small still);
@@ -426,20 +480,29 @@ releases = released-all
 pub refusing : Refusing
 refusing d s n l =
     record {
-      allocation = λ k m out e. (refuses (Allocation.Placed (given d s k m .start) (length s + itemBytes)) Allocation.Refused (first (allocateTests d s k m (length out))) n e l, refuses (splice out 0 (appended s (given d s k m))) (λ (x : ℕ). out) (first (allocateTests d s k m (length out))) n e l);
-      release = λ p out e. (refuses (Released.Length (length s - itemBytes)) Released.Refused (first (releaseTests d s p (length out))) n e l, refuses (splice out 0 (removed s p)) (λ (x : ℕ). out) (first (releaseTests d s p (length out))) n e l);
-      table = λ t e. (refuses (RunCount.Runs (length (runsIn d s))) RunCount.Refused (first (tableTests d s (length t))) n e l, refuses (runsIn d s ++ drop (length (runsIn d s)) t) (λ (x : ℕ). t) (first (tableTests d s (length t))) n e l);
-      numbers = λ t e. (refuses (RunCount.Runs (length (runsIn d s))) RunCount.Refused (first (tableTests d s (length t / 2))) n e l, refuses (numbersOf (runsIn d s) ++ drop (2 * length (runsIn d s)) t) (λ (x : ℕ). t) (first (tableTests d s (length t / 2))) n e l);
+      allocation = λ k m out e. (refuses (Allocation.Placed (given d s k m .start) (length s + itemBytes)) (λ (x : ℕ). Allocation.Refused (named x s)) (first (allocateTests d s k m (length out))) n e l, refuses (splice out 0 (appended s (given d s k m))) (λ (x : ℕ). out) (first (allocateTests d s k m (length out))) n e l);
+      release = λ p out e. (refuses (Released.Length (length s - itemBytes)) (λ (x : ℕ). Released.Refused (named x s)) (first (releaseTests d s p (length out))) n e l, refuses (splice out 0 (removed s p)) (λ (x : ℕ). out) (first (releaseTests d s p (length out))) n e l);
+      table = λ t e. (refuses (RunCount.Runs (length (runsIn d s))) (λ (x : ℕ). RunCount.Refused (named x s)) (first (tableTests d s (length t))) n e l, refuses (runsIn d s ++ drop (length (runsIn d s)) t) (λ (x : ℕ). t) (first (tableTests d s (length t))) n e l);
+      numbers = λ t e. (refuses (RunCount.Runs (length (runsIn d s))) (λ (x : ℕ). RunCount.Refused (named x s)) (first (tableTests d s (length t / 2))) n e l, refuses (numbersOf (runsIn d s) ++ drop (2 * length (runsIn d s)) t) (λ (x : ℕ). t) (first (tableTests d s (length t / 2))) n e l);
     }
 
 pub numbered : Numbered
 numbered d s k m w =
     record {
-      runs = number-of runsNumber (RunCount.Runs (length (runsIn d s))) RunCount.Refused refl (λ n. refl) (first (recordTests d s));
-      run = number-of runNumber (RunFound.At (runAt (runsIn d s) k)) RunFound.Refused refl (λ n. refl) (first (recordTests d s));
-      free = number-of totalNumber (FreeTotal.Sectors (freeSectors (dataRange d) (segments s))) FreeTotal.Refused refl (λ n. refl) (first (recordTests d s));
-      fit = number-of runNumber (RunFound.At (fitOf m (runsIn d s))) RunFound.Refused refl (λ n. refl) (first (recordTests d s ++ fitTests (runsIn d s) m));
-      table = number-of runsNumber (RunCount.Runs (length (runsIn d s))) RunCount.Refused refl (λ n. refl) (first (tableTests d s w));
-      allocation = number-of allocationNumber (Allocation.Placed (given d s k m .start) (length s + itemBytes)) Allocation.Refused refl (λ n. refl) (first (allocateTests d s k m w));
-      release = number-of releaseNumber (Released.Length (length s - itemBytes)) Released.Refused refl (λ n. refl) (first (releaseTests d s k w));
+      runs = refusal-of runsRefusal (RunCount.Runs (length (runsIn d s))) RunCount.Refused s refl (λ r. refl) (first (recordTests d s));
+      run = refusal-of runRefusal (RunFound.At (runAt (runsIn d s) k)) RunFound.Refused s refl (λ r. refl) (first (recordTests d s));
+      free = refusal-of totalRefusal (FreeTotal.Sectors (freeSectors (dataRange d) (segments s))) FreeTotal.Refused s refl (λ r. refl) (first (recordTests d s));
+      fit = refusal-of runRefusal (RunFound.At (fitOf m (runsIn d s))) RunFound.Refused s refl (λ r. refl) (first (recordTests d s ++ fitTests (runsIn d s) m));
+      table = refusal-of runsRefusal (RunCount.Runs (length (runsIn d s))) RunCount.Refused s refl (λ r. refl) (first (tableTests d s w));
+      numbers = refusal-of runsRefusal (RunCount.Runs (length (runsIn d s))) RunCount.Refused s refl (λ r. refl) (first (tableTests d s (w / 2)));
+      allocation = refusal-of allocationRefusal (Allocation.Placed (given d s k m .start) (length s + itemBytes)) Allocation.Refused s refl (λ r. refl) (first (allocateTests d s k m w));
+      release = refusal-of releaseRefusal (Released.Length (length s - itemBytes)) Released.Refused s refl (λ r. refl) (first (releaseTests d s k w));
+    }
+
+pub valued : Valued
+valued d s k z =
+    record {
+      runs = sym (refuse-yes (RunCount.Runs (length (runsIn d s))) RunCount.Refused s (first (recordTests d s)) (first (recordTests d s)) refl z);
+      run = sym (refuse-yes (RunFound.At (runAt (runsIn d s) k)) RunFound.Refused s (first (recordTests d s)) (first (recordTests d s)) refl z);
+      free = sym (refuse-yes (FreeTotal.Sectors (freeSectors (dataRange d) (segments s))) FreeTotal.Refused s (first (recordTests d s)) (first (recordTests d s)) refl z);
     }

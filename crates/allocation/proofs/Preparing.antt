@@ -9,7 +9,9 @@ use borrow.Author.Tests.{le-leb, lt-leb, leb-true, eqb-true, ne-eqb}
 use lib.Dec.{leb, eqb}
 use lib.ListN.{length, take, drop}
 use lib.Seq.{take-all}
+use Rattle.refusal.specs.declared.Refusal.{Refusal}
 use Rattle.refusal.specs.Numbers.{sliceSize}
+use Rattle.refusal.specs.Refusals.{plain}
 use Rattle.refusal.specs.Tests.{Test, _elseRefuse_, first}
 use Rattle.refusal.proofs.Order.{first-nil, first-pass, first-fail, first-split}
 use Rattle.layout.specs.declared.Device.{Device}
@@ -19,10 +21,11 @@ use Rattle.runs.specs.declared.Run.{Run}
 use Rattle.items.specs.Head.{dataRange}
 use Rattle.items.specs.Items.{itemsOf, segmentsIn, segments}
 use Rattle.record.specs.declared.Checked.{Checked}
-use Rattle.record.specs.Accept.{recordTests, checked}
+use Rattle.record.specs.Accept.{recordTests, named, checked}
 use Rattle.record.proofs.Testing.{more-no, more-yes, record-numbered}
 use Rattle.record.proofs.Accepted.{accepted}
-use Rattle.record.proofs.Checking.{checked-number}
+use Rattle.record.proofs.Checking.{checked-refusal}
+use Rattle.record.proofs.Naming.{number-is, named-again, refuse-no, refuse-own, refuse-yes}
 use Rattle.record.proofs.Demand.{order-taken}
 use Rattle.allocation.specs.declared.RunCount.{RunCount}
 use Rattle.allocation.specs.declared.RunCount.the-variants.{Runs, Refused}
@@ -67,42 +70,44 @@ module _ (d : Device) (s p : List ℕ) (h : first (recordTests d s) ≡ 0) (o : 
   meant-runs = ap (walked (dataRange d) (segments s)) o ∙ sym (runs-walked d s (accepted d s h))
 
 -- what a check gives
-pub checking : (d : Device) (s : List ℕ) (c : Checked) → c ≡ checked (first (recordTests d s)) s → Checking d s (c .number) (c .order .at)
+pub checking : (d : Device) (s : List ℕ) (c : Checked) → c ≡ checked (first (recordTests d s)) s → Checking d s (c .refusal) (c .order .at)
 checking d s c e =
     record {
-      number = checked-number c _ s e;
+      refusal = checked-refusal c _ s e;
       order = λ h. ap (λ (z : Checked). meant s (z .order .at)) e ∙ order-taken d s h;
     }
 
 -- What is answered: a refused record, too little room, and every run.
-module _ (d : Device) (s : List ℕ) (w n : ℕ) (p : List ℕ) (c : Checking d s n p) where
+module _ (d : Device) (s : List ℕ) (w : ℕ) (n : Refusal) (p : List ℕ) (c : Checking d s n p) where
   abbrev last : List Test
   last = (leb (length (runsIn d s)) w elseRefuse sliceSize) ∷ []
 
-  refused : (k : ℕ) → (k ≡ 0 → ⊥) → k ≡ first (tableTests d s w) → Refused k ≡ tableAnswer d s w
-  refused k z e = sym (ap (λ (b : Bool). cond b (Runs (length (runsIn d s))) (Refused k)) (ne-eqb k 0 z)) ∙ ap (λ (m : ℕ). numbered m (length (runsIn d s))) e
+  number : n .number ≡ first (recordTests d s)
+  number = number-is n (first (recordTests d s)) s (c .refusal)
 
-  pub answer-no : (n ≡ 0 → ⊥) → Refused n ≡ tableAnswer d s w
-  answer-no z = refused n z (more-no d s last n (c .number) z)
+  pub answer-no : (n .number ≡ 0 → ⊥) → Refused n ≡ tableAnswer d s w
+  answer-no z = refuse-no (Runs (length (runsIn d s))) Refused s n (first (tableTests d s w)) (named-again n (first (recordTests d s)) s (c .refusal)) (more-no d s last (n .number) number z) z
 
-  module _ (z : n ≡ 0) where
+  module _ (z : n .number ≡ 0) where
     pub answer-chain : Chain (dataRange d .start) (dataRange d .end) (pickedAt (segments s) (meant s p))
-    answer-chain = meant-chain d s p (sym (c .number) ∙ z) (c .order (sym (c .number) ∙ z))
+    answer-chain = meant-chain d s p (sym number ∙ z) (c .order (sym number ∙ z))
 
     runs : (k : ℕ) → k ≡ length (walked (dataRange d) (segments s) (meant s p)) → k ≡ length (runsIn d s)
-    runs k e = e ∙ ap length (meant-runs d s p (sym (c .number) ∙ z) (c .order (sym (c .number) ∙ z)))
+    runs k e = e ∙ ap length (meant-runs d s p (sym number ∙ z) (c .order (sym number ∙ z)))
 
-    pub answer-short : (k : ℕ) → k ≡ length (walked (dataRange d) (segments s) (meant s p)) → w < k → Refused sliceSize ≡ tableAnswer d s w
-    answer-short k e l =
+    pub answer-short : (k : ℕ) (r : Refusal) → k ≡ length (walked (dataRange d) (segments s) (meant s p)) → w < k → r ≡ plain sliceSize → Refused r ≡ tableAnswer d s w
+    answer-short k r e l q =
         let f : k ≡ length (runsIn d s) = runs k e in
-        refused sliceSize (λ x. omega arith) (more-yes d s last n sliceSize (c .number) z (sym (first-fail (leb (length (runsIn d s)) w) sliceSize [] (lt-leb (length (runsIn d s)) w (omega arith)))))
+        ap Refused q
+        ∙ refuse-own (Runs (length (runsIn d s))) Refused s sliceSize (first (tableTests d s w)) (λ x. omega arith)
+        (more-yes d s last (n .number) sliceSize number z (sym (first-fail (leb (length (runsIn d s)) w) sliceSize [] (lt-leb (length (runsIn d s)) w (omega arith))))) (λ x. omega arith)
 
     pub answer-runs : (k : ℕ) → k ≡ length (walked (dataRange d) (segments s) (meant s p)) → k ≤ w → Runs k ≡ tableAnswer d s w
     answer-runs k e l =
         let f : k ≡ length (runsIn d s) = runs k e in
         ap Runs f
-        ∙ ap (λ (m : ℕ). numbered m (length (runsIn d s)))
-        (more-yes d s last n 0 (c .number) z (sym (first-pass (leb (length (runsIn d s)) w) sliceSize [] (le-leb (length (runsIn d s)) w (omega arith)) ∙ first-nil)))
+        ∙ refuse-yes (Runs (length (runsIn d s))) Refused s 0 (first (tableTests d s w))
+        (more-yes d s last (n .number) 0 number z (sym (first-pass (leb (length (runsIn d s)) w) sliceSize [] (le-leb (length (runsIn d s)) w (omega arith)) ∙ first-nil))) refl
 
 only-test : (b : Bool) → first ((b elseRefuse sliceSize) ∷ []) ≡ 0 → b ≡ true
 only-test true h = refl
@@ -118,8 +123,8 @@ pub record Filled (d : Device) (s p : List ℕ) (t : List Run) (n : ℕ) : Type 
 pub filled : (d : Device) (s p : List ℕ) (t : List Run) (a : RunCount) (n : ℕ) → Prepared d s (length t) a n p → Filled d s p t n
 filled d s p t a n c = go (eqb (first (tableTests d s (length t))) 0) refl
   where
-    entries : (b : Bool) → eqb (first (tableTests d s (length t))) 0 ≡ b → n ≡ entriesOf (cond b (Runs (length (runsIn d s))) (Refused (first (tableTests d s (length t)))))
-    entries b h = c .count ∙ ap entriesOf (c .answer ∙ ap (λ (x : Bool). cond x (Runs (length (runsIn d s))) (Refused (first (tableTests d s (length t))))) h)
+    entries : (b : Bool) → eqb (first (tableTests d s (length t))) 0 ≡ b → n ≡ entriesOf (cond b (Runs (length (runsIn d s))) (Refused (named (first (tableTests d s (length t))) s)))
+    entries b h = c .count ∙ ap entriesOf (c .answer ∙ ap (λ (x : Bool). cond x (Runs (length (runsIn d s))) (Refused (named (first (tableTests d s (length t))) s))) h)
 
     go : (b : Bool) → eqb (first (tableTests d s (length t))) 0 ≡ b → Filled d s p t n
     go true h =

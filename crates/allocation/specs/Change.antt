@@ -5,6 +5,8 @@ use mathlib.Core.List.{List, [], _∷_, _++_}
 use lib.Dec.{leb, ltb, eqb}
 use lib.ListN.{length}
 use Rattle.refusal.specs.Numbers.{sliceSize, recordForm, segmentPlace, noRoom, recordFull}
+use Rattle.refusal.specs.declared.Refusal.{Refusal}
+use Rattle.refusal.specs.Refusals.{plain}
 use Rattle.refusal.specs.Tests.{Test, _elseRefuse_, first}
 use Rattle.endian.specs.Bytes.{splice}
 use Rattle.layout.specs.declared.Device.{Device}
@@ -14,7 +16,7 @@ use Rattle.runs.specs.Runs.{fitOf, fitting}
 use Rattle.items.specs.Head.{headOf, allows, rangeFor, itemBytes, mostSegments}
 use Rattle.items.specs.Items.{segments}
 use Rattle.items.specs.Making.{unless, appended, removed}
-use Rattle.record.specs.Accept.{recordTests}
+use Rattle.record.specs.Accept.{recordTests, named}
 use Rattle.record.specs.Answers.{positionTests}
 use Rattle.allocation.specs.declared.Allocation.{Allocation}
 use Rattle.allocation.specs.declared.Allocation.the-variants as Allocation
@@ -44,23 +46,23 @@ allocateTests d s k m w = recordTests d s ++ ownTests d s k m w
 abbrev pub given : Device → List ℕ → ℕ → ℕ → Segment
 given d s k m = record { kind = k; start = fitOf m (runsFor d s k) .start; sectors = m }
 
-abbrev pub allocation : ℕ → ℕ → ℕ → Allocation
-allocation n start len = cond (eqb n 0) (Allocation.Placed start len) (Allocation.Refused n)
+abbrev pub allocation : ℕ → List ℕ → ℕ → ℕ → Allocation
+allocation n s start len = cond (eqb n 0) (Allocation.Placed start len) (Allocation.Refused (named n s))
 
 -- the new segment's first sector, and the new record's length
 abbrev pub allocateAnswer : Device → List ℕ → ℕ → ℕ → ℕ → Allocation
-allocateAnswer d s k m w = allocation (first (allocateTests d s k m w)) (given d s k m .start) (length s + itemBytes)
+allocateAnswer d s k m w = allocation (first (allocateTests d s k m w)) s (given d s k m .start) (length s + itemBytes)
 
 abbrev pub allocateLeft : Device → List ℕ → ℕ → ℕ → List ℕ → List ℕ
 allocateLeft d s k m out = unless (first (allocateTests d s k m (length out))) (splice out 0 (appended s (given d s k m))) out
 
-abbrev pub allocationNumber : Allocation → ℕ
-allocationNumber (Allocation.Placed start len) = 0
-allocationNumber (Allocation.Refused n) = n
+abbrev pub allocationRefusal : Allocation → Refusal
+allocationRefusal (Allocation.Placed start len) = plain 0
+allocationRefusal (Allocation.Refused r) = r
 
 abbrev pub allocationValues : Allocation → List ℕ
 allocationValues (Allocation.Placed start len) = start ∷ len ∷ []
-allocationValues (Allocation.Refused n) = []
+allocationValues (Allocation.Refused r) = []
 
 -- the last test of a release, after those of its record and of the position: whether the new record fits the w bytes lent
 abbrev pub roomTests : List ℕ → ℕ → List Test
@@ -69,20 +71,20 @@ roomTests s w = (leb (length s - itemBytes) w elseRefuse sliceSize) ∷ []
 abbrev pub releaseTests : Device → List ℕ → ℕ → ℕ → List Test
 releaseTests d s p w = recordTests d s ++ (positionTests s p ++ roomTests s w)
 
-abbrev pub released : ℕ → ℕ → Released
-released n len = cond (eqb n 0) (Released.Length len) (Released.Refused n)
+abbrev pub released : ℕ → List ℕ → ℕ → Released
+released n s len = cond (eqb n 0) (Released.Length len) (Released.Refused (named n s))
 
 -- the new record's length
 abbrev pub releaseAnswer : Device → List ℕ → ℕ → ℕ → Released
-releaseAnswer d s p w = released (first (releaseTests d s p w)) (length s - itemBytes)
+releaseAnswer d s p w = released (first (releaseTests d s p w)) s (length s - itemBytes)
 
 abbrev pub releaseLeft : Device → List ℕ → ℕ → List ℕ → List ℕ
 releaseLeft d s p out = unless (first (releaseTests d s p (length out))) (splice out 0 (removed s p)) out
 
-abbrev pub releaseNumber : Released → ℕ
-releaseNumber (Released.Length len) = 0
-releaseNumber (Released.Refused n) = n
+abbrev pub releaseRefusal : Released → Refusal
+releaseRefusal (Released.Length len) = plain 0
+releaseRefusal (Released.Refused r) = r
 
 abbrev pub releaseValues : Released → List ℕ
 releaseValues (Released.Length len) = len ∷ []
-releaseValues (Released.Refused n) = []
+releaseValues (Released.Refused r) = []

@@ -6,13 +6,14 @@ use mathlib.Core.Bool.{Bool, true, false, not, _&&_, _||_}
 use mathlib.Core.List.{List, [], _∷_, _++_}
 use lib.ListN.{length, take, drop}
 use Rattle.endian.specs.Bytes.{Bytes}
+use Rattle.refusal.specs.Refusals.{plain}
 use Rattle.refusal.specs.Tests.{first}
 use Rattle.layout.specs.declared.Device.{Device}
 use Rattle.layout.specs.Limits.{recordLimit}
 use Rattle.layout.specs.Places.{dataStart, dataEnd}
 use Rattle.segments.specs.declared.Segment.{Segment}
 use Rattle.segments.specs.Segments.{nth, holds}
-use Rattle.segments.specs.Sectors.{isFree}
+use Rattle.segments.specs.Sectors.{isFree, freeSectors}
 use Rattle.segments.specs.Order.{pickedAt}
 use Rattle.runs.specs.declared.Run.{Run}
 use Rattle.runs.specs.Runs.{runAt, fitOf}
@@ -21,13 +22,14 @@ use Rattle.runs.specs.Demand.{FreeRun, InRun, LowestFit}
 use Rattle.items.specs.Head.{headOf, headSize, allows, dataRange, rangeFor, itemBytes}
 use Rattle.items.specs.Items.{segments}
 use Rattle.items.specs.Making.{recordOf}
-use Rattle.record.specs.Accept.{recordTests, checked}
+use Rattle.record.specs.Accept.{recordTests, named, checked}
 use Rattle.allocation.specs.declared.RunCount.the-variants as RunCount
 use Rattle.allocation.specs.declared.RunFound.the-variants as RunFound
+use Rattle.allocation.specs.declared.FreeTotal.the-variants as FreeTotal
 use Rattle.allocation.specs.declared.Allocation.the-variants as Allocation
 use Rattle.allocation.specs.declared.Released.the-variants as Released
-use Rattle.allocation.specs.Answers.{runsIn, runsAnswer, runsNumber, runAnswer, runNumber, totalAnswer, totalNumber, fitTests, fitAnswer, tableTests, tableAnswer, tableLeft, numbersAnswer, numbersLeft}
-use Rattle.allocation.specs.Change.{runsFor, allocateTests, allocateAnswer, allocateLeft, allocationNumber, given, releaseTests, releaseAnswer, releaseLeft, releaseNumber}
+use Rattle.allocation.specs.Answers.{runsIn, runsAnswer, runsRefusal, runAnswer, runRefusal, totalAnswer, totalRefusal, fitTests, fitAnswer, tableTests, tableAnswer, tableLeft, numbersAnswer, numbersLeft}
+use Rattle.allocation.specs.Change.{runsFor, allocateTests, allocateAnswer, allocateLeft, allocationRefusal, given, releaseTests, releaseAnswer, releaseLeft, releaseRefusal}
 
 -- a sector of the data range in no segment of a record
 abbrev pub freeIn : Device → List ℕ → ℕ → Bool
@@ -55,10 +57,10 @@ Runs = (d : Device) (s : List ℕ) → first (recordTests d s) ≡ 0 → Free d 
 abbrev pub Fitting : Type 0
 Fitting =
     (d : Device) (s : List ℕ) (m : ℕ) → first (recordTests d s) ≡ 0
-    → (m < 1 → fitAnswer d s m ≡ RunFound.Refused 18)
+    → (m < 1 → fitAnswer d s m ≡ RunFound.Refused (plain 18))
     × (((k : ℕ) → 1 ≤ m → k < length (runsIn d s) → m ≤ runAt (runsIn d s) k .sectors
     → (r : Run) × ((fitAnswer d s m ≡ RunFound.At r) × LowestFit (runsIn d s) m r))
-    × (1 ≤ m → ((k : ℕ) → k < length (runsIn d s) → runAt (runsIn d s) k .sectors < m) → fitAnswer d s m ≡ RunFound.Refused 20))
+    × (1 ≤ m → ((k : ℕ) → k < length (runsIn d s) → runAt (runsIn d s) k .sectors < m) → fitAnswer d s m ≡ RunFound.Refused (plain 20)))
 
 -- A table t with the free runs: every entry is the run of its number, and the entries past the runs stay.
 pub record Tabled (d : Device) (s : List ℕ) (t : List Run) : Type 0 where
@@ -76,9 +78,9 @@ pub record Listed (d : Device) (s : List ℕ) (t : List ℕ) : Type 0 where
 -- The tables of an accepted record are filled exactly where they have room; otherwise 1, and every entry as it was.
 pub record Filling (d : Device) (s : List ℕ) : Type 0 where
   pub table : (t : List Run) → length (runsIn d s) ≤ length t → Tabled d s t
-  pub table-small : (t : List Run) → length t < length (runsIn d s) → (tableAnswer d s (length t) ≡ RunCount.Refused 1) × (tableLeft d s t ≡ t)
+  pub table-small : (t : List Run) → length t < length (runsIn d s) → (tableAnswer d s (length t) ≡ RunCount.Refused (plain 1)) × (tableLeft d s t ≡ t)
   pub numbers : (t : List ℕ) → 2 * length (runsIn d s) ≤ length t → Listed d s t
-  pub numbers-small : (t : List ℕ) → length t < 2 * length (runsIn d s) → (numbersAnswer d s (length t) ≡ RunCount.Refused 1) × (numbersLeft d s t ≡ t)
+  pub numbers-small : (t : List ℕ) → length t < 2 * length (runsIn d s) → (numbersAnswer d s (length t) ≡ RunCount.Refused (plain 1)) × (numbersLeft d s t ≡ t)
 
 abbrev pub Tables : Type 0
 Tables = (d : Device) (s : List ℕ) → first (recordTests d s) ≡ 0 → Filling d s
@@ -149,28 +151,68 @@ Releases =
     (d : Device) (s : List ℕ) (p : ℕ) (out : List ℕ) → d .sectors < 2 ^ 64 → Bytes s
     → first (releaseTests d s p (length out)) ≡ 0 → Freed d s p out
 
--- A call whose tests give a number that is not 0 answers that number and leaves what it was lent as it was.
+-- The record comes first: one that is refused is refused by every call, with its own number and what stands beside it, whatever else is asked.
+pub record Refused (d : Device) (s : List ℕ) (k m w : ℕ) : Type 0 where
+  pub runs : runsAnswer d s ≡ RunCount.Refused (named (first (recordTests d s)) s)
+  pub run : runAnswer d s k ≡ RunFound.Refused (named (first (recordTests d s)) s)
+  pub free : totalAnswer d s ≡ FreeTotal.Refused (named (first (recordTests d s)) s)
+  pub fit : fitAnswer d s m ≡ RunFound.Refused (named (first (recordTests d s)) s)
+  pub table : tableAnswer d s w ≡ RunCount.Refused (named (first (recordTests d s)) s)
+  pub numbers : numbersAnswer d s w ≡ RunCount.Refused (named (first (recordTests d s)) s)
+  pub allocation : allocateAnswer d s k m w ≡ Allocation.Refused (named (first (recordTests d s)) s)
+  pub release : releaseAnswer d s k w ≡ Released.Refused (named (first (recordTests d s)) s)
+
+abbrev pub RecordFirst : Type 0
+RecordFirst = (d : Device) (s : List ℕ) (k m w : ℕ) → 0 < first (recordTests d s) → Refused d s k m w
+
+-- Then, in an accepted record, the tests of an allocation's own in the format's order: 17 for its kind, 18 for no sectors, 21, 20, and 1 last; and those
+-- of a release of the segment at position p: 22, and 1 last.
+pub record OwnNumbers (d : Device) (s : List ℕ) (k m p w : ℕ) : Type 0 where
+  pub kind : allows (headOf s) k ≡ false → first (allocateTests d s k m w) ≡ 17
+  pub zero : allows (headOf s) k ≡ true → m < 1 → first (allocateTests d s k m w) ≡ 18
+  pub full : allows (headOf s) k ≡ true → 1 ≤ m → recordLimit < headSize (headOf s) + itemBytes * (length (segments s) + 1)
+      → first (allocateTests d s k m w) ≡ 21
+  pub none : allows (headOf s) k ≡ true → 1 ≤ m → headSize (headOf s) + itemBytes * (length (segments s) + 1) ≤ recordLimit
+      → ((r : Run) → FreeRun (freeFor d s k) (rangeFor d (headOf s) k .end) r → r .sectors < m) → first (allocateTests d s k m w) ≡ 20
+  pub short : (v : ℕ) → Grantable d s k m v → w < length s + itemBytes → first (allocateTests d s k m w) ≡ 1
+  pub past : length (segments s) ≤ p → first (releaseTests d s p w) ≡ 22
+  pub small : p < length (segments s) → w < length s - itemBytes → first (releaseTests d s p w) ≡ 1
+
+abbrev pub Owned : Type 0
+Owned = (d : Device) (s : List ℕ) (k m p w : ℕ) → first (recordTests d s) ≡ 0 → OwnNumbers d s k m p w
+
+-- A call whose tests give a number that is not 0 answers that number with what stands beside it and leaves what it was lent as it was.
 pub record Unchanged (d : Device) (s : List ℕ) (n : ℕ) : Type 0 where
   pub allocation : (k m : ℕ) (out : List ℕ) → first (allocateTests d s k m (length out)) ≡ n
-      → (allocateAnswer d s k m (length out) ≡ Allocation.Refused n) × (allocateLeft d s k m out ≡ out)
+      → (allocateAnswer d s k m (length out) ≡ Allocation.Refused (named n s)) × (allocateLeft d s k m out ≡ out)
   pub release : (p : ℕ) (out : List ℕ) → first (releaseTests d s p (length out)) ≡ n
-      → (releaseAnswer d s p (length out) ≡ Released.Refused n) × (releaseLeft d s p out ≡ out)
-  pub table : (t : List Run) → first (tableTests d s (length t)) ≡ n → (tableAnswer d s (length t) ≡ RunCount.Refused n) × (tableLeft d s t ≡ t)
+      → (releaseAnswer d s p (length out) ≡ Released.Refused (named n s)) × (releaseLeft d s p out ≡ out)
+  pub table : (t : List Run) → first (tableTests d s (length t)) ≡ n → (tableAnswer d s (length t) ≡ RunCount.Refused (named n s)) × (tableLeft d s t ≡ t)
   pub numbers : (t : List ℕ) → first (tableTests d s (length t / 2)) ≡ n
-      → (numbersAnswer d s (length t) ≡ RunCount.Refused n) × (numbersLeft d s t ≡ t)
+      → (numbersAnswer d s (length t) ≡ RunCount.Refused (named n s)) × (numbersLeft d s t ≡ t)
 
 abbrev pub Refusing : Type 0
 Refusing = (d : Device) (s : List ℕ) (n : ℕ) → 0 < n → Unchanged d s n
 
--- What a call answers has the number that its tests give, for every input.
+-- What a call answers has the number that its tests give, with what stands beside it, for every input.
 pub record Numbers (d : Device) (s : List ℕ) (k m w : ℕ) : Type 0 where
-  pub runs : runsNumber (runsAnswer d s) ≡ first (recordTests d s)
-  pub run : runNumber (runAnswer d s k) ≡ first (recordTests d s)
-  pub free : totalNumber (totalAnswer d s) ≡ first (recordTests d s)
-  pub fit : runNumber (fitAnswer d s m) ≡ first (recordTests d s ++ fitTests (runsIn d s) m)
-  pub table : runsNumber (tableAnswer d s w) ≡ first (tableTests d s w)
-  pub allocation : allocationNumber (allocateAnswer d s k m w) ≡ first (allocateTests d s k m w)
-  pub release : releaseNumber (releaseAnswer d s k w) ≡ first (releaseTests d s k w)
+  pub runs : runsRefusal (runsAnswer d s) ≡ named (first (recordTests d s)) s
+  pub run : runRefusal (runAnswer d s k) ≡ named (first (recordTests d s)) s
+  pub free : totalRefusal (totalAnswer d s) ≡ named (first (recordTests d s)) s
+  pub fit : runRefusal (fitAnswer d s m) ≡ named (first (recordTests d s ++ fitTests (runsIn d s) m)) s
+  pub table : runsRefusal (tableAnswer d s w) ≡ named (first (tableTests d s w)) s
+  pub numbers : runsRefusal (numbersAnswer d s w) ≡ named (first (tableTests d s (w / 2))) s
+  pub allocation : allocationRefusal (allocateAnswer d s k m w) ≡ named (first (allocateTests d s k m w)) s
+  pub release : releaseRefusal (releaseAnswer d s k w) ≡ named (first (releaseTests d s k w)) s
 
 abbrev pub Numbered : Type 0
 Numbered = (d : Device) (s : List ℕ) (k m w : ℕ) → Numbers d s k m w
+
+-- What a call answers that is not refused; of the others it is `Fitting`, `Tables`, `Allocates` and `Releases`.
+pub record Values (d : Device) (s : List ℕ) (k : ℕ) : Type 0 where
+  pub runs : runsAnswer d s ≡ RunCount.Runs (length (runsIn d s))
+  pub run : runAnswer d s k ≡ RunFound.At (runAt (runsIn d s) k)
+  pub free : totalAnswer d s ≡ FreeTotal.Sectors (freeSectors (dataRange d) (segments s))
+
+abbrev pub Valued : Type 0
+Valued = (d : Device) (s : List ℕ) (k : ℕ) → first (recordTests d s) ≡ 0 → Values d s k

@@ -1,4 +1,4 @@
--- What the contracts of `room` cite, and what is claimed of it.
+-- What the contracts of `allocation` cite, and what is claimed of it.
 pub mod Walking
 pub mod Tables
 pub mod Answers

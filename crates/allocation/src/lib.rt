@@ -3,6 +3,7 @@
 mod walk;
 
 use layout::Device;
+use refusal::Refusal;
 use runs::Run;
 use segments::Range;
 use segments::Segment;
@@ -22,31 +23,31 @@ ghost use Rattle.allocation.specs.Change.{allocateAnswer, allocateLeft, 
 // What `count_runs` and the calls that fill a table answer.
 pub enum RunCount {
     Runs(u64),
-    Refused(u8),
+    Refused(Refusal),
 }
 
 // What `run_at` and `first_fit` answer.
 pub enum RunFound {
     At(Run),
-    Refused(u8),
+    Refused(Refusal),
 }
 
 // What `free_total` answers.
 pub enum FreeTotal {
     Sectors(u64),
-    Refused(u8),
+    Refused(Refusal),
 }
 
 // What `allocate` answers: the new segment's first sector, and the new record's length in bytes.
 pub enum Allocation {
     Placed(u64, usize),
-    Refused(u8),
+    Refused(Refusal),
 }
 
 // What `release` answers: the new record's length in bytes.
 pub enum Released {
     Length(usize),
-    Refused(u8),
+    Refused(Refusal),
 }
 
 // The data range.
@@ -64,9 +65,9 @@ pub fn count_runs(d: Device, s: &[u8]) -> RunCount
     ensures { λ r. ⌜ r ≡ runsAnswer d (now (s .entry)) ⌝ }
 {
     let c = record::check_in_order(d, s);
-    let n = c.number;
-    if n != 0 {
-        return RunCount::Refused(n);
+    let refused = c.refusal;
+    if refused.number != 0 {
+        return RunCount::Refused(refused);
     }
     let o = c.order;
     let at = o.at;
@@ -80,9 +81,9 @@ pub fn run_at(d: Device, s: &[u8], k: u64) -> RunFound
     ensures { λ r. ⌜ r ≡ runAnswer d (now (s .entry)) k ⌝ }
 {
     let c = record::check_in_order(d, s);
-    let n = c.number;
-    if n != 0 {
-        return RunFound::Refused(n);
+    let refused = c.refusal;
+    if refused.number != 0 {
+        return RunFound::Refused(refused);
     }
     let o = c.order;
     let at = o.at;
@@ -111,9 +112,9 @@ fn allocated_of(t: &[u8]) -> u64
 pub fn free_total(d: Device, s: &[u8]) -> FreeTotal
     ensures { λ r. ⌜ r ≡ totalAnswer d (now (s .entry)) ⌝ }
 {
-    let n = record::check(d, s);
-    if n != 0 {
-        return FreeTotal::Refused(n);
+    let refused = record::check(d, s);
+    if refused.number != 0 {
+        return FreeTotal::Refused(refused);
     }
     let data = layout::data_end(d) - layout::data_start(d);
     FreeTotal::Sectors(data - allocated_of(items::items_of(s)))
@@ -124,12 +125,12 @@ pub fn first_fit(d: Device, s: &[u8], m: u64) -> RunFound
     ensures { λ r. ⌜ r ≡ fitAnswer d (now (s .entry)) m ⌝ }
 {
     let c = record::check_in_order(d, s);
-    let n = c.number;
-    if n != 0 {
-        return RunFound::Refused(n);
+    let refused = c.refusal;
+    if refused.number != 0 {
+        return RunFound::Refused(refused);
     }
     if m < 1 {
-        return RunFound::Refused(refusal::SEGMENT_PLACE);
+        return RunFound::Refused(refusal::plain(refusal::SEGMENT_PLACE));
     }
     let o = c.order;
     let at = o.at;
@@ -137,7 +138,7 @@ pub fn first_fit(d: Device, s: &[u8], m: u64) -> RunFound
     let many = items::count_in(t);
     let r = walk::fit(t, &at[..many], data_range(d), m);
     if r.sectors == 0 {
-        return RunFound::Refused(refusal::NO_ROOM);
+        return RunFound::Refused(refusal::plain(refusal::NO_ROOM));
     }
     RunFound::At(r)
 }
@@ -147,30 +148,30 @@ fn allocation_of(d: Device, s: &[u8], kind: u16, m: u64, w: usize) -> Allocation
     ensures { λ r. ⌜ r ≡ allocateAnswer d (now (s .entry)) kind m w ⌝ }
 {
     let c = record::check_in_order(d, s);
-    let n = c.number;
-    if n != 0 {
-        return Allocation::Refused(n);
+    let refused = c.refusal;
+    if refused.number != 0 {
+        return Allocation::Refused(refused);
     }
     let h = items::head_of(s);
     if !items::allowed(h, kind) {
-        return Allocation::Refused(refusal::RECORD_FORM);
+        return Allocation::Refused(refusal::plain(refusal::RECORD_FORM));
     }
     if m < 1 {
-        return Allocation::Refused(refusal::SEGMENT_PLACE);
+        return Allocation::Refused(refusal::plain(refusal::SEGMENT_PLACE));
     }
     let t = items::items_of(s);
     let many = items::count_in(t);
     if items::most_segments(h) <= many {
-        return Allocation::Refused(refusal::RECORD_FULL);
+        return Allocation::Refused(refusal::plain(refusal::RECORD_FULL));
     }
     let o = c.order;
     let at = o.at;
     let r = walk::fit(t, &at[..many], items::range_for(d, h, kind), m);
     if r.sectors == 0 {
-        return Allocation::Refused(refusal::NO_ROOM);
+        return Allocation::Refused(refusal::plain(refusal::NO_ROOM));
     }
     if w < s.len() + items::ITEM_BYTES {
-        return Allocation::Refused(refusal::SLICE_SIZE);
+        return Allocation::Refused(refusal::plain(refusal::SLICE_SIZE));
     }
     Allocation::Placed(r.start, s.len() + items::ITEM_BYTES)
 }
@@ -198,15 +199,15 @@ pub fn allocate(d: Device, s: &[u8], kind: u16, m: u64, out: &mut [u8]) -> Alloc
 fn released_of(d: Device, s: &[u8], position: usize, w: usize) -> Released
     ensures { λ r. ⌜ r ≡ releaseAnswer d (now (s .entry)) position w ⌝ }
 {
-    let n = record::check(d, s);
-    if n != 0 {
-        return Released::Refused(n);
+    let refused = record::check(d, s);
+    if refused.number != 0 {
+        return Released::Refused(refused);
     }
     if items::count_of(s) <= position {
-        return Released::Refused(refusal::NO_SEGMENT);
+        return Released::Refused(refusal::plain(refusal::NO_SEGMENT));
     }
     if w < s.len() - items::ITEM_BYTES {
-        return Released::Refused(refusal::SLICE_SIZE);
+        return Released::Refused(refusal::plain(refusal::SLICE_SIZE));
     }
     Released::Length(s.len() - items::ITEM_BYTES)
 }
@@ -239,9 +240,9 @@ pub fn free_run_numbers(d: Device, s: &[u8], table: &mut [u64]) -> RunCount
     ensures { λ _. ⌜ now (table .exit) ≡ numbersLeft d (now (s .entry)) (now (table .entry)) ⌝ }
 {
     let c = record::check_in_order(d, s);
-    let n = c.number;
-    if n != 0 {
-        return RunCount::Refused(n);
+    let refused = c.refusal;
+    if refused.number != 0 {
+        return RunCount::Refused(refused);
     }
     let o = c.order;
     let at = o.at;
@@ -249,7 +250,7 @@ pub fn free_run_numbers(d: Device, s: &[u8], table: &mut [u64]) -> RunCount
     let many = items::count_in(t);
     let k = walk::count_gaps(t, &at[..many], data_range(d));
     if ((table.len() / 2) as u64) < k {
-        return RunCount::Refused(refusal::SLICE_SIZE);
+        return RunCount::Refused(refusal::plain(refusal::SLICE_SIZE));
     }
     walk::fill_numbers(t, &at[..many], data_range(d), k as usize, table);
     RunCount::Runs(k)
@@ -262,19 +263,19 @@ struct Filling {
     at: [u16; items::MOST_SEGMENTS],
 }
 
-// What a call that fills a table of w entries answers, where `number` is that of the record's check and `at` begins with the
+// What a call that fills a table of w entries answers, where `checked` is the refusal of the record's check and `at` begins with the
 // order of its segments.
-fn table_answer(d: Device, s: &[u8], number: u8, at: &[u16], w: usize) -> RunCount
-    requires { ⌜ Checking d (now s) number (now at) ⌝ }
+fn table_answer(d: Device, s: &[u8], checked: Refusal, at: &[u16], w: usize) -> RunCount
+    requires { ⌜ Checking d (now s) checked (now at) ⌝ }
     ensures { λ r. ⌜ r ≡ tableAnswer d (now (s .entry)) w ⌝ }
 {
-    if number != 0 {
-        return RunCount::Refused(number);
+    if checked.number != 0 {
+        return RunCount::Refused(checked);
     }
     let t = items::items_of(s);
     let k = walk::count_gaps(t, walk::first_of(at, items::count_in(t)), data_range(d));
     if (w as u64) < k {
-        return RunCount::Refused(refusal::SLICE_SIZE);
+        return RunCount::Refused(refusal::plain(refusal::SLICE_SIZE));
     }
     RunCount::Runs(k)
 }
@@ -296,7 +297,7 @@ fn prepare(d: Device, s: &[u8], w: usize) -> Filling
     let c = record::check_in_order(d, s);
     let o = c.order;
     let at = o.at;
-    let answer = table_answer(d, s, c.number, &at, w);
+    let answer = table_answer(d, s, c.refusal, &at, w);
     let count = entries_of(answer);
     Filling { answer, count, at }
 }

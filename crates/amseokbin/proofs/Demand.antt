@@ -55,11 +55,11 @@ use Rattle.allocation.specs.declared.Allocation.the-variants as Allocation
 use Rattle.allocation.specs.declared.Released.{Released}
 use Rattle.allocation.specs.declared.Released.the-variants as Released
 use Rattle.items.specs.Making.{putNumber, putValues}
-use Rattle.record.specs.Answers.{segmentValues, foundNumber, foundValues, countedNumber, countedValues}
-use Rattle.allocation.specs.Answers.{totalNumber, totalValues, runsNumber, runsValues, runNumber, runValues}
-use Rattle.allocation.specs.Change.{allocationNumber, allocationValues, releaseNumber, releaseValues}
+use Rattle.record.specs.Answers.{segmentValues, foundRefusal, foundValues, countedRefusal, countedValues}
+use Rattle.allocation.specs.Answers.{totalRefusal, totalValues, runsRefusal, runsValues, runRefusal, runValues}
+use Rattle.allocation.specs.Change.{allocationRefusal, allocationValues, releaseRefusal, releaseValues}
 use Rattle.stores.specs.Answers.{givenNumber, givenValues}
-use Rattle.update.specs.Answers.{plannedNumber}
+use Rattle.update.specs.Answers.{plannedRefusal}
 use Rattle.mend.specs.Answers.{mendingNumber, mendingValues}
 use Rattle.stores.specs.declared.Given.{Given}
 use Rattle.stores.specs.declared.Given.the-variants as Given

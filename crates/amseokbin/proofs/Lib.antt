@@ -1,3 +1,5 @@
 -- The claims, proved.
 pub mod Demand
 pub mod Telling
+pub mod Bare
+pub mod Pairs

@@ -11,6 +11,7 @@ use lib.ListN.{length}
 use Rattle.search.specs.Search.{one}
 use Rattle.endian.specs.Bytes.{zeros}
 use Rattle.refusal.specs.Tests.{first}
+use Rattle.refusal.specs.declared.Refusal.{Refusal}
 use Rattle.refusal.specs.Refusals.{plain}
 use Rattle.layout.specs.declared.Side.{Side}
 use Rattle.layout.specs.declared.Side.the-variants.{Front, Back}
@@ -60,12 +61,12 @@ use Rattle.allocation.specs.declared.Released.the-variants as Released
 use Rattle.items.specs.Head.{headOf, blockSize}
 use Rattle.items.specs.Items.{segments}
 use Rattle.items.specs.Making.{putNumber, putValues}
-use Rattle.record.specs.Accept.{recordTests}
-use Rattle.record.specs.Answers.{segmentValues, foundNumber, foundValues, countedNumber, countedValues}
-use Rattle.allocation.specs.Answers.{totalNumber, totalValues, runsNumber, runsValues, runNumber, runValues}
-use Rattle.allocation.specs.Change.{allocationNumber, allocationValues, releaseNumber, releaseValues}
+use Rattle.record.specs.Accept.{recordTests, named}
+use Rattle.record.specs.Answers.{segmentValues, foundRefusal, foundValues, countedRefusal, countedValues}
+use Rattle.allocation.specs.Answers.{totalRefusal, totalValues, runsRefusal, runsValues, runRefusal, runValues}
+use Rattle.allocation.specs.Change.{allocationRefusal, allocationValues, releaseRefusal, releaseValues}
 use Rattle.stores.specs.Answers.{givenNumber, givenValues}
-use Rattle.update.specs.Answers.{plannedNumber}
+use Rattle.update.specs.Answers.{plannedRefusal}
 use Rattle.mend.specs.Answers.{mendingNumber, mendingValues}
 use Rattle.stores.specs.declared.Given.{Given}
 use Rattle.stores.specs.declared.Given.the-variants as Given
@@ -91,83 +92,83 @@ use Rattle.amseokbin.specs.Plans.{storeAnswer, updateOf, updateFrom, upd
 use Rattle.amseokbin.specs.Demand.{Told, foundList, blockList, Telling, Saying, Zeroing, Rereading, Planning}
 use Rattle.amseokbin.proofs.Demand.{mend-back}
 
-blocks-told : (a : BlocksLocated) → Told (blocksAnswer a .refusal) (blocksNumber a) (blocksAnswer a .front ∷ blocksAnswer a .back ∷ []) (blocksValues a)
+blocks-told : (a : BlocksLocated) → Told (blocksAnswer a .refusal) (plain (blocksNumber a)) (blocksAnswer a .front ∷ blocksAnswer a .back ∷ []) (blocksValues a)
 unfolding zeros
 blocks-told (BlocksLocated.At f b) = (refl, refl, le-refl _)
 blocks-told (BlocksLocated.Refused n) = (refl, refl, zero≤)
 
-places-told : (a : Located) → Told (placesAnswer a .refusal) (locatedNumber a) (mapNumbers (placesAnswer a .map)) (locatedValues a)
+places-told : (a : Located) → Told (placesAnswer a .refusal) (plain (locatedNumber a)) (mapNumbers (placesAnswer a .map)) (locatedValues a)
 unfolding zeros
 places-told (Located.At p) = (refl, refl, le-refl _)
 places-told (Located.Refused n) = (refl, refl, zero≤)
 
-block-told : (v : Verdict) (p u : List ℕ) → Told (plain (verdictNumber v)) (verdictNumber v) (blockList (blockFrom v p u)) (verdictValues v)
+block-told : (v : Verdict) (p u : List ℕ) → Told (plain (verdictNumber v)) (plain (verdictNumber v)) (blockList (blockFrom v p u)) (verdictValues v)
 unfolding zeros
 block-told (Verdict.Accepted x) p u = (refl, refl, le-refl _)
 block-told (Verdict.Refused n) p u = (refl, refl, zero≤)
 
-copy-told : (r : CopyReading) (v : Verdict) → Told (copyTold r v .refusal) (verdictNumber v) (blockList (copyTold r v .block)) (verdictValues v)
+copy-told : (r : CopyReading) (v : Verdict) → Told (copyTold r v .refusal) (plain (verdictNumber v)) (blockList (copyTold r v .block)) (verdictValues v)
 unfolding zeros
 copy-told r (Verdict.Accepted x) = (refl, refl, le-refl _)
 copy-told r (Verdict.Refused n) = (refl, refl, zero≤)
 
-found-told : (a : Answer) (f b : List ℕ) → Told (foundAnswer a f b .refusal) (answerNumber a) (foundList (foundAnswer a f b)) (answerValues a)
+found-told : (a : Answer) (f b : List ℕ) → Told (foundAnswer a f b .refusal) (plain (answerNumber a)) (foundList (foundAnswer a f b)) (answerValues a)
 unfolding zeros
 found-told (Answer.Found q o) f b = (refl, refl, le-refl _)
 found-told (Answer.Refused n) f b = (refl, refl, zero≤)
 
-store-told : (g : Given) (flush : Bool) → Told (storeAnswer g flush .refusal) (givenNumber g) (storeAnswer g flush .sector ∷ []) (givenValues g)
+store-told : (g : Given) (flush : Bool) → Told (storeAnswer g flush .refusal) (plain (givenNumber g)) (storeAnswer g flush .sector ∷ []) (givenValues g)
 unfolding zeros
 store-told (Given.At s) flush = (refl, refl, le-refl _)
 store-told (Given.Refused n) flush = (refl, refl, zero≤)
 
-update-told : (a : Planned) → updateAnswer a .refusal ≡ plain (plannedNumber a)
+update-told : (a : Planned) → updateAnswer a .refusal ≡ plannedRefusal a
 unfolding zeros
 update-told (Planned.Plan p) = refl
 update-told (Planned.Refused n) = refl
 
-mend-told : (m : Declared.Mending) → Told (mendAnswer m .refusal) (mendingNumber m) (Mend.storesIn (mendFrom (mendAnswer m .plan)) ∷ []) (mendingValues m)
+mend-told : (m : Declared.Mending) → Told (mendAnswer m .refusal) (plain (mendingNumber m)) (Mend.storesIn (mendFrom (mendAnswer m .plan)) ∷ []) (mendingValues m)
 unfolding zeros
 mend-told InStep = (refl, refl, le-refl _)
 mend-told (Needed p) = (refl, ap (λ (m : Declared.Mending). Mend.storesIn m ∷ []) (mend-back p), le-refl _)
 mend-told (Refused n) = (refl, refl, zero≤)
 
-segment-told : (a : Record.Found) → Told (Records.segmentAnswer a .refusal) (foundNumber a) (segmentValues (Records.segmentAnswer a .segment)) (foundValues a)
+segment-told : (a : Record.Found) → Told (Records.segmentAnswer a .refusal) (foundRefusal a) (segmentValues (Records.segmentAnswer a .segment)) (foundValues a)
 unfolding zeros
 segment-told (Segment.At g) = (refl, refl, le-refl _)
 segment-told (Segment.Refused n) = (refl, refl, zero≤)
 
-segments-told : (a : Counted) → Told (Records.countedAnswer a .refusal) (countedNumber a) (Records.countedAnswer a .count ∷ []) (countedValues a)
+segments-told : (a : Counted) → Told (Records.countedAnswer a .refusal) (countedRefusal a) (Records.countedAnswer a .count ∷ []) (countedValues a)
 unfolding zeros
 segments-told (Counted.Segments k) = (refl, refl, le-refl _)
 segments-told (Counted.Refused n) = (refl, refl, zero≤)
 
-put-told : (a : Put) → Told (Records.putAnswer a .refusal) (putNumber a) (Records.putAnswer a .length ∷ []) (putValues a)
+put-told : (a : Put) → Told (Records.putAnswer a .refusal) (plain (putNumber a)) (Records.putAnswer a .length ∷ []) (putValues a)
 unfolding zeros
 put-told (Put.Length k) = (refl, refl, le-refl _)
 put-told (Put.Refused n) = (refl, refl, zero≤)
 
-total-told : (a : FreeTotal) → Told (Room.totalAnswer a .refusal) (totalNumber a) (Room.totalAnswer a .sectors ∷ []) (totalValues a)
+total-told : (a : FreeTotal) → Told (Room.totalAnswer a .refusal) (totalRefusal a) (Room.totalAnswer a .sectors ∷ []) (totalValues a)
 unfolding zeros
 total-told (FreeTotal.Sectors k) = (refl, refl, le-refl _)
 total-told (FreeTotal.Refused n) = (refl, refl, zero≤)
 
-runs-told : (a : RunCount) → Told (Room.runsAnswer a .refusal) (runsNumber a) (Room.runsAnswer a .count ∷ []) (runsValues a)
+runs-told : (a : RunCount) → Told (Room.runsAnswer a .refusal) (runsRefusal a) (Room.runsAnswer a .count ∷ []) (runsValues a)
 unfolding zeros
 runs-told (RunCount.Runs k) = (refl, refl, le-refl _)
 runs-told (RunCount.Refused n) = (refl, refl, zero≤)
 
-run-told : (a : RunFound) → Told (Room.runAnswer a .refusal) (runNumber a) (Room.runAnswer a .run .start ∷ Room.runAnswer a .run .sectors ∷ []) (runValues a)
+run-told : (a : RunFound) → Told (Room.runAnswer a .refusal) (runRefusal a) (Room.runAnswer a .run .start ∷ Room.runAnswer a .run .sectors ∷ []) (runValues a)
 unfolding zeros
 run-told (RunFound.At r) = (refl, refl, le-refl _)
 run-told (RunFound.Refused n) = (refl, refl, zero≤)
 
-allocation-told : (a : Allocation) → Told (Room.allocationAnswer a .refusal) (allocationNumber a) (Room.allocationAnswer a .start ∷ Room.allocationAnswer a .length ∷ []) (allocationValues a)
+allocation-told : (a : Allocation) → Told (Room.allocationAnswer a .refusal) (allocationRefusal a) (Room.allocationAnswer a .start ∷ Room.allocationAnswer a .length ∷ []) (allocationValues a)
 unfolding zeros
 allocation-told (Allocation.Placed k m) = (refl, refl, le-refl _)
 allocation-told (Allocation.Refused n) = (refl, refl, zero≤)
 
-release-told : (a : Released) → Told (Room.releasedAnswer a .refusal) (releaseNumber a) (Room.releasedAnswer a .length ∷ []) (releaseValues a)
+release-told : (a : Released) → Told (Room.releasedAnswer a .refusal) (releaseRefusal a) (Room.releasedAnswer a .length ∷ []) (releaseValues a)
 unfolding zeros
 release-told (Released.Length k) = (refl, refl, le-refl _)
 release-told (Released.Refused n) = (refl, refl, zero≤)
@@ -203,8 +204,8 @@ blockTold v p u = record { refusal = plain (verdictNumber v); block = blockFrom 
 abbrev blockDone : Block → BlockAnswer
 blockDone k = record { refusal = plain 0; block = k }
 
-abbrev headFor : Bool → ℕ → ℕ → ℕ → HeadAnswer
-headFor b n s k = cond b (record { refusal = plain 0; size = s; segments = k }) (record { refusal = plain n; size = 0; segments = 0 })
+abbrev headFor : Bool → Refusal → ℕ → ℕ → HeadAnswer
+headFor b q s k = cond b (record { refusal = plain 0; size = s; segments = k }) (record { refusal = q; size = 0; segments = 0 })
 
 pub saying : Saying
 saying =
@@ -212,7 +213,7 @@ saying =
       block = λ r x e. (ap (λ (v : Verdict). blockFrom v (r .pool) (r .blockdev) .pool) e, ap (λ (v : Verdict). blockFrom v (r .pool) (r .blockdev) .blockdev) e);
       copy = λ r x e. ap (copyTold r) e ∙ ap (copyWith r) (sym (ap (λ (v : Verdict). blockFrom v (r .block .pool) (r .block .blockdev)) e));
       step = λ f b e. ap (λ (s : Bool). stepOf s (inStep f b)) e;
-      head = λ d s e. ap (λ (n : ℕ). headIf n (blockSize (headOf s)) (length (segments s))) e;
+      head = λ d s e. ap (λ (n : ℕ). headIf n s (blockSize (headOf s)) (length (segments s))) e;
     }
 
 pub zeroing : Zeroing
@@ -222,7 +223,7 @@ zeroing =
       copy = λ r n e. ap (copyTold r) e;
       found = λ n f b. refl;
       step = λ f b e. ap (λ (s : Bool). stepOf s (inStep f b)) e;
-      head = λ d s z. ap (λ (b : Bool). headFor b (first (recordTests d s)) (blockSize (headOf s)) (length (segments s))) (ne-eqb (first (recordTests d s)) 0 z);
+      head = λ d s z. ap (λ (b : Bool). headFor b (named (first (recordTests d s)) s) (blockSize (headOf s)) (length (segments s))) (ne-eqb (first (recordTests d s)) 0 z);
       store = λ n flush. refl;
       update = λ n. refl;
       mend = λ n. refl;
@@ -270,7 +271,7 @@ mend-needed f b q o e s = ap (λ (a : Answer). Mend.mendingAfter a f b) e ∙ ap
 pub planning : Planning
 planning =
     record {
-      update = λ f b t r e. ap (λ (n : ℕ). updateAnswer (cond (eqb n 0) (Planned.Plan (Update.planOf f b t r)) (Planned.Refused n)) .plan) e;
+      update = λ f b t r e. ap (λ (n : ℕ). updateAnswer (cond (eqb n 0) (Planned.Plan (Update.planOf f b t r)) (Planned.Refused (named n r))) .plan) e;
       mend = λ f b q o e s. ap (λ (m : Declared.Mending). mendAnswer m .plan) (mend-needed f b q o e s);
       in-step = λ f b s. ap (λ (m : Declared.Mending). mendAnswer m .plan) (answering f b .in-step .1 s);
     }

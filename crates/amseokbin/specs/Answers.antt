@@ -1,4 +1,5 @@
--- What C is answered: each library's answer as a struct of the header. A refusal has its number, and zero in every other field.
+-- What C is answered: each library's answer as a struct of the header. A refusal has its number with what stands beside it, and zero in every other
+-- field.
 use Prim.Native.Nat.{ℕ}
 use mathlib.Core.Bool.{Bool, true, false, not, cond}
 use mathlib.Core.List.{List}

@@ -37,18 +37,18 @@ use Rattle.discovery.specs.Answers.{answerNumber, answerValues}
 use Rattle.items.specs.declared.Put.{Put}
 use Rattle.items.specs.Head.{headOf, blockSize}
 use Rattle.items.specs.Items.{segments}
-use Rattle.record.specs.Accept.{recordTests}
+use Rattle.record.specs.Accept.{recordTests, named}
 use Rattle.items.specs.Making.{putNumber, putValues}
 use Rattle.record.specs.declared.Found as Record
 use Rattle.record.specs.declared.Counted.{Counted}
-use Rattle.record.specs.Answers.{segmentValues, foundNumber, foundValues, countedNumber, countedValues}
+use Rattle.record.specs.Answers.{segmentValues, foundRefusal, foundValues, countedRefusal, countedValues}
 use Rattle.allocation.specs.declared.FreeTotal.{FreeTotal}
 use Rattle.allocation.specs.declared.RunCount.{RunCount}
 use Rattle.allocation.specs.declared.RunFound.{RunFound}
 use Rattle.allocation.specs.declared.Allocation.{Allocation}
 use Rattle.allocation.specs.declared.Released.{Released}
-use Rattle.allocation.specs.Answers.{totalNumber, totalValues, runsNumber, runsValues, runNumber, runValues}
-use Rattle.allocation.specs.Change.{allocationNumber, allocationValues, releaseNumber, releaseValues}
+use Rattle.allocation.specs.Answers.{totalRefusal, totalValues, runsRefusal, runsValues, runRefusal, runValues}
+use Rattle.allocation.specs.Change.{allocationRefusal, allocationValues, releaseRefusal, releaseValues}
 use Rattle.crash.specs.Crash.{Sectors, Groups, stores, storeIn, groupStart}
 use Rattle.stores.specs.declared.Given.{Given}
 use Rattle.stores.specs.declared.Given.the-variants as Given
@@ -58,7 +58,7 @@ use Rattle.update.specs.declared.Plan as Declared
 use Rattle.update.specs.declared.Planned.{Planned}
 use Rattle.update.specs.declared.Planned.the-variants as Planned
 use Rattle.update.specs.Update.{updateNumber, spare}
-use Rattle.update.specs.Answers.{plannedNumber}
+use Rattle.update.specs.Answers.{plannedRefusal}
 use Rattle.update.specs.Plan as Update
 use Rattle.update.specs.Demand.{Start, groupsOn, copyAfter}
 use Rattle.mend.specs.declared.Rewrite.{Rewrite}
@@ -82,10 +82,10 @@ use Rattle.amseokbin.specs.Plans.{storeAnswer, updateOf, updateFrom, upd
 abbrev pub foundList : FoundAnswer → List ℕ
 foundList k = k .side ∷ k .area ∷ k .bytes ∷ k .time .seconds ∷ k .time .nanoseconds ∷ k .other ∷ []
 
--- An answer is told: its refusal is the library's number n, with nothing beside it, and its other fields are the library's values, all of
--- them, and zeros after them; a refusal has no values, so that every other field is zero.
-abbrev pub Told : Refusal → ℕ → List ℕ → List ℕ → Type 0
-Told r n fields values = (r ≡ plain n) × (fields ≡ take (length fields) (values ++ zeros (length fields))) × (length values ≤ length fields)
+-- An answer is told: its refusal is the library's q, and its other fields are the library's values, all of them, and zeros after them; a
+-- refusal has no values, so that every other field is zero.
+abbrev pub Told : Refusal → Refusal → List ℕ → List ℕ → Type 0
+Told r q fields values = (r ≡ q) × (fields ≡ take (length fields) (values ++ zeros (length fields))) × (length values ≤ length fields)
 
 -- the numbers of a block, as document 01 lists its fields
 abbrev pub blockList : Block → List ℕ
@@ -105,24 +105,24 @@ blockList k =
 
 -- So is every answer that has a library's values.
 pub record Telling : Type 0 where
-  pub blocks : (a : BlocksLocated) → Told (blocksAnswer a .refusal) (blocksNumber a) (blocksAnswer a .front ∷ blocksAnswer a .back ∷ []) (blocksValues a)
-  pub places : (a : Located) → Told (placesAnswer a .refusal) (locatedNumber a) (mapNumbers (placesAnswer a .map)) (locatedValues a)
-  pub block : (r : Reading) → Told (blockAnswer r .refusal) (verdictNumber (r .verdict)) (blockList (blockAnswer r .block)) (verdictValues (r .verdict))
+  pub blocks : (a : BlocksLocated) → Told (blocksAnswer a .refusal) (plain (blocksNumber a)) (blocksAnswer a .front ∷ blocksAnswer a .back ∷ []) (blocksValues a)
+  pub places : (a : Located) → Told (placesAnswer a .refusal) (plain (locatedNumber a)) (mapNumbers (placesAnswer a .map)) (locatedValues a)
+  pub block : (r : Reading) → Told (blockAnswer r .refusal) (plain (verdictNumber (r .verdict))) (blockList (blockAnswer r .block)) (verdictValues (r .verdict))
   pub copy : (r : CopyReading)
-      → Told (copyAnswer r .refusal) (verdictNumber (r .block .verdict)) (blockList (copyAnswer r .block)) (verdictValues (r .block .verdict))
-  pub found : (a : Answer) (f b : List ℕ) → Told (foundAnswer a f b .refusal) (answerNumber a) (foundList (foundAnswer a f b)) (answerValues a)
-  pub store : (g : Given) (flush : Bool) → Told (storeAnswer g flush .refusal) (givenNumber g) (storeAnswer g flush .sector ∷ []) (givenValues g)
-  pub update : (a : Planned) → updateAnswer a .refusal ≡ plain (plannedNumber a)
-  pub mend : (m : Mend.Mending) → Told (mendAnswer m .refusal) (mendingNumber m) (Plan.storesIn (mendFrom (mendAnswer m .plan)) ∷ []) (mendingValues m)
-  pub segment : (a : Record.Found) → Told (Records.segmentAnswer a .refusal) (foundNumber a) (segmentValues (Records.segmentAnswer a .segment)) (foundValues a)
-  pub segments : (a : Counted) → Told (Records.countedAnswer a .refusal) (countedNumber a) (Records.countedAnswer a .count ∷ []) (countedValues a)
-  pub put : (a : Put) → Told (Records.putAnswer a .refusal) (putNumber a) (Records.putAnswer a .length ∷ []) (putValues a)
-  pub total : (a : FreeTotal) → Told (Room.totalAnswer a .refusal) (totalNumber a) (Room.totalAnswer a .sectors ∷ []) (totalValues a)
-  pub runs : (a : RunCount) → Told (Room.runsAnswer a .refusal) (runsNumber a) (Room.runsAnswer a .count ∷ []) (runsValues a)
-  pub run : (a : RunFound) → Told (Room.runAnswer a .refusal) (runNumber a) (Room.runAnswer a .run .start ∷ Room.runAnswer a .run .sectors ∷ []) (runValues a)
+      → Told (copyAnswer r .refusal) (plain (verdictNumber (r .block .verdict))) (blockList (copyAnswer r .block)) (verdictValues (r .block .verdict))
+  pub found : (a : Answer) (f b : List ℕ) → Told (foundAnswer a f b .refusal) (plain (answerNumber a)) (foundList (foundAnswer a f b)) (answerValues a)
+  pub store : (g : Given) (flush : Bool) → Told (storeAnswer g flush .refusal) (plain (givenNumber g)) (storeAnswer g flush .sector ∷ []) (givenValues g)
+  pub update : (a : Planned) → updateAnswer a .refusal ≡ plannedRefusal a
+  pub mend : (m : Mend.Mending) → Told (mendAnswer m .refusal) (plain (mendingNumber m)) (Plan.storesIn (mendFrom (mendAnswer m .plan)) ∷ []) (mendingValues m)
+  pub segment : (a : Record.Found) → Told (Records.segmentAnswer a .refusal) (foundRefusal a) (segmentValues (Records.segmentAnswer a .segment)) (foundValues a)
+  pub segments : (a : Counted) → Told (Records.countedAnswer a .refusal) (countedRefusal a) (Records.countedAnswer a .count ∷ []) (countedValues a)
+  pub put : (a : Put) → Told (Records.putAnswer a .refusal) (plain (putNumber a)) (Records.putAnswer a .length ∷ []) (putValues a)
+  pub total : (a : FreeTotal) → Told (Room.totalAnswer a .refusal) (totalRefusal a) (Room.totalAnswer a .sectors ∷ []) (totalValues a)
+  pub runs : (a : RunCount) → Told (Room.runsAnswer a .refusal) (runsRefusal a) (Room.runsAnswer a .count ∷ []) (runsValues a)
+  pub run : (a : RunFound) → Told (Room.runAnswer a .refusal) (runRefusal a) (Room.runAnswer a .run .start ∷ Room.runAnswer a .run .sectors ∷ []) (runValues a)
   pub allocation : (a : Allocation)
-      → Told (Room.allocationAnswer a .refusal) (allocationNumber a) (Room.allocationAnswer a .start ∷ Room.allocationAnswer a .length ∷ []) (allocationValues a)
-  pub release : (a : Released) → Told (Room.releasedAnswer a .refusal) (releaseNumber a) (Room.releasedAnswer a .length ∷ []) (releaseValues a)
+      → Told (Room.allocationAnswer a .refusal) (allocationRefusal a) (Room.allocationAnswer a .start ∷ Room.allocationAnswer a .length ∷ []) (allocationValues a)
+  pub release : (a : Released) → Told (Room.releasedAnswer a .refusal) (releaseRefusal a) (Room.releasedAnswer a .length ∷ []) (releaseValues a)
 
 -- What is in an answer beside those: the UUIDs of a block, what a copy says of its areas, whether two copies are in step, what a head says.
 pub record Saying : Type 0 where
@@ -134,7 +134,7 @@ pub record Saying : Type 0 where
   pub head : (d : Device) (s : List ℕ) → first (recordTests d s) ≡ 0
       → Records.headAnswer d s ≡ record { refusal = plain 0; size = blockSize (headOf s); segments = length (segments s) }
 
--- A refusal has zero in every field but its number, to the letter.
+-- A refusal has zero in every other field, to the letter. What stands beside its number is `Telling` (the library's) and, by meaning, `Pairs`.
 pub record Zeroing : Type 0 where
   pub block : (r : Reading) (n : ℕ) → r .verdict ≡ Verdict.Refused n → blockAnswer r ≡ record { refusal = plain n; block = noBlock }
   pub copy : (r : CopyReading) (n : ℕ) → r .block .verdict ≡ Verdict.Refused n
@@ -144,9 +144,9 @@ pub record Zeroing : Type 0 where
       ≡ record { refusal = plain n; side = 0; area = 0; other = 0; bytes = 0; time = record { seconds = 0; nanoseconds = 0 }; block = noBlock }
   pub step : (f b : List ℕ) → sized f b ≡ false → stepAnswer f b ≡ record { refusal = plain 1; step = false }
   pub head : (d : Device) (s : List ℕ) → (first (recordTests d s) ≡ 0 → ⊥)
-      → Records.headAnswer d s ≡ record { refusal = plain (first (recordTests d s)); size = 0; segments = 0 }
+      → Records.headAnswer d s ≡ record { refusal = named (first (recordTests d s)) s; size = 0; segments = 0 }
   pub store : (n : ℕ) (flush : Bool) → storeAnswer (Given.Refused n) flush ≡ record { refusal = plain n; sector = 0; flush = false }
-  pub update : (n : ℕ) → updateAnswer (Planned.Refused n) ≡ record { refusal = plain n; plan = record { entry = noEntry; front = 0; back = 0 } }
+  pub update : (q : Refusal) → updateAnswer (Planned.Refused q) ≡ record { refusal = q; plan = record { entry = noEntry; front = 0; back = 0 } }
   pub mend : (n : ℕ) → mendAnswer (Mended.Refused n) ≡ record { refusal = plain n; plan = record { bytes = 0; needed = 0; kept = 0; area = 0; last = 0 } }
 
 -- Demand 2 in C: writing what was read gives the same 512 bytes, with the block's own UUIDs; reading what was written gives the same struct.

@@ -5,3 +5,5 @@ pub mod Records
 pub mod Room
 pub mod Plans
 pub mod Demand
+pub mod Bare
+pub mod Pairs

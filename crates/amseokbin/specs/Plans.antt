@@ -40,7 +40,7 @@ noUpdate = record { entry = noEntry; front = 0; back = 0 }
 
 abbrev pub updateAnswer : Planned → UpdateAnswer
 updateAnswer (Planned.Plan p) = record { refusal = plain 0; plan = updateOf p }
-updateAnswer (Planned.Refused n) = record { refusal = plain n; plan = noUpdate }
+updateAnswer (Planned.Refused q) = record { refusal = q; plan = noUpdate }
 
 -- a mend's plan, to C and from C: all zero where there is nothing to store
 abbrev pub sideFrom : ℕ → Side

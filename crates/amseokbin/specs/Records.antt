@@ -16,26 +16,26 @@ use Rattle.record.specs.declared.Found.{Found}
 use Rattle.record.specs.declared.Found.the-variants as Found
 use Rattle.record.specs.declared.Counted.{Counted}
 use Rattle.record.specs.declared.Counted.the-variants as Counted
-use Rattle.record.specs.Accept.{recordTests}
+use Rattle.record.specs.Accept.{recordTests, named}
 use Rattle.amseokbin.specs.declared.HeadAnswer.{HeadAnswer}
 use Rattle.amseokbin.specs.declared.SegmentAnswer.{SegmentAnswer}
 use Rattle.amseokbin.specs.declared.CountAnswer.{CountAnswer}
 use Rattle.amseokbin.specs.declared.LengthAnswer.{LengthAnswer}
 
 -- the data block size and the number of segments
-abbrev pub headIf : ℕ → ℕ → ℕ → HeadAnswer
-headIf n b k = cond (eqb n 0) (record { refusal = plain 0; size = b; segments = k }) (record { refusal = plain n; size = 0; segments = 0 })
+abbrev pub headIf : ℕ → List ℕ → ℕ → ℕ → HeadAnswer
+headIf n s b k = cond (eqb n 0) (record { refusal = plain 0; size = b; segments = k }) (record { refusal = named n s; size = 0; segments = 0 })
 
 abbrev pub headAnswer : Device → List ℕ → HeadAnswer
-headAnswer d s = headIf (first (recordTests d s)) (blockSize (headOf s)) (length (segments s))
+headAnswer d s = headIf (first (recordTests d s)) s (blockSize (headOf s)) (length (segments s))
 
 abbrev pub segmentAnswer : Found → SegmentAnswer
 segmentAnswer (Found.At g) = record { refusal = plain 0; segment = g }
-segmentAnswer (Found.Refused n) = record { refusal = plain n; segment = record { kind = 0; start = 0; sectors = 0 } }
+segmentAnswer (Found.Refused r) = record { refusal = r; segment = record { kind = 0; start = 0; sectors = 0 } }
 
 abbrev pub countedAnswer : Counted → CountAnswer
 countedAnswer (Counted.Segments k) = record { refusal = plain 0; count = k }
-countedAnswer (Counted.Refused n) = record { refusal = plain n; count = 0 }
+countedAnswer (Counted.Refused r) = record { refusal = r; count = 0 }
 
 abbrev pub putAnswer : Put → LengthAnswer
 putAnswer (Put.Length n) = record { refusal = plain 0; length = n }

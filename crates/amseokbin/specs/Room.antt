@@ -19,20 +19,20 @@ use Rattle.amseokbin.specs.declared.LengthAnswer.{LengthAnswer}
 
 abbrev pub totalAnswer : FreeTotal → TotalAnswer
 totalAnswer (FreeTotal.Sectors k) = record { refusal = plain 0; sectors = k }
-totalAnswer (FreeTotal.Refused n) = record { refusal = plain n; sectors = 0 }
+totalAnswer (FreeTotal.Refused q) = record { refusal = q; sectors = 0 }
 
 abbrev pub runsAnswer : RunCount → CountAnswer
 runsAnswer (RunCount.Runs k) = record { refusal = plain 0; count = k }
-runsAnswer (RunCount.Refused n) = record { refusal = plain n; count = 0 }
+runsAnswer (RunCount.Refused q) = record { refusal = q; count = 0 }
 
 abbrev pub runAnswer : RunFound → RunAnswer
 runAnswer (RunFound.At r) = record { refusal = plain 0; run = r }
-runAnswer (RunFound.Refused n) = record { refusal = plain n; run = record { start = 0; sectors = 0 } }
+runAnswer (RunFound.Refused q) = record { refusal = q; run = record { start = 0; sectors = 0 } }
 
 abbrev pub allocationAnswer : Allocation → AllocationAnswer
 allocationAnswer (Allocation.Placed start n) = record { refusal = plain 0; start = start; length = n }
-allocationAnswer (Allocation.Refused n) = record { refusal = plain n; start = 0; length = 0 }
+allocationAnswer (Allocation.Refused q) = record { refusal = q; start = 0; length = 0 }
 
 abbrev pub releasedAnswer : Released → LengthAnswer
 releasedAnswer (Released.Length n) = record { refusal = plain 0; length = n }
-releasedAnswer (Released.Refused n) = record { refusal = plain n; length = 0 }
+releasedAnswer (Released.Refused q) = record { refusal = q; length = 0 }

@@ -8,6 +8,7 @@ ghost use Rattle.discovery.specs.Answers.{otherNumber};
 ghost use Rattle.layout.specs.Answers.{sideNumber, areaNumber};
 ghost use Rattle.discovery.specs.Discovery.{discovery, sized, readAnswer, readBytes, copyOn};
 ghost use Rattle.stores.specs.Given.{layTests, laid};
+ghost use Rattle.record.specs.Accept.{named};
 ghost use Rattle.format.specs.Format.{formatNumber, formatted};
 ghost use Rattle.sectors.specs.Sectors.{settled};
 ghost use Rattle.sectors.specs.Apply.{applyTests, applied};
@@ -270,9 +271,9 @@ pub extern "C" fn amseokbin_format(
     time: Time,
     content: &[u8],
 ) -> Refusal
-    ensures { λ r. ⌜ r ≡ plain (formatNumber (now (front .entry)) (now (back .entry)) device (now (pool .entry)) (now (blockdev .entry)) time (now (content .entry))) ⌝ }
+    ensures { λ r. ⌜ r ≡ named (formatNumber (now (front .entry)) (now (back .entry)) device (now (pool .entry)) (now (blockdev .entry)) time (now (content .entry))) (now (content .entry)) ⌝ }
     ensures { λ _. ⌜ now (front .exit) ≡ formatted (now (front .entry)) (now (front .entry)) (now (back .entry)) device (now (pool .entry)) (now (blockdev .entry)) time (now (content .entry)) ⌝ }
     ensures { λ _. ⌜ now (back .exit) ≡ formatted (now (back .entry)) (now (front .entry)) (now (back .entry)) device (now (pool .entry)) (now (blockdev .entry)) time (now (content .entry)) ⌝ }
 {
-    refusal::plain(format::format_copies(front, back, device, pool, blockdev, time, content))
+    format::format_copies(front, back, device, pool, blockdev, time, content)
 }

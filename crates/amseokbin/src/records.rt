@@ -5,7 +5,7 @@ ghost use Rattle.refusal.specs.Tests.{first};
 ghost use Rattle.refusal.specs.Refusals.{plain};
 ghost use Rattle.items.specs.declared.Head.the-variants.{Plain};
 ghost use Rattle.items.specs.Making.{beginTests, begun, putAnswer, putLeft};
-ghost use Rattle.record.specs.Accept.{recordTests};
+ghost use Rattle.record.specs.Accept.{recordTests, named};
 ghost use Rattle.record.specs.Answers.{segmentAnswer, segmentsAnswer, segmentsLeft};
 ghost use Rattle.amseokbin.specs.Records as Told;
 use crate::CountAnswer;
@@ -23,9 +23,9 @@ use segments::Segment;
 // Checks a record on a device.
 #[no_mangle]
 pub extern "C" fn amseokbin_record_check(device: Device, content: &[u8]) -> Refusal
-    ensures { λ r. ⌜ r ≡ plain (first (recordTests device (now (content .entry)))) ⌝ }
+    ensures { λ r. ⌜ r ≡ named (first (recordTests device (now (content .entry)))) (now (content .entry)) ⌝ }
 {
-    refusal::plain(record::check(device, content))
+    record::check(device, content)
 }
 
 // What an accepted record says: its data block size, its number of segments.
@@ -33,10 +33,10 @@ pub extern "C" fn amseokbin_record_check(device: Device, content: &[u8]) -> Refu
 pub extern "C" fn amseokbin_record_head(device: Device, content: &[u8]) -> HeadAnswer
     ensures { λ r. ⌜ r ≡ Told.headAnswer device (now (content .entry)) ⌝ }
 {
-    let n = record::check(device, content);
-    if n != 0 {
+    let refusal = record::check(device, content);
+    if refusal.number != 0 {
         return HeadAnswer {
-            refusal: refusal::plain(n),
+            refusal,
             size: 0,
             segments: 0,
         };
@@ -63,8 +63,8 @@ pub extern "C" fn amseokbin_record_segment(
             refusal: refusal::plain(0),
             segment,
         },
-        Found::Refused(n) => SegmentAnswer {
-            refusal: refusal::plain(n),
+        Found::Refused(refusal) => SegmentAnswer {
+            refusal,
             segment: Segment {
                 kind: 0,
                 start: 0,
@@ -91,10 +91,7 @@ pub extern "C" fn amseokbin_record_segments(
             refusal: refusal::plain(0),
             count: k as u64,
         },
-        Counted::Refused(n) => CountAnswer {
-            refusal: refusal::plain(n),
-            count: 0,
-        },
+        Counted::Refused(refusal) => CountAnswer { refusal, count: 0 },
     }
 }
 

@@ -28,8 +28,8 @@ pub extern "C" fn amseokbin_free_total(device: Device, content: &[u8]) -> TotalA
             refusal: refusal::plain(0),
             sectors,
         },
-        FreeTotal::Refused(n) => TotalAnswer {
-            refusal: refusal::plain(n),
+        FreeTotal::Refused(refusal) => TotalAnswer {
+            refusal,
             sectors: 0,
         },
     }
@@ -44,10 +44,7 @@ fn tell_runs(a: RunCount) -> CountAnswer
             refusal: refusal::plain(0),
             count,
         },
-        RunCount::Refused(n) => CountAnswer {
-            refusal: refusal::plain(n),
-            count: 0,
-        },
+        RunCount::Refused(refusal) => CountAnswer { refusal, count: 0 },
     }
 }
 
@@ -82,8 +79,8 @@ fn tell_run(a: RunFound) -> RunAnswer
             refusal: refusal::plain(0),
             run,
         },
-        RunFound::Refused(n) => RunAnswer {
-            refusal: refusal::plain(n),
+        RunFound::Refused(refusal) => RunAnswer {
+            refusal,
             run: Run {
                 start: 0,
                 sectors: 0,
@@ -127,8 +124,8 @@ pub extern "C" fn amseokbin_allocate(
             start,
             length: n as u64,
         },
-        Allocation::Refused(n) => AllocationAnswer {
-            refusal: refusal::plain(n),
+        Allocation::Refused(refusal) => AllocationAnswer {
+            refusal,
             start: 0,
             length: 0,
         },
@@ -152,9 +149,6 @@ pub extern "C" fn amseokbin_release(
             refusal: refusal::plain(0),
             length: n as u64,
         },
-        Released::Refused(n) => LengthAnswer {
-            refusal: refusal::plain(n),
-            length: 0,
-        },
+        Released::Refused(refusal) => LengthAnswer { refusal, length: 0 },
     }
 }

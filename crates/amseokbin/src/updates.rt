@@ -1,6 +1,6 @@
 // Updates, as C has them.
 ghost use mathlib.Core.Path.{_≡_};
-ghost use Rattle.refusal.specs.Refusals.{plain};
+ghost use Rattle.record.specs.Accept.{named};
 ghost use Rattle.update.specs.Update.{updateNumber};
 ghost use Rattle.update.specs.Plan as Update;
 ghost use Rattle.amseokbin.specs.Plans.{storeAnswer, updateFrom, updateOf, noUpdate, updateAnswer};
@@ -23,9 +23,9 @@ pub extern "C" fn amseokbin_update_check(
     time: Time,
     content: &[u8],
 ) -> Refusal
-    ensures { λ r. ⌜ r ≡ plain (updateNumber (now (front .entry)) (now (back .entry)) time (now (content .entry))) ⌝ }
+    ensures { λ r. ⌜ r ≡ named (updateNumber (now (front .entry)) (now (back .entry)) time (now (content .entry))) (now (content .entry)) ⌝ }
 {
-    refusal::plain(update::check(front, back, time, content))
+    update::check(front, back, time, content)
 }
 
 // A plan, as C has it.
@@ -87,8 +87,8 @@ pub extern "C" fn amseokbin_update_plan(
             refusal: refusal::plain(0),
             plan: plan_of(p),
         },
-        Planned::Refused(n) => UpdateAnswer {
-            refusal: refusal::plain(n),
+        Planned::Refused(refusal) => UpdateAnswer {
+            refusal,
             plan: no_plan(),
         },
     }

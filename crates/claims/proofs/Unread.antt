@@ -32,6 +32,7 @@ use Rattle.discovery.proofs.Latest.{newest-found}
 use Rattle.crash.specs.Crash.{Groups, copyFrom}
 use Rattle.stores.specs.declared.Part.{Part}
 use Rattle.update.specs.declared.Plan.{Plan}
+use Rattle.record.specs.Accept.{named}
 use Rattle.update.specs.declared.Planned.{Planned}
 use Rattle.update.specs.declared.Planned.the-variants as Planned
 use Rattle.stores.specs.declared.Given.{Given}
@@ -239,7 +240,7 @@ module _ {f b g k : List ℕ} (sf : SameCopy f g) (sb : SameCopy b k) (hf : bloc
   plan-same t r = ap₂ (λ (c e : List ℕ). planFor (fieldsOf c) (fieldsOf e) t r) hf hb
 
   plans : (t : Time) (r : List ℕ) → planned g k t r ≡ planned f b t r
-  plans t r = ap₂ (λ (n : ℕ) (p : Plan). cond (eqb n 0) (Planned.Plan p) (Planned.Refused n)) (number-same t r) (plan-same t r)
+  plans t r = ap₂ (λ (n : ℕ) (p : Plan). cond (eqb n 0) (Planned.Plan p) (Planned.Refused (named n r))) (number-same t r) (plan-same t r)
 
   module _ (p : Plan) (r : List ℕ) (i : ℕ) (out : List ℕ) where
     sides-answer : sidesAnswer p g k r i out ≡ sidesAnswer p f b r i out

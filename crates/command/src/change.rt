@@ -9,6 +9,7 @@ use crate::say;
 use crate::say::Got;
 use crate::say::note;
 use crate::say::print;
+use crate::sentences;
 use crate::storing;
 use crate::storing::Work;
 use allocation::Allocation;
@@ -69,7 +70,7 @@ fn apply(
     let t = new_time(now, facts::found_time(front, back));
     let planned = update::work_out(front, back, t, r);
     let Planned::Plan(p) = planned else {
-        return refused(path, look, planned);
+        return refused(path, look, planned, r);
     };
     let w = Work::Change(p);
     let mut list = [0u8; storing::LIST];
@@ -91,10 +92,13 @@ fn apply(
     after::carried_out(path, look.fd, w, &list, b"updated: ", e)
 }
 
-// The refusal of an update.
-fn refused(path: &[u8], look: Look, p: Planned) -> u8 {
+// The refusal of an update with the record r.
+fn refused(path: &[u8], look: Look, p: Planned, r: &[u8]) -> u8 {
     match p {
-        Planned::Refused(n) => facts::refuse_found(path, look, n),
+        Planned::Refused(n) => {
+            facts::note_short(path, look);
+            facts::refuse_record(path, n, r)
+        }
         Planned::Plan(_) => facts::WELL,
     }
 }
@@ -138,22 +142,16 @@ pub(crate) fn update_word(
     let s = endian::window(&r, 0, g.bytes);
     let status = apply(path, look, now, dry, Text::new(), front, back, s);
     let n = record::check(look.device, s);
-    if (status == facts::REFUSED) & (n != 0) {
+    if (status == facts::REFUSED) & (n.number != 0) {
         note(file, Text::new().add(b"the record in it is not accepted"));
     }
     status
 }
 
-// A text with a segment.
-fn add_segment(t: Text, g: Segment) -> Text {
-    let u = facts::add_kind(t, g.kind).add(b" start ").decimal(g.start);
-    u.add(b" sectors ").decimal(g.sectors)
-}
-
 // The line of a segment after a first word and its position.
 fn segment_line(first: &[u8], position: u64, g: Segment) -> Text {
     let t = Text::new().add(first).decimal(position).add(b" ");
-    add_segment(t, g).add(b"\n")
+    sentences::add_segment(t, g).add(b"\n")
 }
 
 // The word `allocate`, of a record that was found.
@@ -171,7 +169,7 @@ fn allocate_in(
     let mut out = [0u8; copies::RECORD];
     let a = allocation::allocate(look.device, r, kind, sectors, &mut out);
     match a {
-        Allocation::Refused(n) => facts::refuse(path, n),
+        Allocation::Refused(n) => facts::refuse_record(path, n, r),
         Allocation::Placed(start, len) => {
             let g = Segment {
                 kind,
@@ -208,7 +206,7 @@ fn release_in(
     let mut out = [0u8; copies::RECORD];
     let a = allocation::release(look.device, r, position as usize, &mut out);
     match a {
-        Released::Refused(n) => facts::refuse(path, n),
+        Released::Refused(n) => facts::refuse_record(path, n, r),
         Released::Length(len) => {
             let g = items::segment_at(r, position as usize);
             let t = segment_line(b"releases ", position, g);

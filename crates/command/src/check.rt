@@ -15,6 +15,7 @@ use discovery::Answer;
 use layout::Area;
 use layout::Side;
 use mend::Mending;
+use refusal::Refusal;
 use text::Text;
 
 // What discovery's answer says of times: whether a record was found, and its time.
@@ -112,15 +113,15 @@ fn print_side(ok: bool, side: Side, c: &[u8], marks: &[u8], p: When) -> bool {
     print_unknown(a, side)
 }
 
-// Prints whether the found record is accepted, with its refusal number n, and how many segments it has.
-fn print_record(ok: bool, n: u8, look: Look, front: &[u8], back: &[u8]) -> bool {
-    if n != 0 {
+// Prints whether the found record r is accepted, with its refusal n, and how many segments it has.
+fn print_record(ok: bool, n: Refusal, look: Look, r: &[u8]) -> bool {
+    if n.number != 0 {
         return print(
             ok,
-            sentences::refused(Text::new().add(b"record "), n).add(b"\n"),
+            sentences::refused_record(Text::new().add(b"record "), n, r).add(b"\n"),
         );
     }
-    let k = facts::segments(look, front, back);
+    let k = facts::segments(look, r);
     print(
         ok,
         Text::new()
@@ -130,19 +131,13 @@ fn print_record(ok: bool, n: u8, look: Look, front: &[u8], back: &[u8]) -> bool 
     )
 }
 
-// What is wrong, on standard error.
-fn note_wrong(path: &[u8], look: Look, step: bool, n: u8, p: When, front: &[u8], back: &[u8]) {
+// What is wrong with the copies, on standard error.
+fn note_wrong(path: &[u8], look: Look, step: bool, p: When, front: &[u8], back: &[u8]) {
     facts::note_lost(path, look, true, p.time, front, back);
     if look.sure & !step {
         note(
             path,
             Text::new().add(b"the copies are not in step; keep them with backup, then mend"),
-        );
-    }
-    if n != 0 {
-        note(
-            path,
-            sentences::refused(Text::new().add(b"the record is not accepted: "), n),
         );
     }
 }
@@ -173,12 +168,16 @@ fn print_found(
     back: &[u8],
     before: bool,
 ) -> u8 {
-    let n = facts::record_number(look, front, back);
-    let a = print_record(before, n, look, front, back);
+    let mut bytes = [0u8; copies::RECORD];
+    let k = facts::read_record(front, back, &mut bytes);
+    let r = endian::window(&bytes, 0, k);
+    let n = record::check(look.device, r);
+    let a = print_record(before, n, look, r);
     let ok = print_step(a, look, step, mend::work_out(front, back));
-    note_wrong(path, look, step, n, p, front, back);
+    note_wrong(path, look, step, p, front, back);
+    facts::note_record(path, n, r);
     facts::worse(
-        facts::unless(step & (n == 0), facts::REFUSED),
+        facts::unless(step & (n.number == 0), facts::REFUSED),
         facts::unless(ok, facts::FAILED),
     )
 }

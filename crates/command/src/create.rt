@@ -219,8 +219,8 @@ fn make(fd: i32, path: &[u8], d: Device, block: u32, w: Wanted) -> u8 {
     let mut back = [0u8; copies::BYTES];
     let now = w.now;
     let n = format::format_copies(&mut front, &mut back, d, &pool, &uuid, now, &r);
-    if n != 0 {
-        return facts::refuse(path, n);
+    if n.number != 0 {
+        return facts::refuse_record(path, n, &r);
     }
     let status = if w.replace {
         facts::WELL

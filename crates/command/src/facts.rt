@@ -19,6 +19,7 @@ use dump_line::Written;
 use layout::Area;
 use layout::Side;
 use record::Counted;
+use refusal::Refusal;
 use text::Text;
 
 // The statuses.
@@ -187,8 +188,14 @@ pub(crate) fn refuse(path: &[u8], n: u8) -> u8 {
     REFUSED
 }
 
-// A refusal by discovery: where no block is accepted in an image that is shorter than any pool, that is said.
-pub(crate) fn refuse_found(path: &[u8], look: Look, n: u8) -> u8 {
+// The same, of a refusal of the record r.
+pub(crate) fn refuse_record(path: &[u8], n: Refusal, r: &[u8]) -> u8 {
+    note(path, sentences::refused_record(Text::new(), n, r));
+    REFUSED
+}
+
+// Says of an image in which no block is accepted that it is shorter than any pool, where it is.
+pub(crate) fn note_short(path: &[u8], look: Look) {
     let d = look.device;
     if (d.sectors == 0) & (look.sectors < layout::LEAST_SECTORS) {
         note(
@@ -201,33 +208,39 @@ pub(crate) fn refuse_found(path: &[u8], look: Look, n: u8) -> u8 {
                 .add(b" (1 GiB) at least"),
         );
     }
+}
+
+// A refusal by discovery: where no block is accepted in an image that is shorter than any pool, that is said.
+pub(crate) fn refuse_found(path: &[u8], look: Look, n: u8) -> u8 {
+    note_short(path, look);
     refuse(path, n)
 }
 
-// The refusal number of the found record; 0 where it is accepted.
-pub(crate) fn record_number(look: Look, front: &[u8], back: &[u8]) -> u8 {
-    let mut bytes = [0u8; copies::RECORD];
-    let a = discovery::read_found(front, back, &mut bytes);
+// Reads the found record to the start of out; how many bytes it has, 0 where none is found.
+pub(crate) fn read_record(front: &[u8], back: &[u8], out: &mut [u8]) -> usize {
+    let a = discovery::read_found(front, back, out);
     match a {
-        Answer::Refused(n) => n,
-        Answer::Found(r, _) => record::check(
-            look.device,
-            endian::window(&bytes, 0, r.bytes as usize),
-        ),
+        Answer::Refused(_) => 0,
+        Answer::Found(r, _) => r.bytes as usize,
     }
 }
 
-// How many segments the found record has; 0 where it is not accepted.
-pub(crate) fn segments(look: Look, front: &[u8], back: &[u8]) -> u64 {
-    let mut bytes = [0u8; copies::RECORD];
-    let a = discovery::read_found(front, back, &mut bytes);
-    let Answer::Found(r, _) = a else {
-        return 0;
-    };
-    let c = record::read_count(look.device, endian::window(&bytes, 0, r.bytes as usize));
+// How many segments a record has; 0 where it is not accepted.
+pub(crate) fn segments(look: Look, r: &[u8]) -> u64 {
+    let c = record::read_count(look.device, r);
     match c {
         Counted::Refused(_) => 0,
         Counted::Segments(n) => n as u64,
+    }
+}
+
+// Says that the found record r is not accepted, where it is refused.
+pub(crate) fn note_record(path: &[u8], n: Refusal, r: &[u8]) {
+    if n.number != 0 {
+        note(
+            path,
+            sentences::refused_record(Text::new().add(b"the record is not accepted: "), n, r),
+        );
     }
 }
 
@@ -240,13 +253,10 @@ pub(crate) fn note_state(path: &[u8], look: Look, step: bool, t: Time, front: &[
             Text::new().add(b"the copies are not in step; keep them with backup, then mend"),
         );
     }
-    let n = record_number(look, front, back);
-    if n != 0 {
-        note(
-            path,
-            sentences::refused(Text::new().add(b"the record is not accepted: "), n),
-        );
-    }
+    let mut bytes = [0u8; copies::RECORD];
+    let k = read_record(front, back, &mut bytes);
+    let r = endian::window(&bytes, 0, k);
+    note_record(path, record::check(look.device, r), r);
 }
 
 // A text with the last field of the line for what is found.
@@ -383,15 +393,4 @@ fn tenths(part: u64, unit: u64) -> u64 {
 pub(crate) fn add_count(t: Text, n: u64, one: &[u8]) -> Text {
     let u = t.decimal(n).add(b" ").add(one);
     if n == 1 { u } else { u.add(b"s") }
-}
-
-// A text with the name of a segment's kind.
-pub(crate) fn add_kind(t: Text, kind: u16) -> Text {
-    match kind {
-        1 => t.add(b"thin-metadata"),
-        2 => t.add(b"thin-data"),
-        3 => t.add(b"spare"),
-        4 => t.add(b"metadata-volume"),
-        _ => t.add(b"kind ").decimal(kind as u64),
-    }
 }

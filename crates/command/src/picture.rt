@@ -39,15 +39,17 @@ fn ceiling(a: u64, b: u64) -> u64 {
     sum(q, 1)
 }
 
-fn less(a: u64, b: u64) -> u64 {
+// a - b, or 0 where b is larger.
+pub(crate) fn less(a: u64, b: u64) -> u64 {
     if a < b { 0 } else { a - b }
 }
 
+// The lower and the higher of two numbers.
 fn least(a: u64, b: u64) -> u64 {
     if a < b { a } else { b }
 }
 
-fn most(a: u64, b: u64) -> u64 {
+pub(crate) fn most(a: u64, b: u64) -> u64 {
     if a < b { b } else { a }
 }
 
@@ -109,15 +111,14 @@ fn letter_of(kind: u16) -> u8 {
     }
 }
 
+// The sector after a segment's last one, or the largest number where that is larger.
+pub(crate) fn end_of(g: Segment) -> u64 {
+    sum(g.start, g.sectors)
+}
+
 // The sectors that a segment has from a up to, not including, b.
-fn shared(g: Segment, a: u64, b: u64) -> u64 {
-    let last = 18446744073709551615 - g.start;
-    let end = if last < g.sectors {
-        18446744073709551615
-    } else {
-        g.start + g.sectors
-    };
-    less(least(end, b), most(g.start, a))
+pub(crate) fn shared(g: Segment, a: u64, b: u64) -> u64 {
+    less(least(end_of(g), b), most(g.start, a))
 }
 
 // A stretch with one more segment.
@@ -135,7 +136,8 @@ fn with(c: Stretch, g: Segment, a: u64, b: u64) -> Stretch {
     }
 }
 
-fn sum(a: u64, b: u64) -> u64 {
+// a + b, or the largest number where that is larger.
+pub(crate) fn sum(a: u64, b: u64) -> u64 {
     if 18446744073709551615 - a < b {
         return 18446744073709551615;
     }

@@ -1,15 +1,51 @@
-// What is said of a refusal: its number, its words, and what to do then.
+// What is said of a segment, and of a refusal: its number, its words, and what to do then.
+use refusal::Refusal;
+use segments::Segment;
 use text::Text;
+
+// A text with the name of a segment's kind.
+pub(crate) fn add_kind(t: Text, kind: u16) -> Text {
+    match kind {
+        1 => t.add(b"thin-metadata"),
+        2 => t.add(b"thin-data"),
+        3 => t.add(b"spare"),
+        4 => t.add(b"metadata-volume"),
+        _ => t.add(b"kind ").decimal(kind as u64),
+    }
+}
+
+// A text with a segment.
+pub(crate) fn add_segment(t: Text, g: Segment) -> Text {
+    let u = add_kind(t, g.kind).add(b" start ").decimal(g.start);
+    u.add(b" sectors ").decimal(g.sectors)
+}
+
+// A text with the number of a refusal.
+fn numbered(t: Text, n: u8) -> Text {
+    t.add(b"refused ").decimal(n as u64).add(b": ")
+}
 
 // A text with the number of a refusal, its words and its advice.
 pub(crate) fn refused(t: Text, n: u8) -> Text {
     let w = refusal::words_of(n);
     let bytes = w.bytes;
-    let said = t.add(b"refused ")
-        .decimal(n as u64)
-        .add(b": ")
-        .add(endian::window(&bytes, 0, w.used));
-    advice(said, n)
+    advice(numbered(t, n).add(endian::window(&bytes, 0, w.used)), n)
+}
+
+// A text with the refusal of the record r: where two segments share a sector, their positions, and both as r has them. With the longest
+// first words, kinds and numbers the line has 256 bytes, all that a text has room for.
+pub(crate) fn refused_record(t: Text, n: Refusal, r: &[u8]) -> Text {
+    if n.number != refusal::SEGMENT_CLASH {
+        return refused(t, n.number);
+    }
+    let u = numbered(t, n.number)
+        .add(b"segments ")
+        .decimal(n.first)
+        .add(b" and ")
+        .decimal(n.second)
+        .add(b" share a sector: ");
+    let v = add_segment(u, items::segment_at(r, n.first as usize)).add(b", ");
+    add_segment(v, items::segment_at(r, n.second as usize))
 }
 
 // A text with what a refusal comes from, or what to do then, where its words do not say it.

@@ -12,7 +12,9 @@ use block::Reading;
 use discovery::Answer;
 use discovery::Finding;
 use discovery::Other;
+use refusal::Refusal;
 use runs::Run;
+use segments::Segment;
 use text::Text;
 
 // The numbers of a table of free runs, of which there is one more than segments at the most: a start and a length for each.
@@ -24,7 +26,7 @@ pub(crate) struct Shown {
     pub other: Other,
     pub step: bool,
     pub unread: bool,
-    pub number: u8,
+    pub refusal: Refusal,
     pub columns: u64,
 }
 
@@ -122,16 +124,16 @@ fn segment_line(ok: bool, plain: bool, r: &[u8], i: usize) -> bool {
     if plain {
         return plain_segment(ok, r, i);
     }
-    let g = items::segment_at(r, i);
-    let t = row(
-        Text::new().padded(i as u64, 6).add(b"  "),
-        g.start,
-        g.sectors,
-    );
     print(
         ok,
-        facts::add_kind(picture::pad_to(t, 48), g.kind).add(b"\n"),
+        segment_row(i as u64, items::segment_at(r, i)).add(b"\n"),
     )
+}
+
+// The row of a segment for people, with its position first and its kind last.
+fn segment_row(i: u64, g: Segment) -> Text {
+    let t = row(Text::new().padded(i, 6).add(b"  "), g.start, g.sectors);
+    sentences::add_kind(picture::pad_to(t, 48), g.kind)
 }
 
 // A text with a start, a length and its size.
@@ -174,12 +176,8 @@ fn run_line(ok: bool, plain: bool, i: u64, g: Run) -> bool {
 // The sectors of the data range that are in a segment.
 fn allocated(look: Look, r: &[u8]) -> u64 {
     let d = look.device;
-    let data = difference(layout::data_end(d), layout::data_start(d));
-    difference(data, free_sectors(look, r))
-}
-
-fn difference(a: u64, b: u64) -> u64 {
-    if a < b { 0 } else { a - b }
+    let data = picture::less(layout::data_end(d), layout::data_start(d));
+    picture::less(data, free_sectors(look, r))
 }
 
 // Prints UUIDs.
@@ -212,7 +210,7 @@ fn plain_head(look: Look, s: Shown, q: Reading) -> bool {
     pair(c, b"nanoseconds", f.nanoseconds as u64)
 }
 
-// The next lines: the other copy, in step, sure, and the record's number.
+// The next lines: the other copy, in step, sure, the record's number, and which segments clash.
 fn plain_state(ok: bool, look: Look, s: Shown) -> bool {
     let o = s.other;
     let a = print(
@@ -221,7 +219,24 @@ fn plain_state(ok: bool, look: Look, s: Shown) -> bool {
     );
     let b = print(a, add_yes(Text::new().add(b"in-step="), s.step));
     let c = print(b, add_yes(Text::new().add(b"sure="), look.sure));
-    pair(c, b"record", s.number as u64)
+    let n = s.refusal;
+    plain_clash(pair(c, b"record", n.number as u64), n)
+}
+
+// The line of the two segments that share a sector, where a record is refused for that.
+fn plain_clash(ok: bool, n: Refusal) -> bool {
+    if n.number != refusal::SEGMENT_CLASH {
+        return ok;
+    }
+    print(
+        ok,
+        Text::new()
+            .add(b"clash=")
+            .decimal(n.first)
+            .add(b" ")
+            .decimal(n.second)
+            .add(b"\n"),
+    )
 }
 
 // The lines of an accepted record.
@@ -242,7 +257,8 @@ fn plain_record(ok: bool, look: Look, r: &[u8]) -> bool {
 fn plain(look: Look, s: Shown, q: Reading, r: &[u8]) -> bool {
     let a = plain_head(look, s, q);
     let b = plain_state(a, look, s);
-    if s.number != 0 {
+    let n = s.refusal;
+    if n.number != 0 {
         return b;
     }
     plain_record(b, look, r)
@@ -310,13 +326,55 @@ fn people_content(ok: bool, look: Look, columns: u64, r: &[u8]) -> bool {
     picture::draw(k, look.device, columns, r)
 }
 
+// The line of a record that is not accepted; where two segments share a sector, a line for each and one for what both hold.
+fn people_refused(ok: bool, n: Refusal, r: &[u8]) -> bool {
+    let a = print(
+        ok,
+        sentences::refused_record(Text::new().add(b"content   "), n, r).add(b"\n"),
+    );
+    if n.number != refusal::SEGMENT_CLASH {
+        return a;
+    }
+    let g = items::segment_at(r, n.first as usize);
+    let h = items::segment_at(r, n.second as usize);
+    let b = clash_line(clash_line(a, n.first, g), n.second, h);
+    print(
+        b,
+        add_shared(Text::new().add(b"clash     "), g, h).add(b"\n"),
+    )
+}
+
+// The line of one of two segments that share a sector: its row, and its last sector.
+fn clash_line(ok: bool, i: u64, g: Segment) -> bool {
+    print(
+        ok,
+        segment_row(i, g)
+            .add(b", last sector ")
+            .decimal(picture::less(picture::end_of(g), 1))
+            .add(b"\n"),
+    )
+}
+
+// A text with the sectors that two segments both hold.
+fn add_shared(t: Text, g: Segment, h: Segment) -> Text {
+    let first = picture::most(g.start, h.start);
+    let n = picture::shared(g, h.start, picture::end_of(h));
+    if n == 1 {
+        return t.add(b"both hold sector ").decimal(first);
+    }
+    let u = t.add(b"both hold sectors ")
+        .decimal(first)
+        .add(b" to ")
+        .decimal(picture::less(picture::sum(first, n), 1))
+        .add(b", ");
+    facts::add_count(u, n, b"sector")
+}
+
 fn people(look: Look, s: Shown, q: Reading, r: &[u8]) -> bool {
     let a = people_head(look, s, q);
-    if s.number != 0 {
-        return print(
-            a,
-            sentences::refused(Text::new().add(b"content   "), s.number).add(b"\n"),
-        );
+    let n = s.refusal;
+    if n.number != 0 {
+        return people_refused(a, n, r);
     }
     people_content(a, look, s.columns, r)
 }
@@ -338,9 +396,10 @@ fn show_found(
         people(look, s, q, r)
     };
     let f = s.found;
+    let n = s.refusal;
     facts::note_state(path, look, s.step, facts::record_time(f), front, back);
     facts::worse(
-        facts::unless(s.number == 0, facts::REFUSED),
+        facts::unless(n.number == 0, facts::REFUSED),
         facts::unless(ok, facts::FAILED),
     )
 }
@@ -369,7 +428,7 @@ pub(crate) fn run(
                 other: o,
                 step: v.step,
                 unread: facts::block_unread(front_marks, back_marks),
-                number: record::check(look.device, r),
+                refusal: record::check(look.device, r),
                 columns: columns,
             };
             facts::worse(sure, show_found(path, look, as_plain, s, front, back, r))

@@ -8,7 +8,7 @@ use lib.ListN.{length}
 use Rattle.endian.specs.Bytes.{allPass, zeros}
 use Rattle.endian.proofs.Tests.{length-zeros}
 use Rattle.refusal.specs.Tests.{first, AllHold}
-use Rattle.refusal.proofs.Order.{first-zero, first-all, first-after, answer-yes}
+use Rattle.refusal.proofs.Order.{first-zero, first-all, first-after}
 use Rattle.layout.specs.Limits.{deviceTests, recordLimit, lengthAllowed}
 use Rattle.layout.specs.Places.{copyBytes}
 use Rattle.block.specs.Entry.{laterThan}
@@ -22,6 +22,7 @@ use Rattle.runs.specs.Runs.{runAt, fitOf, fitting}
 use Rattle.items.specs.Head.{headOf, headSize, dataRange, itemBytes, mostSegments}
 use Rattle.items.specs.Items.{segments}
 use Rattle.record.specs.Accept.{contentTests, recordTests}
+use Rattle.record.proofs.Naming.{refuse-yes}
 use Rattle.record.proofs.Testing.{record-ascending}
 use Rattle.record.proofs.Accepted.{accepted}
 use Rattle.record.proofs.Right.{accepted-content}
@@ -71,17 +72,17 @@ nanoseconds = refl
 -- example 9: what the calls answer of the record's free runs
 runs : runsIn (runsAnswer device nine) ≡ 2
 runs =
-    ap runsIn (sym (answer-yes (RunCount.Runs (length (Answers.runsIn device nine))) RunCount.Refused 0 (first (recordTests device nine)) (sym nine-accepted) refl))
+    ap runsIn (sym (refuse-yes (RunCount.Runs (length (Answers.runsIn device nine))) RunCount.Refused nine 0 (first (recordTests device nine)) (sym nine-accepted) refl))
     ∙ ap (λ (rs : List Run). length rs) nine-runs
 
 run : (k : ℕ) → runOf k ≡ runAt free k
 run k =
-    ap runIn (sym (answer-yes (RunFound.At (runAt (Answers.runsIn device nine) k)) RunFound.Refused 0 (first (recordTests device nine)) (sym nine-accepted) refl))
+    ap runIn (sym (refuse-yes (RunFound.At (runAt (Answers.runsIn device nine) k)) RunFound.Refused nine 0 (first (recordTests device nine)) (sym nine-accepted) refl))
     ∙ ap (λ (rs : List Run). runAt rs k) nine-runs
 
 total : totalIn (totalAnswer device nine) ≡ 2092906
 total =
-    ap totalIn (sym (answer-yes (FreeTotal.Sectors (freeSectors (dataRange device) (segments nine))) FreeTotal.Refused 0 (first (recordTests device nine)) (sym nine-accepted) refl))
+    ap totalIn (sym (refuse-yes (FreeTotal.Sectors (freeSectors (dataRange device) (segments nine))) FreeTotal.Refused nine 0 (first (recordTests device nine)) (sym nine-accepted) refl))
     ∙ nine-total
 
 -- example 10: an allocation of m sectors, where a free run fits
@@ -94,7 +95,7 @@ most = ap mostSegments nine-head
 
 asked : (m : ℕ) → leb 1 m ≡ true → fitting m free ≡ true → asking m ≡ fitOf m free .start
 asked m l f =
-    ap (λ (n : ℕ). startIn (allocation n (fitOf m (runsFor device nine 2) .start) (length nine + itemBytes))) none
+    ap (λ (n : ℕ). startIn (allocation n nine (fitOf m (runsFor device nine 2) .start) (length nine + itemBytes))) none
     ∙ ap (λ (rs : List Run). fitOf m rs .start) runs-data
   where
     own : AllHold (ownTests device nine 2 m 8192)
@@ -148,7 +149,7 @@ stores : (r : List ℕ) (n k : ℕ) → first (recordTests device r) ≡ 0 → l
 stores r n k a l e =
     ap countIn
     (sym
-    (answer-yes (Planned.Plan (planOf copy copy (time 11 0) r)) Planned.Refused 0 (updateNumber copy copy (time 11 0) r)
+    (refuse-yes (Planned.Plan (planOf copy copy (time 11 0) r)) Planned.Refused r 0 (updateNumber copy copy (time 11 0) r)
     (sym (not-refused r a)) refl))
     ∙ (ap (λ (m : ℕ). 2 * sectorsOf m + 2) l ∙ e)
 

@@ -7,6 +7,7 @@ use native.Mathlib.Omega.{arith}
 use borrow.Author.Tests.{eqb-true, leb-true}
 use lib.Dec.{eqb, leb}
 use lib.ListN.{length}
+use Rattle.endian.specs.Bytes.{toLe}
 use Rattle.endian.proofs.Tests.{and-left, and-right}
 use Rattle.refusal.specs.Numbers.{recordLength, segmentPlace, segmentClash}
 use Rattle.refusal.specs.Tests.{Test, _elseRefuse_, first}
@@ -22,18 +23,19 @@ use Rattle.segments.proofs.Order.{ascends-order}
 use Rattle.runs.specs.declared.Run.{Run}
 use Rattle.runs.specs.Gaps.{gap, gaps}
 use Rattle.items.specs.declared.Head.the-variants.{Plain}
-use Rattle.items.specs.Head.{itemOf, headOf, headSize, allows, dataRange, rangeFor, itemBytes}
+use Rattle.items.specs.Head.{itemOf, headOf, headBytes, headSize, allows, dataRange, rangeFor, itemBytes}
 use Rattle.items.specs.Items.{segments, wellFormed}
-use Rattle.items.specs.Making.{recordOf}
+use Rattle.items.specs.Making.{segmentBytes, allBytes, recordOf}
 use Rattle.items.proofs.Heads.{HeadFits, plain-right, right-fits}
 use Rattle.items.proofs.Making.{AllFit, length-record, head-record, segments-record, formed-record}
-use Rattle.record.specs.Accept.{allInRange, recordTests}
+use Rattle.record.specs.Accept.{allInRange, recordTests, named}
+use Rattle.record.proofs.Naming.{named-pair}
 use Rattle.record.proofs.Accepted.{accepted}
 use Rattle.record.proofs.Demand.{sums}
 use Rattle.allocation.specs.Answers as Answers
 use Rattle.allocation.specs.Walking.{walked}
 use Rattle.allocation.proofs.Finding.{runs-walked}
-use Rattle.examples.specs.Examples.{device, segment, pair, inRow, rowOf, nine}
+use Rattle.examples.specs.Examples.{device, segment, pair, inRow, rowOf, nine, fourSegments, checkOf, Pairs}
 
 -- the segment at position i is a data segment and ends on the device
 abbrev small : List Segment → ℕ → Bool
@@ -133,6 +135,24 @@ nine-total =
 pub example-11 : (first (recordTests device (pair 2048 100 2147 1)) ≡ 19) × (first (recordTests device (pair 2048 100 2148 1)) ≡ 0)
 unfolding pair first every lengthAllowed recordLimit allInRange rangeFor inRange apart earlierOf laterOf least clashesAt meets holds
 example-11 = (number-made (segment 2048 100 ∷ segment 2147 1 ∷ []) refl, number-made (segment 2048 100 ∷ segment 2148 1 ∷ []) refl)
+
+-- Request [2] on it: the two positions; and the lower of two pairs.
+pair-made : (gs : List Segment) (s : List ℕ) (i j : ℕ) → recordOf (Plain 128) gs ≡ s → every (small gs) (length gs) ≡ true → first (recordTests device s) ≡ 19
+    → earlierOf gs ≡ i → laterOf gs i ≡ j → checkOf s ≡ record { number = 19; first = i; second = j }
+pair-made gs s i j m h n e f =
+    ap (λ (k : ℕ). named k s) n
+    ∙ (named-pair s
+    ∙ (ap (λ (z : List Segment). record { number = 19; first = earlierOf z; second = laterOf z (earlierOf z) }) (ap segments (sym m) ∙ segments-made gs h)
+    ∙ (ap (λ (k : ℕ). record { number = 19; first = k; second = laterOf gs k }) e ∙ ap (λ (k : ℕ). record { number = 19; first = i; second = k }) f)))
+
+pub pairs : Pairs
+unfolding pair fourSegments recordOf headBytes headSize allBytes segmentBytes toLe first every lengthAllowed recordLimit allInRange rangeFor inRange apart earlierOf laterOf least clashesAt meets holds
+pairs = (
+  refl,
+  segments-made (segment 2048 100 ∷ segment 2147 1 ∷ []) refl,
+  pair-made (segment 2048 100 ∷ segment 2147 1 ∷ []) (pair 2048 100 2147 1) 0 1 refl refl (example-11 .0) refl refl,
+  pair-made (segment 5000 10 ∷ segment 3000 50 ∷ segment 3049 10 ∷ segment 3010 1 ∷ []) fourSegments 1 2 refl refl (number-made (segment 5000 10 ∷ segment 3000 50 ∷ segment 3049 10 ∷ segment 3010 1 ∷ []) refl) refl refl,
+)
 
 -- 12. A record of 508 bytes (25 segments), one of 528 bytes (26 segments).
 abbrev Sized : ℕ → ℕ → Type 0

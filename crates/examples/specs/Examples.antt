@@ -6,6 +6,7 @@ use mathlib.Core.Bool.{Bool, true, false}
 use mathlib.Core.List.{List, [], _∷_}
 use lib.ListN.{length, replicate}
 use Rattle.endian.specs.Bytes.{zeros}
+use Rattle.refusal.specs.declared.Refusal.{Refusal}
 use Rattle.refusal.specs.Tests.{first}
 use Rattle.layout.specs.declared.Device.{Device}
 use Rattle.layout.specs.declared.Side.the-variants.{Back}
@@ -22,7 +23,7 @@ use Rattle.runs.specs.declared.Run.{Run}
 use Rattle.items.specs.declared.Head.the-variants.{Plain}
 use Rattle.items.specs.Items.{segments}
 use Rattle.items.specs.Making.{recordOf}
-use Rattle.record.specs.Accept.{recordTests}
+use Rattle.record.specs.Accept.{recordTests, named}
 use Rattle.allocation.specs.declared.RunCount.{RunCount}
 use Rattle.allocation.specs.declared.RunCount.the-variants as RunCount
 use Rattle.allocation.specs.declared.RunFound.{RunFound}
@@ -168,3 +169,22 @@ given =
 -- All twelve.
 abbrev pub Twelve : Type 0
 Twelve = given ≡ said
+
+-- Change request [2] on example 11: beside 19 stand positions 0 and 1. And of the four segments (5,000, 10), (3,000, 50), (3,049, 10) and (3,010, 1), of which
+-- 1 and 2, and 1 and 3 share a sector: 1 and 2.
+unfoldable pub fourSegments : List ℕ
+fourSegments = recordOf (Plain 128) (segment 5000 10 ∷ segment 3000 50 ∷ segment 3049 10 ∷ segment 3010 1 ∷ [])
+
+abbrev pub checkOf : List ℕ → Refusal
+checkOf s = named (first (recordTests device s)) s
+
+-- positions are those of the items in the record's bytes, after the head
+abbrev pub Pairs : Type 0
+Pairs =
+    (pair 2048 100 2147 1
+    ≡ 8 ∷ 0 ∷ 16 ∷ 0 ∷ 128 ∷ 0 ∷ 0 ∷ 0
+    ∷ 20 ∷ 0 ∷ 2 ∷ 0 ∷ 0 ∷ 8 ∷ 0 ∷ 0 ∷ 0 ∷ 0 ∷ 0 ∷ 0 ∷ 100 ∷ 0 ∷ 0 ∷ 0 ∷ 0 ∷ 0 ∷ 0 ∷ 0
+    ∷ 20 ∷ 0 ∷ 2 ∷ 0 ∷ 99 ∷ 8 ∷ 0 ∷ 0 ∷ 0 ∷ 0 ∷ 0 ∷ 0 ∷ 1 ∷ 0 ∷ 0 ∷ 0 ∷ 0 ∷ 0 ∷ 0 ∷ 0 ∷ [])
+    × (segments (pair 2048 100 2147 1) ≡ segment 2048 100 ∷ segment 2147 1 ∷ [])
+    × (checkOf (pair 2048 100 2147 1) ≡ record { number = 19; first = 0; second = 1 })
+    × (checkOf fourSegments ≡ record { number = 19; first = 1; second = 2 })

@@ -1,13 +1,16 @@
--- The refusal number, from what the code has tested, and what its being 0 says.
+-- The refusal, from what the code has tested, and what its number being 0 says.
 use Prim.Native.Nat.{ℕ}
-use mathlib.Core.Path.{_≡_, ap}
+use mathlib.Core.Path.{_≡_, refl, ap, _∙_}
 use mathlib.Core.Bool.{true, false, not, _&&_}
 use mathlib.Core.List.{List}
+use native.Mathlib.Omega.{arith}
 use borrow.Author.Tests.{eqb-true}
 use lib.Dec.{leb, eqb, lit<}
 use lib.ListN.{length}
 use Rattle.endian.specs.Bytes.{allPass}
 use Rattle.endian.proofs.Tests.{and-left, and-right}
+use Rattle.refusal.specs.declared.Refusal.{Refusal}
+use Rattle.refusal.specs.Refusals.{plain}
 use Rattle.refusal.specs.Tests.{first, AllHold, Ascending}
 use Rattle.refusal.proofs.Order.{refused, passed, first-zero}
 use Rattle.layout.specs.declared.Device.{Device}
@@ -15,7 +18,8 @@ use Rattle.layout.specs.Limits.{sizeAllowed, metadataAllowed, reservedAllowed, 
 use Rattle.layout.specs.Places.{copyBytes}
 use Rattle.block.specs.declared.Time.{Time}
 use Rattle.block.specs.Block.{isHex}
-use Rattle.record.specs.Accept.{contentTests}
+use Rattle.record.specs.Accept.{contentTests, named}
+use Rattle.record.proofs.Naming.{named-own, named-on}
 use Rattle.discovery.specs.Discovery.{sized}
 use Rattle.format.specs.Format.{valueTests, formatTests, formatNumber}
 
@@ -25,14 +29,15 @@ module _ (f b : List ℕ) (v : Device) (p u : List ℕ) (t : Time) (r : List ℕ
     sizes : (eqb (length f) m && eqb (length b) m) && (eqb (length p) 32 && eqb (length u) 32) ≡ sized f b && (eqb (length p) 32 && eqb (length u) 32)
     sizes = ap (λ (n : ℕ). (eqb (length f) n && eqb (length b) n) && (eqb (length p) 32 && eqb (length u) 32)) em
 
-    pub wrong-size : not ((eqb (length f) m && eqb (length b) m) && (eqb (length p) 32 && eqb (length u) 32)) ≡ true → 1 ≡ formatNumber f b v p u t r
+    pub wrong-size : not ((eqb (length f) m && eqb (length b) m) && (eqb (length p) 32 && eqb (length u) 32)) ≡ true → (n : Refusal) → n ≡ plain 1
+        → n ≡ named (formatNumber f b v p u t r) r
     unfolding formatNumber
-    wrong-size h = refused _ _ 1 (valueTests v p u t r) sizes h
+    wrong-size h n e = e ∙ named-own 1 (formatNumber f b v p u t r) r (λ z. omega arith) (refused _ _ 1 (valueTests v p u t r) sizes h)
 
     pub right-size : not ((eqb (length f) m && eqb (length b) m) && (eqb (length p) 32 && eqb (length u) 32)) ≡ false
-        → (n : ℕ) → n ≡ first (valueTests v p u t r) → n ≡ formatNumber f b v p u t r
+        → (n : Refusal) → n ≡ named (first (valueTests v p u t r)) r → n ≡ named (formatNumber f b v p u t r) r
     unfolding formatNumber
-    right-size h n e = passed _ _ 1 (valueTests v p u t r) sizes h n e
+    right-size h n e = named-on n (first (valueTests v p u t r)) (formatNumber f b v p u t r) r e (passed _ _ 1 (valueTests v p u t r) sizes h (first (valueTests v p u t r)) refl)
 
   -- the numbers ascend: the first that applies is the lowest
   pub format-ascending : Ascending 0 (formatTests f b v p u t r)

@@ -1,7 +1,7 @@
 -- What holds of formatted copies, proved.
 use Prim.Native.Nat.{ℕ, _+_, _-_, _*_, _^_, _≤_, _<_}
-use mathlib.Core.Path.{_≡_, refl, sym, ap, ap₂, _∙_}
-use mathlib.Core.Bool.{Bool, true, cond}
+use mathlib.Core.Path.{_≡_, refl, sym, ap, ap₂, subst, _∙_}
+use mathlib.Core.Bool.{Bool, true, cond, _&&_}
 use mathlib.Core.List.{List, _++_, append-assoc}
 use native.Mathlib.Decide.{decLe}
 use native.Mathlib.Nat.{add-zero}
@@ -10,25 +10,30 @@ use borrow.Author.Tests.{eq-eqb}
 use lib.Dec.{eqb, lit<}
 use lib.ListN.{length, getD, take, drop, length-append, getD-replicate, List·getD-append, List·getD-eq-default}
 use lib.Seq.{take-at, drop-at, getD-take, getD-drop, getD-append-add, length-take-le}
-use Rattle.endian.specs.Bytes.{window, splice, zeros}
+use Rattle.endian.specs.Bytes.{window, splice, allPass, zeros}
 use Rattle.endian.proofs.Parts.{splice-fits, length-splice, window-splice, window-before, window-after}
 use Rattle.endian.proofs.Tests.{and-both, length-zeros}
 use Rattle.checksum.proofs.Laws.{checksum-below}
+use Rattle.refusal.specs.Numbers.{sliceSize, deviceSize, uuidByte, metadataSize, reservedSize, areaEntry}
 use Rattle.refusal.specs.Tests.{first}
-use Rattle.refusal.proofs.Order.{first-all, first-lowest}
+use Rattle.refusal.proofs.Order.{first-all, first-lowest, first-other}
 use Rattle.layout.specs.declared.Device.{Device}
 use Rattle.layout.specs.declared.Side.the-variants.{Front}
 use Rattle.layout.specs.declared.Area.the-variants.{A}
-use Rattle.layout.specs.Limits.{recordLimit, blockOffset, sectorBytes}
+use Rattle.layout.specs.Limits.{sizeAllowed, metadataAllowed, reservedAllowed, nanosecondsAllowed, recordLimit, blockOffset, sectorBytes}
 use Rattle.layout.specs.Places.{areaOffset, copyBytes}
 use Rattle.layout.proofs.Laws.{length-facts}
 use Rattle.block.specs.declared.Time.{Time}
 use Rattle.block.specs.declared.BlockFields.{BlockFields}
 use Rattle.block.specs.declared.Reading.{Reading}
-use Rattle.block.specs.Block.{reading}
+use Rattle.block.specs.Block.{isHex, reading}
 use Rattle.block.specs.Writing.{blockOf}
 use Rattle.block.proofs.Written.{length-blockOf}
 use Rattle.block.proofs.RoundTrip.{read-back}
+use Rattle.items.specs.Items.{segments}
+use Rattle.record.specs.Accept.{contentTests, named}
+use Rattle.segments.specs.Demand.{FirstPair}
+use Rattle.record.proofs.Demand.{first-named, content-clash}
 use Rattle.discovery.specs.declared.Other.the-variants.{Both}
 use Rattle.discovery.specs.declared.Answer.the-variants.{Found}
 use Rattle.copy.specs.Copy.{blockIn, newest, deviceIn}
@@ -41,14 +46,28 @@ use Rattle.stores.proofs.Padding.{sectors-enough, padded-within}
 use Rattle.stores.proofs.Whole.{area-fits}
 use Rattle.stores.specs.States.{Gives, InStepOn}
 use Rattle.stores.proofs.Agreeing.{found-front, agree-gives, agree-in-step}
-use Rattle.format.specs.Format.{formatTests, formatNumber, firstFields, formattedCopy}
-use Rattle.format.specs.Demand.{Lowest, Formatting, Zero}
+use Rattle.format.specs.Format.{valueTests, formatTests, formatNumber, firstFields, formattedCopy}
+use Rattle.format.specs.Demand.{Lowest, Naming, Formatting, Zero}
 use Rattle.format.proofs.Checking.{format-ascending, Taken, taken}
 use Rattle.format.proofs.Filling.{block-fits, first-limits}
 
 pub lowest : Lowest
 unfolding formatNumber
 lowest f b v p u t r = first-lowest 0 (formatTests f b v p u t r) (format-ascending f b v p u t r)
+
+-- 19 is given by the record's tests alone
+pub naming : Naming
+unfolding formatNumber
+naming f b v p u t r e =
+    subst (λ (n : ℕ). FirstPair (segments r) (named n r .first) (named n r .second)) (sym e)
+    (first-named r
+    (content-clash v r
+    (first-other (nanosecondsAllowed (t .nanoseconds)) areaEntry (contentTests v r) 19 (λ x. omega arith)
+    (first-other (reservedAllowed (v .reserved)) reservedSize _ 19 (λ x. omega arith)
+    (first-other (metadataAllowed (v .metadata)) metadataSize _ 19 (λ x. omega arith)
+    (first-other (allPass isHex p && allPass isHex u) uuidByte _ 19 (λ x. omega arith)
+    (first-other (sizeAllowed (v .sectors)) deviceSize _ 19 (λ x. omega arith)
+    (first-other (sized f b && (eqb (length p) 32 && eqb (length u) 32)) sliceSize (valueTests v p u t r) 19 (λ x. omega arith) e))))))))
 
 -- areas follow the header
 area-a : areaOffset A ≡ 4096

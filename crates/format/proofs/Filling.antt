@@ -12,6 +12,8 @@ use Rattle.endian.specs.Bytes.{window, splice, zeros}
 use Rattle.endian.proofs.Parts.{length-window-fits, window-part, splice-part}
 use Rattle.endian.proofs.Tests.{and-both, length-zeros}
 use Rattle.checksum.specs.Crc as Crc
+use Rattle.refusal.specs.declared.Refusal.{Refusal}
+use Rattle.refusal.specs.Refusals.{plain}
 use Rattle.refusal.specs.Tests.{first, AllHold}
 use Rattle.refusal.proofs.Order.{first-all, answer-no, answer-yes}
 use Rattle.layout.specs.declared.Device.{Device}
@@ -25,6 +27,8 @@ use Rattle.block.specs.Entry.{entryAllowed}
 use Rattle.block.specs.Block.{limitTests}
 use Rattle.block.specs.Writing.{writeTests, written}
 use Rattle.block.proofs.Written.{length-blockOf, written-refused, written-accepted, write-sizes}
+use Rattle.record.specs.Accept.{named}
+use Rattle.record.proofs.Naming.{number-is, named-own}
 use Rattle.stores.specs.Stores.{holdingFor}
 use Rattle.stores.specs.Given.{laid}
 use Rattle.format.specs.Format.{formatNumber, firstFields, formattedCopy, formatted}
@@ -116,32 +120,38 @@ module _ {f b : List ℕ} {v : Device} {p u : List ℕ} {t : Time} {r : List ℕ
       (sym (written-accepted (window (zeros copyBytes) blockOffset sectorBytes) p u (firstFields v t r) (first-writes (window (zeros copyBytes) blockOffset sectorBytes) n)))
 
 -- both copies, by the number
-module _ (f b : List ℕ) (v : Device) (p u : List ℕ) (t : Time) (r : List ℕ) (n : ℕ) (e : n ≡ formatNumber f b v p u t r) where
-  kept : (n ≡ 0 → ⊥) → (c : List ℕ) → c ≡ formatted c f b v p u t r
-  unfolding formatted
-  kept h c = answer-no (formattedCopy v p u t r) (λ (m : ℕ). c) n (formatNumber f b v p u t r) e h
+module _ (f b : List ℕ) (v : Device) (p u : List ℕ) (t : Time) (r : List ℕ) (n : Refusal) (e : n ≡ named (formatNumber f b v p u t r) r) where
+  number : n .number ≡ formatNumber f b v p u t r
+  number = number-is n (formatNumber f b v p u t r) r e
 
-  anew : n ≡ 0 → (c : List ℕ) → formattedCopy v p u t r ≡ formatted c f b v p u t r
+  kept : (n .number ≡ 0 → ⊥) → (c : List ℕ) → c ≡ formatted c f b v p u t r
   unfolding formatted
-  anew h c = answer-yes (formattedCopy v p u t r) (λ (m : ℕ). c) n (formatNumber f b v p u t r) e h
+  kept h c = answer-no (formattedCopy v p u t r) (λ (m : ℕ). c) (n .number) (formatNumber f b v p u t r) number h
 
-  pub format-refused : (n ≡ 0 → ⊥)
-      → (n ≡ formatNumber f b v p u t r) × ((f ≡ formatted f f b v p u t r) × (b ≡ formatted b f b v p u t r))
+  anew : n .number ≡ 0 → (c : List ℕ) → formattedCopy v p u t r ≡ formatted c f b v p u t r
+  unfolding formatted
+  anew h c = answer-yes (formattedCopy v p u t r) (λ (m : ℕ). c) (n .number) (formatNumber f b v p u t r) number h
+
+  pub format-refused : (n .number ≡ 0 → ⊥)
+      → (n ≡ named (formatNumber f b v p u t r) r) × ((f ≡ formatted f f b v p u t r) × (b ≡ formatted b f b v p u t r))
   format-refused h = (e, (kept h f, kept h b))
 
-  module _ (h : n ≡ 0) where
+  module _ (h : n .number ≡ 0) where
+    its-facts : Taken f b v p u t r
+    its-facts = taken f b v p u t r (sym number ∙ h)
+
     pub its-record : lengthAllowed (length r) ≡ true
-    its-record = taken f b v p u t r (sym e ∙ h) .content .0
+    its-record = its-facts .content .0
 
     pub front-sized : length f ≡ copyBytes
-    front-sized = taken f b v p u t r (sym e ∙ h) .front
+    front-sized = its-facts .front
 
     pub back-sized : length b ≡ copyBytes
-    back-sized = taken f b v p u t r (sym e ∙ h) .back
+    back-sized = its-facts .back
 
-    pub format-done : (x : BlockFields) → x ≡ firstFields v t r → (w y : List ℕ) → w ≡ filled p u x r → y ≡ filled p u x r
-        → (0 ≡ formatNumber f b v p u t r) × ((w ≡ formatted f f b v p u t r) × (y ≡ formatted b f b v p u t r))
-    format-done x ex w y ew ey =
+    pub format-done : (x : BlockFields) → x ≡ firstFields v t r → (w y : List ℕ) → w ≡ filled p u x r → y ≡ filled p u x r → (k : Refusal) → k ≡ plain 0
+        → (k ≡ named (formatNumber f b v p u t r) r) × ((w ≡ formatted f f b v p u t r) × (y ≡ formatted b f b v p u t r))
+    format-done x ex w y ew ey k ek =
         let q : filled p u x r ≡ formattedCopy v p u t r =
-        ap (λ (z : BlockFields). filled p u z r) ex ∙ filled-formatted (taken f b v p u t r (sym e ∙ h)) in
-        (sym h ∙ e, (ew ∙ (q ∙ anew h f), ey ∙ (q ∙ anew h b)))
+        ap (λ (z : BlockFields). filled p u z r) ex ∙ filled-formatted its-facts in
+        (ek ∙ named-own 0 (formatNumber f b v p u t r) r (λ z. omega arith) (sym h ∙ number), (ew ∙ (q ∙ anew h f), ey ∙ (q ∙ anew h b)))

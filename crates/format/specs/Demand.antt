@@ -1,5 +1,5 @@
--- What holds of formatted copies, and of the stores that write two copies. `proofs/Exactly.antt` proves `Exactly` and `Leaving`,
--- `proofs/Demand.antt` `Lowest`, `Formatting` and `Zero`, `proofs/Starting.antt` `Placing`, `Starting` and `Possible`, `proofs/Writing.antt` the rest.
+-- What holds of formatted copies, and of the stores that write two copies. `proofs/Exactly.antt` proves `Exactly`, `Content` and `Leaving`,
+-- `proofs/Demand.antt` `Lowest`, `Naming`, `Formatting` and `Zero`, `proofs/Starting.antt` `Placing`, `Starting` and `Possible`, `proofs/Writing.antt` the rest.
 use Prim.Native.Nat.{ℕ, suc, _+_, _^_, _≤_, _<_}
 use mathlib.Core.Path.{_≡_}
 use mathlib.Core.Logic.{_⊎_, _↔_}
@@ -21,6 +21,9 @@ use Rattle.layout.specs.Demand.{Allowed}
 use Rattle.block.specs.declared.Time.{Time}
 use Rattle.block.specs.declared.Verdict.the-variants as Verdict
 use Rattle.block.specs.Accepted.{HexBytes}
+use Rattle.items.specs.Items.{segments}
+use Rattle.record.specs.Accept.{contentTests, named}
+use Rattle.segments.specs.Demand.{FirstPair}
 use Rattle.record.specs.Demand.{RightBytes}
 use Rattle.copy.specs.Copy.{readingIn, deviceIn}
 use Rattle.discovery.specs.Discovery.{copyOn}
@@ -33,9 +36,8 @@ use Rattle.format.specs.Format.{formatTests, formatNumber, firstFields, 
 use Rattle.format.specs.OnDevice.{onDevice}
 use Rattle.format.specs.Writing.{formatGroups, storeCount, positionOf, groupAt, flushAfter, storeAnswer, storeLeft}
 
--- What formatting asks for: two copies by their size, UUIDs of 32 digits, device numbers and nanoseconds within their limits, and a record
--- that is right on that device.
-pub record Formattable (f b : List ℕ) (v : Device) (p u : List ℕ) (t : Time) (r : List ℕ) : Type 0 where
+-- What formatting asks for beside the record: two copies by their size, UUIDs of 32 digits, device numbers and nanoseconds within their limits.
+pub record Asked (f b : List ℕ) (v : Device) (p u : List ℕ) (t : Time) : Type 0 where
   pub front : length f ≡ copyBytes
   pub back : length b ≡ copyBytes
   pub pool : length p ≡ 32
@@ -44,6 +46,10 @@ pub record Formattable (f b : List ℕ) (v : Device) (p u : List ℕ) (t : Time)
   pub blockdev-hex : HexBytes u
   pub device : Allowed v
   pub nanoseconds : t .nanoseconds ≤ 999999999
+
+-- What it asks for: that, and a record that is right on that device.
+pub record Formattable (f b : List ℕ) (v : Device) (p u : List ℕ) (t : Time) (r : List ℕ) : Type 0 where
+  pub asked : Asked f b v p u t
   pub right : RightBytes v r
 
 -- It is not refused exactly when all of that holds.
@@ -66,6 +72,18 @@ Lowest =
     (f b : List ℕ) (v : Device) (p u : List ℕ) (t : Time) (r : List ℕ) → 0 < formatNumber f b v p u t r
     → Fails (formatTests f b v p u t r) (formatNumber f b v p u t r)
     × ((k : ℕ) → Fails (formatTests f b v p u t r) k → formatNumber f b v p u t r ≤ k)
+
+-- Where what it asks for beside the record is right, its number is that of the record's content; and only then is it one of those, 15 and 17 to 19.
+abbrev pub Content : Type 0
+Content =
+    (f b : List ℕ) (v : Device) (p u : List ℕ) (t : Time) (r : List ℕ)
+    → (Asked f b v p u t → formatNumber f b v p u t r ≡ first (contentTests v r)) × (15 ≤ formatNumber f b v p u t r → Asked f b v p u t)
+
+-- 19 is of the first record: two of its segments share a sector, and the two that clash stand beside it.
+abbrev pub Naming : Type 0
+Naming =
+    (f b : List ℕ) (v : Device) (p u : List ℕ) (t : Time) (r : List ℕ) → formatNumber f b v p u t r ≡ 19
+    → FirstPair (segments r) (named (formatNumber f b v p u t r) r .first) (named (formatNumber f b v p u t r) r .second)
 
 -- Area a holds a first record: discovery of the two copies gives it with its time, they are in step on it, and both blocks
 -- are accepted with the device's numbers and UUIDs, area b unused.

@@ -8,6 +8,7 @@ ghost use Rattle.endian.specs.Bytes.{splice};
 ghost use Rattle.refusal.specs.Tests.{first};
 ghost use Rattle.layout.specs.Limits.{lengthAllowed};
 ghost use Rattle.layout.specs.Places.{copyBytes};
+ghost use Rattle.record.specs.Accept.{named};
 ghost use Rattle.stores.specs.declared.Given.the-variants.{At};
 ghost use Rattle.sectors.specs.Sectors.{copySectors, sectorAt};
 ghost use Rattle.sectors.specs.Demand.{nthSector};
@@ -21,6 +22,7 @@ use block::Time;
 use layout::Area;
 use layout::Device;
 use layout::Side;
+use refusal::Refusal;
 use stores::Given;
 
 // The sectors of a copy, of its header and of its two areas.
@@ -36,38 +38,38 @@ const FRONT_HEADER: u64 = SECTORS + AREAS;
 const STORES: u64 = 2 * SECTORS;
 
 // The tests after the sizes: device numbers, UUIDs, time and record.
-fn check_values(d: Device, pool: &[u8], blockdev: &[u8], t: Time, r: &[u8]) -> u8
-    ensures { λ n. ⌜ n ≡ first (valueTests d (now (pool .entry)) (now (blockdev .entry)) t (now (r .entry))) ⌝ }
+fn check_values(d: Device, pool: &[u8], blockdev: &[u8], t: Time, r: &[u8]) -> Refusal
+    ensures { λ n. ⌜ n ≡ named (first (valueTests d (now (pool .entry)) (now (blockdev .entry)) t (now (r .entry)))) (now (r .entry)) ⌝ }
 {
     if !layout::size_allowed(d.sectors) {
-        return refusal::DEVICE_SIZE;
+        return refusal::plain(refusal::DEVICE_SIZE);
     }
     let hex = block::all_hex(pool) & block::all_hex(blockdev);
     if !hex {
-        return refusal::UUID_BYTE;
+        return refusal::plain(refusal::UUID_BYTE);
     }
     if !layout::metadata_allowed(d.metadata) {
-        return refusal::METADATA_SIZE;
+        return refusal::plain(refusal::METADATA_SIZE);
     }
     if !layout::reserved_allowed(d.reserved) {
-        return refusal::RESERVED_SIZE;
+        return refusal::plain(refusal::RESERVED_SIZE);
     }
     let within = t.nanoseconds <= layout::MOST_NANOSECONDS;
     if !within {
-        return refusal::AREA_ENTRY;
+        return refusal::plain(refusal::AREA_ENTRY);
     }
     record::check_content(d, r)
 }
 
-// The refusal number of formatting two copies: 1, 4, 6 to 9, 15 or 17 to 19, the lowest that applies; 0 where it is not
-// refused.
-fn check(f: &[u8], b: &[u8], d: Device, pool: &[u8], blockdev: &[u8], t: Time, r: &[u8]) -> u8
-    ensures { λ n. ⌜ n ≡ formatNumber (now (f .entry)) (now (b .entry)) d (now (pool .entry)) (now (blockdev .entry)) t (now (r .entry)) ⌝ }
+// The refusal of formatting two copies: 1, 4, 6 to 9, 15 or 17 to 19, the lowest that applies, 19 with the two segments that clash;
+// number 0 where it is not refused.
+fn check(f: &[u8], b: &[u8], d: Device, pool: &[u8], blockdev: &[u8], t: Time, r: &[u8]) -> Refusal
+    ensures { λ n. ⌜ n ≡ named (formatNumber (now (f .entry)) (now (b .entry)) d (now (pool .entry)) (now (blockdev .entry)) t (now (r .entry))) (now (r .entry)) ⌝ }
 {
     let n = layout::copy_bytes();
     let sized = ((f.len() == n) & (b.len() == n)) & ((pool.len() == 32) & (blockdev.len() == 32));
     if !sized {
-        return refusal::SLICE_SIZE;
+        return refusal::plain(refusal::SLICE_SIZE);
     }
     check_values(d, pool, blockdev, t, r)
 }
@@ -105,8 +107,8 @@ fn fill(c: &mut [u8], pool: &[u8], blockdev: &[u8], x: BlockFields, r: &[u8])
     stores::lay(c, Area::A, r);
 }
 
-// Formats the two copies of a device with these numbers and UUIDs, with a record and its time, and answers 0; or changes
-// nothing and answers its refusal number.
+// Formats the two copies of a device with these numbers and UUIDs, with a record and its time, and answers number 0; or changes
+// nothing and answers its refusal.
 pub fn format_copies(
     f: &mut [u8],
     b: &mut [u8],
@@ -115,19 +117,19 @@ pub fn format_copies(
     blockdev: &[u8],
     t: Time,
     r: &[u8],
-) -> u8
-    ensures { λ n. ⌜ n ≡ formatNumber (now (f .entry)) (now (b .entry)) d (now (pool .entry)) (now (blockdev .entry)) t (now (r .entry)) ⌝ }
+) -> Refusal
+    ensures { λ n. ⌜ n ≡ named (formatNumber (now (f .entry)) (now (b .entry)) d (now (pool .entry)) (now (blockdev .entry)) t (now (r .entry))) (now (r .entry)) ⌝ }
     ensures { λ _. ⌜ now (f .exit) ≡ formatted (now (f .entry)) (now (f .entry)) (now (b .entry)) d (now (pool .entry)) (now (blockdev .entry)) t (now (r .entry)) ⌝ }
     ensures { λ _. ⌜ now (b .exit) ≡ formatted (now (b .entry)) (now (f .entry)) (now (b .entry)) d (now (pool .entry)) (now (blockdev .entry)) t (now (r .entry)) ⌝ }
 {
     let n = check(f, b, d, pool, blockdev, t, r);
-    if n != 0 {
+    if n.number != 0 {
         return n;
     }
     let x = first_fields(d, t, r);
     fill(f, pool, blockdev, x, r);
     fill(b, pool, blockdev, x, r);
-    refusal::NONE
+    refusal::plain(refusal::NONE)
 }
 
 // How many stores write both copies: every sector of each.

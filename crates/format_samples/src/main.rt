@@ -1,4 +1,4 @@
-// Formats copies through the library and prints what came of each: its number, the checksums of the front and the back
+// Formats copies through the library and prints what came of each: its number with what stands beside it, the checksums of the front and the back
 // copy afterwards, and the dump program's line for them. Standard input has the samples, packed by samples/formats.py.
 // Before each sample the copies hold bytes of the input. What must be printed is the file stdout; that script makes both
 // and shares nothing with the library. That the program is safe and ends is proved; that it prints the right thing is
@@ -9,13 +9,17 @@ ghost use Rattle.sampling.specs.Laying.{inputBytes};
 use block::Time;
 use dump_line::Written;
 use layout::Device;
+use refusal::Refusal;
+use sampling::beside;
 use sampling::decimal;
 use sampling::say;
 use sampling::sum;
 
-// Prints the number, the two checksums and the line.
-fn print(n: u8, f: &[u8], b: &[u8]) {
+// Prints the number, what stands beside it, the two checksums and the line.
+fn print(r: Refusal, f: &[u8], b: &[u8]) {
+    let n = r.number;
     decimal(n as u64);
+    beside(r);
     sum(f);
     sum(b);
     say(b" ");

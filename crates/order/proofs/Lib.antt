@@ -1,2 +1,4 @@
--- The laws that callers cite.
+-- The laws that callers cite, and what is claimed.
 pub mod Ordering
+pub mod Looking
+pub mod Demand

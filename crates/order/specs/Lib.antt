@@ -1,2 +1,3 @@
--- What contracts and other crates' definitions cite.
+-- What contracts and other crates' definitions cite, and what is claimed of it.
 pub mod Ordering
+pub mod Demand

@@ -18,7 +18,8 @@ use Rattle.segments.specs.Segments.{none, nth, holds, InRange}
 use Rattle.items.specs.declared.Head.{Head}
 use Rattle.items.specs.Head.{headSize, allows, rangeFor, itemBytes, mostSegments}
 use Rattle.items.proofs.Heads.{most-room}
-use Rattle.record.specs.Demand.{Share, Right}
+use Rattle.segments.specs.Demand.{Share}
+use Rattle.record.specs.Demand.{Right}
 
 -- every position of the longer list is an old one or the last
 last-or : (i n : ℕ) → i < n + 1 → (i ≡ n) ⊎ (i < n)
@@ -49,13 +50,16 @@ module _ (d : Device) (h : Head) (gs : List Segment) (g : Segment) where
       let m : length (gs ++ (g ∷ [])) ≡ length gs + 1 = more in
       let q : headSize h + itemBytes * (length gs + 1) ≤ recordLimit = most-room h (length gs) room in
       record {
-        size = r .size;
-        metadata = r .metadata;
-        reserved = r .reserved;
-        head = r .head;
-        bytes = omega arith;
-        kinds = each (λ (z : Segment). allows h (z .kind) ≡ true) (r .kinds) kind;
-        ranges = each (λ (z : Segment). InRange (rangeFor d h (z .kind)) z) (r .ranges) range;
+        each =
+            record {
+              size = r .each .size;
+              metadata = r .each .metadata;
+              reserved = r .each .reserved;
+              head = r .each .head;
+              bytes = omega arith;
+              kinds = each (λ (z : Segment). allows h (z .kind) ≡ true) (r .each .kinds) kind;
+              ranges = each (λ (z : Segment). InRange (rangeFor d h (z .kind)) z) (r .each .ranges) range;
+            };
         apart = λ i j x c. between i j x c (last-or j (length gs) (rw m at (c .there)));
       }
     where
@@ -116,15 +120,18 @@ module _ (d : Device) (h : Head) (gs : List Segment) (p : ℕ) (there : p < leng
 
   pub right-remove : Right d h gs → Right d h rest
   right-remove r =
-      let b : headSize h + itemBytes * length gs ≤ recordLimit = r .bytes in
+      let b : headSize h + itemBytes * length gs ≤ recordLimit = r .each .bytes in
       record {
-        size = r .size;
-        metadata = r .metadata;
-        reserved = r .reserved;
-        head = r .head;
-        bytes = omega (arith, less);
-        kinds = λ i l. rw (which i) (r .kinds (oldOf p i) (old-there i l));
-        ranges = λ i l. rw (which i) (r .ranges (oldOf p i) (old-there i l));
+        each =
+            record {
+              size = r .each .size;
+              metadata = r .each .metadata;
+              reserved = r .each .reserved;
+              head = r .each .head;
+              bytes = omega (arith, less);
+              kinds = λ i l. rw (which i) (r .each .kinds (oldOf p i) (old-there i l));
+              ranges = λ i l. rw (which i) (r .each .ranges (oldOf p i) (old-there i l));
+            };
         apart = λ i j x c.
             r .apart (oldOf p i) (oldOf p j) x
             (record { later = old-order i j (c .later); there = old-there j (c .there); one = rw (which i) at (c .one); other = rw (which j) at (c .other) });

@@ -15,8 +15,10 @@ use lib.Seq.{take-at, drop-at, getD-take, getD-drop}
 use Rattle.endian.specs.Bytes.{toLe, zeros}
 use Rattle.endian.proofs.Tests.{and-left, and-right, and-both}
 use Rattle.refusal.specs.Numbers.{deviceSize, metadataSize, reservedSize, recordLength, recordForm, segmentPlace, segmentClash}
-use Rattle.refusal.specs.Tests.{Test, _elseRefuse_, first, Ascending}
-use Rattle.refusal.proofs.Order.{first-lowest, first-all}
+use Rattle.refusal.specs.declared.Refusal.{Refusal}
+use Rattle.refusal.specs.Refusals.{plain}
+use Rattle.refusal.specs.Tests.{Test, _elseRefuse_, first, AllHold, Fails, Ascending}
+use Rattle.refusal.proofs.Order.{first-fail, first-lowest, first-zero, first-after, first-all, hold-before}
 use Rattle.layout.specs.declared.Device.{Device}
 use Rattle.layout.specs.Limits.{sizeAllowed, metadataAllowed, reservedAllowed, deviceTests, lengthAllowed, recordLimit}
 use Rattle.layout.specs.Places.{dataStart, dataEnd}
@@ -25,11 +27,13 @@ use Rattle.search.proofs.Search.{in-within, below-within, past-within, not-true
 use Rattle.segments.specs.declared.Segment.{Segment}
 use Rattle.segments.specs.declared.Range.{Range}
 use Rattle.segments.specs.Segments.{none, nth, holds, InRange}
-use Rattle.segments.specs.Clash.{laterOf, earlierOf, clashesAt, apart}
+use Rattle.segments.specs.Clash.{laterOf, earlierOf, apart}
 use Rattle.segments.specs.Sectors.{heldBy, isFree, allocated, freeSectors, Holder}
 use Rattle.segments.specs.Order.{orderOf, Placed}
-use Rattle.segments.proofs.Segments.{meets-shares, shares-meets, in-range-back}
-use Rattle.segments.proofs.Clash.{clash-later, clash-order, clash-meets, later-there, found-clash, clash-lowest, none-apart, apart-not, earlier-le}
+use Rattle.segments.specs.Demand.{Share, FirstPair}
+use Rattle.segments.proofs.Segments.{in-range-back}
+use Rattle.segments.proofs.Pairs.{apart-share, share-found, first-pair, one-pair}
+use Rattle.segments.proofs.Clash.{apart-not}
 use Rattle.segments.proofs.Sectors.{Laid}
 use Rattle.segments.proofs.Sectors as Sectors
 use Rattle.segments.proofs.Order.{order-length, in-order}
@@ -41,20 +45,20 @@ use Rattle.items.specs.Making.{segmentBytes, allBytes, recordOf}
 use Rattle.items.proofs.Heads.{kind-small, head-small, right-fits, one-range, plain-right, right-plain, unknown-wrong, kinds-plain, plain-kinds, most-room, room-most}
 use Rattle.items.proofs.Making.{formed-record, record-again}
 use Rattle.order.specs.declared.Order.{Order}
-use Rattle.order.specs.declared.Clash.the-variants.{Pair, Nothing}
-use Rattle.order.specs.Ordering.{firstClash}
-use Rattle.order.proofs.Ordering.{clash-pair, clash-nothing, order-yes}
-use Rattle.record.specs.declared.Clashes.the-variants as Clashes
+use Rattle.order.specs.declared.Clash.the-variants.{Nothing}
+use Rattle.order.specs.Ordering.{noOrder, order}
+use Rattle.order.proofs.Ordering.{order-yes}
 use Rattle.record.specs.declared.Found.the-variants as Found
 use Rattle.record.specs.declared.Counted.the-variants as Counted
 use Rattle.record.specs.declared.Heading.the-variants as Heading
-use Rattle.record.specs.Accept.{rangeAt, allInRange, contentTests, recordTests, checked}
+use Rattle.record.specs.Accept.{rangeAt, allInRange, contentTests, recordTests, named, checked}
 use Rattle.record.specs.Sectors.{parts}
-use Rattle.record.specs.Answers.{lengthTests, clashNumber, positionTests, foundNumber, countedNumber, headingNumber, handedOn, allValues, someRoom, segmentsLeft}
-use Rattle.record.specs.Demand.{Share, Right, Exactly, ReadAfterMake, Heads, Full, Printed, Means, Meaning, Lowest, Partition, Cases, Sums, Clashing, Ordered, Handed, NotHanded, Handing, Numbered}
-use Rattle.record.proofs.Testing.{record-ascending, fails-at}
+use Rattle.record.specs.Answers.{positionTests, foundRefusal, countedRefusal, headingRefusal, handedOn, allValues, someRoom, segmentsLeft}
+use Rattle.record.specs.Demand.{Right, Exactly, ReadAfterMake, Heads, Full, Printed, Means, Meaning, Lowest, Partition, Cases, Sums, ClashBy, ClashExactly, EachRight, Clashing, Content, Naming, Ordered, Handed, NotHanded, Handing, Numbered, Valued}
+use Rattle.record.proofs.Testing.{device-ascending, content-ascending, record-ascending, fails-at}
+use Rattle.record.proofs.Naming.{named-number, named-other, named-pair, named-none, refuse-yes}
 use Rattle.record.proofs.Accepted.{Accepted, accepted, ends, laid, ordered, fewer}
-use Rattle.record.proofs.Right.{apart-share, read-head, read-segments, accepted-made, accepted-right, right-empty}
+use Rattle.record.proofs.Right.{tests-but-last, segments-each, tests-each, tests-right, read-head, read-segments, accepted-made, accepted-right, right-empty}
 use Rattle.record.proofs.Change.{right-append}
 use Rattle.record.proofs.Handing.{values-length, values-at, Hands, hands-refused, hands-none, hands-short, hands-some}
 
@@ -134,51 +138,35 @@ sums d s h =
     let c : allocated (segments s) + freeSectors (dataRange d) (segments s) ≡ dataEnd d - dataStart d = Sectors.counted (dataRange d) (segments s) (laid d s a) (omega arith) in
     omega arith
 
--- the pair that the search finds, and none
-pair-of : (gs : List Segment) → earlierOf gs < length gs → firstClash gs ≡ Pair (earlierOf gs) (laterOf gs (earlierOf gs))
-pair-of gs l = clash-pair gs (earlierOf gs) (laterOf gs (earlierOf gs)) l refl refl
+-- the pair that the search finds stands beside 19
+pair-named : (s : List ℕ) → earlierOf (segments s) < length (segments s) → FirstPair (segments s) (named 19 s .first) (named 19 s .second)
+pair-named s l = subst (λ (r : Refusal). FirstPair (segments s) (r .first) (r .second)) (sym (named-pair s)) (first-pair (segments s) l)
 
-none-of : (gs : List Segment) → length gs ≤ earlierOf gs → firstClash gs ≡ Nothing
-none-of gs l = clash-nothing gs (let e : earlierOf gs ≡ length gs = omega (arith, earlier-le gs) in e)
+pub first-named : (s : List ℕ) → apart (segments s) ≡ false → FirstPair (segments s) (named 19 s .first) (named 19 s .second)
+first-named s h = pair-named s (apart-not (segments s) h)
 
-share-clash : (gs : List Segment) (k l x : ℕ) → Share gs k l x → clashesAt gs k l ≡ true
-share-clash gs k l x c = clash-later gs k l (c .later) ∙ shares-meets (nth gs k) (nth gs l) x (c .one) (c .other)
+pub naming : Naming
+naming s =
+    record {
+      number = λ n. named-number n s;
+      pair = λ i j x c. pair-named s (share-found (segments s) i j x c);
+      only = λ i j p. one-pair (segments s) (named 19 s .first) (named 19 s .second) i j (pair-named s (share-found (segments s) i j (p .shared .0) (p .shared .1))) p;
+      nothing = λ n h. (ap (λ (r : Refusal). r .first) (named-other n s h), ap (λ (r : Refusal). r .second) (named-other n s h));
+    }
 
-pub clashing : Clashing
-clashing gs = (pair, nothing)
-  where
-    pair : (i j : ℕ) → firstClash gs ≡ Pair i j → ((x : ℕ) × Share gs i j x) × ((k l x : ℕ) → Share gs k l x → (i < k) ⊎ ((i ≡ k) × (j ≤ l)))
-    pair i j h =
-        elim (decLt (earlierOf gs) (length gs)) [
-          | yes l ↦
-              let f : firstClash gs ≡ Pair (earlierOf gs) (laterOf gs (earlierOf gs)) = pair-of gs l in
-              let e : earlierOf gs ≡ i = cc in
-              let g : laterOf gs (earlierOf gs) ≡ j = cc in
-              let c : clashesAt gs i j ≡ true = rw (← e, ← g) (found-clash gs l) in
-              let w : (x : ℕ) × ((holds (nth gs i) x ≡ true) × (holds (nth gs j) x ≡ true)) = meets-shares (nth gs i) (nth gs j) (clash-meets gs i j c) in
-              let t : laterOf gs (earlierOf gs) < length gs = later-there gs l in (
-                (w .0, record { later = clash-order gs i j c; there = omega arith; one = w .1 .0; other = w .1 .1 }),
-                λ k m x s. rw (← e, ← g) (clash-lowest gs k m (s .there) (share-clash gs k m x s)),
-              )
-          | no l ↦
-              let f : firstClash gs ≡ Nothing = none-of gs (let m : length gs ≤ earlierOf gs = omega arith in m) in
-              let z : _≡_ {A = ℕ} 0 1 = cc in
-              absurd (omega arith)
-        ]
-
-    nothing : firstClash gs ≡ Nothing → (k l x : ℕ) → Share gs k l x → ⊥
-    nothing h =
-        elim (decLt (earlierOf gs) (length gs)) [
-          | yes l ↦
-              let f : firstClash gs ≡ Pair (earlierOf gs) (laterOf gs (earlierOf gs)) = pair-of gs l in
-              let z : _≡_ {A = ℕ} 0 1 = cc in
-              absurd (omega arith)
-          | no l ↦ apart-share gs (none-apart gs (let m : length gs ≤ earlierOf gs = omega arith in m))
-        ]
+-- 19 is given by the last of a record's tests alone
+pub content-clash : (d : Device) (s : List ℕ) → first (contentTests d s) ≡ 19 → apart (segments s) ≡ false
+content-clash d s e =
+    fails-at 0
+    ((lengthAllowed (length s) elseRefuse recordLength)
+    ∷ (wellFormed d s elseRefuse recordForm)
+    ∷ (allInRange d (headOf s) (segments s) elseRefuse segmentPlace)
+    ∷ [])
+    [] (apart (segments s)) 19 (content-ascending d s) e
 
 -- the order that a check gives of an accepted record
 pub order-is : (d : Device) (s : List ℕ) → first (recordTests d s) ≡ 0
-    → checked (first (recordTests d s)) s .order ≡ record { at = orderOf (segments s) ++ zeros (mostOfAny - length (segments s)); ordered = true }
+    → checked (first (recordTests d s)) s .order ≡ record { at = orderOf (segments s) ++ zeros (mostOfAny - length (segments s)); ordered = true; clash = Nothing }
 unfolding checked
 order-is d s h =
     let a : Accepted d s = accepted d s h in
@@ -291,8 +279,7 @@ module _ (d : Device) (s : List ℕ) where
   clash-there : apart (segments s) ≡ false → (i : ℕ) × ((j : ℕ) × ((x : ℕ) × Share (segments s) i j x))
   clash-there h =
       let l : earlierOf (segments s) < length (segments s) = apart-not (segments s) h in
-      let w : (x : ℕ) × Share (segments s) (earlierOf (segments s)) (laterOf (segments s) (earlierOf (segments s))) x = clashing (segments s) .0 (earlierOf (segments s)) (laterOf (segments s) (earlierOf (segments s))) (pair-of (segments s) l) .0 in
-      (earlierOf (segments s), (laterOf (segments s) (earlierOf (segments s)), w))
+      (earlierOf (segments s), (laterOf (segments s) (earlierOf (segments s)), first-pair (segments s) l .shared))
 
   pub means : Means d s
   means =
@@ -311,11 +298,80 @@ module _ (d : Device) (s : List ℕ) where
 pub meaning : Meaning
 meaning = means
 
+-- 19, and no lower number: by tests whose numbers ascend, of which the one of the clash has 19
+clash-by : (ts : List Test) (s : List ℕ) → Ascending 0 ts → (first ts ≡ 19 → apart (segments s) ≡ false) → (apart (segments s) ≡ false → Fails ts 19)
+    → (first ts ≡ 0 → apart (segments s) ≡ true) → ClashBy ts s
+clash-by ts s up gives fails accepts = (forth, back)
+  where
+    forth : first ts ≡ 19 → ((k : ℕ) → k < 19 → Fails ts k → ⊥) × FirstPair (segments s) (named (first ts) s .first) (named (first ts) s .second)
+    forth e = (
+      λ k l f. (let m : first ts ≤ k = first-lowest 0 ts up (omega arith) .1 k f in omega arith),
+      subst (λ (n : ℕ). FirstPair (segments s) (named n s .first) (named n s .second)) (sym e) (first-named s (gives e)),
+    )
+
+    back : ((k : ℕ) → k < 19 → Fails ts k → ⊥) → (i j x : ℕ) → Share (segments s) i j x → first ts ≡ 19
+    back lower i j x c =
+        let a : apart (segments s) ≡ false = not-true-false (apart (segments s)) (λ h. apart-share (segments s) h i j x c) in
+        elim (ℕ-discrete (first ts) 0) [
+          | yes z ↦ absurd (both (apart (segments s)) (accepts z) a)
+          | no z ↦
+              let w : Fails ts (first ts) × ((k : ℕ) → Fails ts k → first ts ≤ k) = first-lowest 0 ts up (omega arith) in
+              let u : first ts ≤ 19 = w .1 19 (fails a) in
+              elim (decLt (first ts) 19) [
+                | yes l ↦ absurd (lower (first ts) l (w .0))
+                | no l ↦ omega arith
+              ]
+        ]
+
+pub clashing : Clashing
+clashing d s = (
+  clash-by (recordTests d s) s (record-ascending d s)
+      (λ e. fails-at 0 (deviceTests d ++ ((lengthAllowed (length s) elseRefuse recordLength) ∷ (wellFormed d s elseRefuse recordForm) ∷ (allInRange d (headOf s) (segments s) elseRefuse segmentPlace) ∷ [])) [] (apart (segments s)) 19 (record-ascending d s) e)
+      (λ a. inr (inr (inr (inr (inr (inr (inl (a, refl)))))))) (λ z. accepted d s z .disjoint),
+  clash-by (contentTests d s) s (content-ascending d s) (content-clash d s) (λ a. inr (inr (inr (inl (a, refl)))))
+      (λ z. first-zero 0 (contentTests d s) (content-ascending d s) z .1 .1 .1 .0),
+)
+
+-- by meaning
+pub clash-exactly : ClashExactly
+clash-exactly d s small b = (forth, back)
+  where
+    forth : first (recordTests d s) ≡ 19 → (recordOf (headOf s) (segments s) ≡ s) × (EachRight d (headOf s) (segments s) × FirstPair (segments s) (named 19 s .first) (named 19 s .second))
+    forth e =
+        let a : AllHold (tests-but-last d s) =
+        hold-before (tests-but-last d s) ((apart (segments s) elseRefuse segmentClash) ∷ []) 19
+        ((λ z. omega arith), ((λ z. omega arith), ((λ z. omega arith), ((λ z. omega arith), ((λ z. omega arith), ((λ z. omega arith), tt)))))) e in (
+          record-again d s b (a .1 .1 .1 .1 .0),
+          (tests-right d s a, subst (λ (n : ℕ). FirstPair (segments s) (named n s .first) (named n s .second)) e (clashing d s .0 .0 e .1)),
+        )
+
+    back : (h : Head) (gs : List Segment) (i j : ℕ) → EachRight d h gs → recordOf h gs ≡ s → FirstPair gs i j
+        → named (first (recordTests d s)) s ≡ record { number = 19; first = i; second = j }
+    back h gs i j r e p =
+        subst (λ (z : List ℕ). named (first (recordTests d z)) z ≡ record { number = 19; first = i; second = j }) e
+        (let g : segments (recordOf h gs) ≡ gs = segments-each d h gs small r in
+        let q : FirstPair (segments (recordOf h gs)) i j = subst (λ (z : List Segment). FirstPair z i j) (sym g) p in
+        let a : apart (segments (recordOf h gs)) ≡ false =
+        not-true-false (apart (segments (recordOf h gs))) (λ x. apart-share (segments (recordOf h gs)) x i j (q .shared .0) (q .shared .1)) in
+        let n : first (recordTests d (recordOf h gs)) ≡ 19 =
+        first-after (tests-but-last d (recordOf h gs)) ((apart (segments (recordOf h gs)) elseRefuse segmentClash) ∷ []) (tests-each d h gs small r)
+        ∙ first-fail (apart (segments (recordOf h gs))) segmentClash [] a in
+        let w : (named 19 (recordOf h gs) .first ≡ i) × (named 19 (recordOf h gs) .second ≡ j) = naming (recordOf h gs) .only i j q in
+        ap (λ (k : ℕ). named k (recordOf h gs)) n
+        ∙ λ t. record { number = named-number 19 (recordOf h gs) t; first = w .0 t; second = w .1 t })
+
+pub content : Content
+content d s z = sym (first-after (deviceTests d) (contentTests d s) (first-zero 0 (deviceTests d) (device-ascending d) z))
+
+-- the check of an accepted record
+zero-named : (d : Device) (s : List ℕ) → first (recordTests d s) ≡ 0 → plain 0 ≡ named (first (recordTests d s)) s
+zero-named d s a = sym (named-none s) ∙ ap (λ (k : ℕ). named k s) (sym a)
+
 -- n segments handed on, by what the call leaves
 module _ (d : Device) (s : List ℕ) (p : ℕ) (t : List ℕ) where
   handed-none : first (recordTests d s) ≡ 0 → length (segments s) ≤ p → Handed d s p t 0
   handed-none a l =
-      let h : Hands d s p t (Counted.Segments 0) t = hands-none d s p t 0 (sym a) refl (itemsOf s) (length (segments s)) refl refl l in
+      let h : Hands d s p t (Counted.Segments 0) t = hands-none d s p t (plain 0) (zero-named d s a) refl (itemsOf s) (length (segments s)) refl refl l in
       record {
         answer = sym (h .0);
         there = λ i k. absurd (not-suc-le-zero k);
@@ -337,7 +393,7 @@ module _ (d : Device) (s : List ℕ) (p : ℕ) (t : List ℕ) where
   handed-some : first (recordTests d s) ≡ 0 → 3 ≤ length t → Handed d s p t n
   handed-some a l =
       let h : Hands d s p t (Counted.Segments n) (allValues (take n (drop p (segments s))) ++ drop (3 * n) t)
-      = hands-some d s p t 0 (sym a) refl (itemsOf s) (length (segments s)) refl refl l n (allValues (take n (drop p (segments s))) ++ drop (3 * n) t) refl refl in
+      = hands-some d s p t (plain 0) (zero-named d s a) refl (itemsOf s) (length (segments s)) refl refl l n (allValues (take n (drop p (segments s))) ++ drop (3 * n) t) refl refl in
       let many : length (take n (drop p (segments s))) ≡ n = all-taken in
       record {
         answer = sym (h .0);
@@ -363,28 +419,40 @@ handing d s p t = (some, (short, refused))
 
     short : first (recordTests d s) ≡ 0 → p < length (segments s) → length t < 3 → NotHanded d s p t 1
     short a l k =
-        let h : Hands d s p t (Counted.Refused 1) t = hands-short d s p t 0 (sym a) refl (itemsOf s) (length (segments s)) refl refl l k in
-        (sym (h .0), sym (h .1))
+        let h : Hands d s p t (Counted.Refused (plain 1)) t = hands-short d s p t (plain 0) (zero-named d s a) refl (itemsOf s) (length (segments s)) refl refl l k (plain 1) refl in
+        (sym (h .0) ∙ ap Counted.Refused (sym (named-other 1 s (λ z. omega arith))), sym (h .1))
 
     refused : (n : ℕ) → 0 < n → first (recordTests d s) ≡ n → NotHanded d s p t n
     refused n l a =
-        let h : Hands d s p t (Counted.Refused n) t = hands-refused d s p t n (sym a) (λ z. omega arith) in
+        let e : named n s .number ≡ n = named-number n s in
+        let h : Hands d s p t (Counted.Refused (named n s)) t = hands-refused d s p t (named n s) (ap (λ (k : ℕ). named k s) (sym a)) (λ z. omega arith) in
         (sym (h .0), sym (h .1))
 
--- the number of an answer that is made of its tests' number
-pub number-of : {A : Type 0} (number : A → ℕ) (value : A) (refused : ℕ → A) → number value ≡ 0 → ((n : ℕ) → number (refused n) ≡ n) → (n : ℕ) → number (cond (eqb n 0) value (refused n)) ≡ n
-number-of number value refused z r n =
+-- the refusal of an answer that is made of its tests' number
+pub refusal-of : {A : Type 0} (refusal : A → Refusal) (value : A) (refused : Refusal → A) (s : List ℕ) → refusal value ≡ plain 0 → ((r : Refusal) → refusal (refused r) ≡ r)
+    → (n : ℕ) → refusal (cond (eqb n 0) value (refused (named n s))) ≡ named n s
+refusal-of refusal value refused s z r n =
     elim (ℕ-discrete n 0) [
-      | yes e ↦ rw (eq-eqb n 0 e) (z ∙ sym e)
-      | no e ↦ rw (ne-eqb n 0 e) (r n)
+      | yes e ↦ rw (eq-eqb n 0 e) (z ∙ (sym (named-none s) ∙ ap (λ (k : ℕ). named k s) (sym e)))
+      | no e ↦ rw (ne-eqb n 0 e) (r (named n s))
     ]
 
 pub numbered : Numbered
+unfolding checked
 numbered d s p w =
     record {
-      clash = number-of clashNumber (Clashes.First (firstClash (segments s))) Clashes.Refused refl (λ n. refl) (first (lengthTests s));
-      segment = number-of foundNumber (Found.At (nth (segments s) p)) Found.Refused refl (λ n. refl) (first (recordTests d s ++ positionTests s p));
-      many = number-of countedNumber (Counted.Segments (length (segments s))) Counted.Refused refl (λ n. refl) (first (recordTests d s));
-      head = number-of headingNumber (Heading.Of (headOf s)) Heading.Refused refl (λ n. refl) (first (recordTests d s));
-      handed = number-of countedNumber (Counted.Segments (handedOn s p w)) Counted.Refused refl (λ n. refl) (first (recordTests d s ++ someRoom s p w));
+      check = refl;
+      no-order = λ z. ap (λ (b : Bool). cond b (order (segments s)) noOrder) (ne-eqb (first (recordTests d s)) 0 z);
+      segment = refusal-of foundRefusal (Found.At (nth (segments s) p)) Found.Refused s refl (λ r. refl) (first (recordTests d s ++ positionTests s p));
+      many = refusal-of countedRefusal (Counted.Segments (length (segments s))) Counted.Refused s refl (λ r. refl) (first (recordTests d s));
+      head = refusal-of headingRefusal (Heading.Of (headOf s)) Heading.Refused s refl (λ r. refl) (first (recordTests d s));
+      handed = refusal-of countedRefusal (Counted.Segments (handedOn s p w)) Counted.Refused s refl (λ r. refl) (first (recordTests d s ++ someRoom s p w));
+    }
+
+pub valued : Valued
+valued d s p =
+    record {
+      segment = λ z. sym (refuse-yes (Found.At (nth (segments s) p)) Found.Refused s (first (recordTests d s ++ positionTests s p)) (first (recordTests d s ++ positionTests s p)) refl z);
+      many = λ z. sym (refuse-yes (Counted.Segments (length (segments s))) Counted.Refused s (first (recordTests d s)) (first (recordTests d s)) refl z);
+      head = λ z. sym (refuse-yes (Heading.Of (headOf s)) Heading.Refused s (first (recordTests d s)) (first (recordTests d s)) refl z);
     }

@@ -1,6 +1,6 @@
 -- Laws of the segments that are handed on in a table of numbers: a turn of the loop, and each answer.
 use Prim.Native.Nat.{ℕ, zero, suc, _+_, _-_, _*_, _/_, _≤_, _<_, min}
-use mathlib.Core.Path.{_≡_, refl, sym, ap, ap₂, _∙_}
+use mathlib.Core.Path.{_≡_, refl, sym, ap, ap₂, subst, _∙_}
 use mathlib.Core.Bool.{Bool, cond, _||_, or-true}
 use mathlib.Core.List.{List, [], _∷_, _++_}
 use native.Mathlib.Nat.{not-suc-le-zero}
@@ -10,9 +10,11 @@ use borrow.Author.Tests.{le-leb, lt-leb, eq-eqb, ne-eqb}
 use lib.Dec.{leb}
 use lib.ListN.{length, take, drop, set, length-append, length-take, length-drop, length-set}
 use lib.Seq.{take-suc, take-at, drop-append-add, drop-drop, getD-drop, sets, sets-eq}
+use Rattle.refusal.specs.declared.Refusal.{Refusal}
 use Rattle.refusal.specs.Numbers.{sliceSize}
+use Rattle.refusal.specs.Refusals.{plain}
 use Rattle.refusal.specs.Tests.{first}
-use Rattle.refusal.proofs.Order.{first-nil, first-pass, first-fail, answer-no, answer-yes}
+use Rattle.refusal.proofs.Order.{first-nil, first-pass, first-fail}
 use Rattle.layout.specs.declared.Device.{Device}
 use Rattle.segments.specs.declared.Segment.{Segment}
 use Rattle.segments.specs.Segments.{none, nth}
@@ -20,8 +22,9 @@ use Rattle.items.specs.Items.{itemsOf, segmentsIn, segments}
 use Rattle.items.specs.Making.{unless}
 use Rattle.record.specs.declared.Counted.{Counted}
 use Rattle.record.specs.declared.Counted.the-variants as Counted
-use Rattle.record.specs.Accept.{recordTests}
+use Rattle.record.specs.Accept.{recordTests, named}
 use Rattle.record.specs.Answers.{segmentValues, allValues, handedOn, someRoom, segmentsAnswer, segmentsLeft}
+use Rattle.record.proofs.Naming.{named-other, number-is, named-again, refuse-no, refuse-yes}
 use Rattle.record.proofs.Testing.{more-no, more-yes}
 
 -- the numbers of segments: of none, of some and then others, and how many they are
@@ -207,47 +210,51 @@ module _ (d : Device) (s : List ℕ) (p : ℕ) (t : List ℕ) where
   abbrev made : List ℕ
   made = laid (drop p (segments s)) many t
 
-  hands-no : (r : ℕ) → r ≡ number → (r ≡ 0 → ⊥) → Hands d s p t (Counted.Refused r) t
-  hands-no r e h = (
-    answer-no (Counted.Segments many) Counted.Refused r number e h,
-    left-no made t r number e h,
+  hands-no : (r : Refusal) → r ≡ named (r .number) s → r .number ≡ number → (r .number ≡ 0 → ⊥) → Hands d s p t (Counted.Refused r) t
+  hands-no r g e h = (
+    refuse-no (Counted.Segments many) Counted.Refused s r number g e h,
+    left-no made t (r .number) number e h,
   )
 
   hands-yes : (k : ℕ) (q : List ℕ) → 0 ≡ number → k ≡ many
       → q ≡ laid (drop p (segments s)) k t → Hands d s p t (Counted.Segments k) q
   hands-yes k q e h f = (
     ap Counted.Segments h
-        ∙ answer-yes (Counted.Segments many) Counted.Refused 0 number e refl,
+        ∙ refuse-yes (Counted.Segments many) Counted.Refused s 0 number e refl,
     f
         ∙ (ap (λ (j : ℕ). laid (drop p (segments s)) j t) h
         ∙ left-yes made t 0 number e refl),
   )
 
-  -- n is the check's number, u the items, m how many there are
-  module _ (n : ℕ) (c : n ≡ first (recordTests d s)) where
-    pub hands-refused : (n ≡ 0 → ⊥) → Hands d s p t (Counted.Refused n) t
-    hands-refused h = hands-no n (more-no d s (someRoom s p (length t)) n c h) h
+  -- n is the check's refusal, u the items, m how many there are
+  module _ (n : Refusal) (c : n ≡ named (first (recordTests d s)) s) where
+    pub hands-refused : (n .number ≡ 0 → ⊥) → Hands d s p t (Counted.Refused n) t
+    hands-refused h = hands-no n (named-again n (first (recordTests d s)) s c) (more-no d s (someRoom s p (length t)) (n .number) (number-is n (first (recordTests d s)) s c) h) h
 
-    module _ (z : n ≡ 0) (u : List ℕ) (m : ℕ) (o : u ≡ itemsOf s) (e : m ≡ length (segmentsIn u)) where
+    module _ (z : n .number ≡ 0) (u : List ℕ) (m : ℕ) (o : u ≡ itemsOf s) (e : m ≡ length (segmentsIn u)) where
       all-there : m ≡ length (segments s)
       all-there = e ∙ ap (λ (x : List ℕ). length (segmentsIn x)) o
+
+      -- the tests of the room decide
+      after-check : (k : ℕ) → k ≡ first (someRoom s p (length t)) → k ≡ number
+      after-check k f = more-yes d s (someRoom s p (length t)) (n .number) k (number-is n (first (recordTests d s)) s c) z f
 
       pub hands-none : m ≤ p → Hands d s p t (Counted.Segments 0) t
       unfolding handedOn
       hands-none l =
           let a : m ≡ length (segments s) = all-there in
-          hands-yes 0 t (more-yes d s (someRoom s p (length t)) n 0 c z (room-none s p (length t) (omega arith))) (omega arith)
-          (sym (laid-none (drop p (segments s)) t))
+          hands-yes 0 t (after-check 0 (room-none s p (length t) (omega arith))) (omega arith) (sym (laid-none (drop p (segments s)) t))
 
-      pub hands-short : p < m → length t < 3 → Hands d s p t (Counted.Refused sliceSize) t
-      hands-short l k =
+      pub hands-short : p < m → length t < 3 → (r : Refusal) → r ≡ plain sliceSize → Hands d s p t (Counted.Refused r) t
+      hands-short l k r q =
           let a : m ≡ length (segments s) = all-there in
-          hands-no sliceSize (more-yes d s (someRoom s p (length t)) n sliceSize c z (room-short s p (length t) (omega arith) k)) (λ x. omega arith)
+          subst (λ (x : Refusal). Hands d s p t (Counted.Refused x) t) (sym q)
+          (hands-no (plain sliceSize) (sym (named-other sliceSize s (λ x. omega arith))) (after-check sliceSize (room-short s p (length t) (omega arith) k)) (λ x. omega arith))
 
       pub hands-some : 3 ≤ length t → (k : ℕ) (q : List ℕ) → k ≡ min (length t / 3) (m - p) → q ≡ laid (drop p (segmentsIn u)) k t
           → Hands d s p t (Counted.Segments k) q
       unfolding handedOn
       hands-some l k q f g =
-          hands-yes k q (more-yes d s (someRoom s p (length t)) n 0 c z (room-enough s p (length t) l))
+          hands-yes k q (after-check 0 (room-enough s p (length t) l))
           (f ∙ ap (λ (j : ℕ). min (length t / 3) (j - p)) all-there)
           (g ∙ ap (λ (x : List ℕ). laid (drop p (segmentsIn x)) k t) o)

@@ -7,9 +7,9 @@ use native.Mathlib.Omega.{arith}
 use borrow.Author.Tests.{lt-ltb, le-ltb}
 use lib.Dec.{ltb, lit<}
 use lib.ListN.{length}
-use Rattle.refusal.specs.Numbers.{noSegment}
+use Rattle.refusal.specs.Numbers.{segmentClash, noSegment}
 use Rattle.refusal.specs.Tests.{Test, _elseRefuse_, first, Ascending}
-use Rattle.refusal.proofs.Order.{Numbered, ascending-numbered, first-nil, first-pass, first-fail, first-zero, first-after, first-before}
+use Rattle.refusal.proofs.Order.{Numbered, ascending-numbered, first-nil, first-pass, first-fail, first-zero, first-after, first-before, first-below}
 use Rattle.layout.specs.declared.Device.{Device}
 use Rattle.layout.specs.Limits.{deviceTests}
 use Rattle.items.specs.Items.{segments}
@@ -18,6 +18,10 @@ use Rattle.record.specs.Answers.{positionTests}
 
 pub device-ascending : (d : Device) → Ascending 0 (deviceTests d)
 device-ascending d = (lit< tt, (lit< tt, (lit< tt, tt)))
+
+-- none of them is 19
+pub device-below : (d : Device) → first (deviceTests d) < segmentClash
+device-below d = first-below segmentClash (deviceTests d) (lit< tt) (lit< tt, (lit< tt, (lit< tt, tt)))
 
 pub content-ascending : (d : Device) (s : List ℕ) → Ascending 0 (contentTests d s)
 content-ascending d s = (lit< tt, (lit< tt, (lit< tt, (lit< tt, tt))))

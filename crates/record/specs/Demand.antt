@@ -7,35 +7,30 @@ use mathlib.Core.Logic.{_⊎_}
 use mathlib.Core.List.{List, [], _∷_, _++_}
 use lib.ListN.{length, take, drop}
 use Rattle.endian.specs.Bytes.{Bytes}
-use Rattle.refusal.specs.Tests.{first, Fails}
+use Rattle.refusal.specs.Tests.{Test, first, Fails}
 use Rattle.layout.specs.declared.Device.{Device}
-use Rattle.layout.specs.Limits.{sizeAllowed, metadataAllowed, reservedAllowed, recordLimit}
+use Rattle.layout.specs.Limits.{sizeAllowed, metadataAllowed, reservedAllowed, deviceTests, recordLimit}
 use Rattle.layout.specs.Places.{dataStart, dataEnd}
 use Rattle.segments.specs.declared.Segment.{Segment}
 use Rattle.segments.specs.Segments.{nth, holds, InRange}
 use Rattle.segments.specs.Sectors.{isFree, allocated, freeSectors, Holder}
 use Rattle.segments.specs.Order.{Placed}
+use Rattle.segments.specs.Demand.{Share, FirstPair}
 use Rattle.items.specs.declared.Head.{Head}
 use Rattle.items.specs.declared.Head.the-variants.{Plain, Unknown}
 use Rattle.items.specs.Head.{headOf, headSize, headRight, allows, dataRange, rangeFor, itemBytes, mostSegments}
 use Rattle.items.specs.Items.{segments}
 use Rattle.items.specs.Making.{recordOf}
-use Rattle.order.specs.declared.Clash.the-variants.{Pair, Nothing}
-use Rattle.order.specs.Ordering.{firstClash}
+use Rattle.order.specs.Ordering.{noOrder}
+use Rattle.record.specs.declared.Found.the-variants as Found
 use Rattle.record.specs.declared.Counted.the-variants as Counted
-use Rattle.record.specs.Accept.{recordTests, checked}
+use Rattle.record.specs.declared.Heading.the-variants as Heading
+use Rattle.record.specs.Accept.{contentTests, recordTests, named, checked}
 use Rattle.record.specs.Sectors.{parts}
-use Rattle.record.specs.Answers.{lengthTests, clashAnswer, clashNumber, positionTests, segmentAnswer, foundNumber, countAnswer, countedNumber, headAnswer, headingNumber, someRoom, segmentsAnswer, segmentsLeft}
+use Rattle.record.specs.Answers.{positionTests, segmentAnswer, foundRefusal, countAnswer, countedRefusal, headAnswer, headingRefusal, someRoom, segmentsAnswer, segmentsLeft}
 
--- two positions whose segments share the sector x
-pub record Share (gs : List Segment) (i j x : ℕ) : Type 0 where
-  pub later : i < j
-  pub there : j < length gs
-  pub one : holds (nth gs i) x ≡ true
-  pub other : holds (nth gs j) x ≡ true
-
--- A head and segments that are right on a device: all of this, in no order.
-pub record Right (d : Device) (h : Head) (gs : List Segment) : Type 0 where
+-- A head and segments that are each right on a device, whether any share a sector or not: all of this, in no order.
+pub record EachRight (d : Device) (h : Head) (gs : List Segment) : Type 0 where
   pub size : sizeAllowed (d .sectors) ≡ true
   pub metadata : metadataAllowed (d .metadata) ≡ true
   pub reserved : reservedAllowed (d .reserved) ≡ true
@@ -47,7 +42,10 @@ pub record Right (d : Device) (h : Head) (gs : List Segment) : Type 0 where
   pub kinds : (i : ℕ) → i < length gs → allows h (nth gs i .kind) ≡ true
   -- each is not empty and lies in the range that its kind may lie in
   pub ranges : (i : ℕ) → i < length gs → InRange (rangeFor d h (nth gs i .kind)) (nth gs i)
-  -- no two share a sector
+
+-- A head and segments that are right on a device: each is, and no two share a sector.
+pub record Right (d : Device) (h : Head) (gs : List Segment) : Type 0 where
+  pub each : EachRight d h gs
   pub apart : (i j x : ℕ) → Share gs i j x → ⊥
 
 -- the bytes of a head and segments that are right on a device
@@ -137,14 +135,42 @@ Sums =
     (d : Device) (s : List ℕ) → first (recordTests d s) ≡ 0
     → allocated (segments s) + freeSectors (dataRange d) (segments s) + 2 * (8 + d .metadata + d .reserved) ≡ d .sectors
 
--- The search for two segments that clash finds a pair exactly where two share a sector, and then the lowest: no pair has a lower
--- first position, nor the same one with a lower second.
+-- By tests on the record s, 19 is given exactly when none with a lower number fails and two segments share a sector; and then the two that clash
+-- stand beside it.
+abbrev pub ClashBy : List Test → List ℕ → Type 0
+ClashBy ts s =
+    (first ts ≡ 19
+    → ((k : ℕ) → k < 19 → Fails ts k → ⊥) × FirstPair (segments s) (named (first ts) s .first) (named (first ts) s .second))
+    × (((k : ℕ) → k < 19 → Fails ts k → ⊥) → (i j x : ℕ) → Share (segments s) i j x → first ts ≡ 19)
+
+-- By meaning: a record is refused with 19 exactly when its bytes are those of a head and segments that are each right and of which two share a sector;
+-- and the two that clash stand beside it.
+abbrev pub ClashExactly : Type 0
+ClashExactly =
+    (d : Device) (s : List ℕ) → d .sectors < 2 ^ 64 → Bytes s
+    → (first (recordTests d s) ≡ 19
+    → (recordOf (headOf s) (segments s) ≡ s) × (EachRight d (headOf s) (segments s) × FirstPair (segments s) (named 19 s .first) (named 19 s .second)))
+    × ((h : Head) (gs : List Segment) (i j : ℕ) → EachRight d h gs → recordOf h gs ≡ s → FirstPair gs i j
+    → named (first (recordTests d s)) s ≡ record { number = 19; first = i; second = j })
+
+-- So by a record's check, and by that of its content alone, whatever the device numbers are.
 abbrev pub Clashing : Type 0
-Clashing =
-    (gs : List Segment)
-    → ((i j : ℕ) → firstClash gs ≡ Pair i j
-    → ((x : ℕ) × Share gs i j x) × ((k l x : ℕ) → Share gs k l x → (i < k) ⊎ ((i ≡ k) × (j ≤ l))))
-    × (firstClash gs ≡ Nothing → (k l x : ℕ) → Share gs k l x → ⊥)
+Clashing = (d : Device) (s : List ℕ) → ClashBy (recordTests d s) s × ClashBy (contentTests d s) s
+
+-- Where the device numbers are allowed the two checks are one.
+abbrev pub Content : Type 0
+Content = (d : Device) (s : List ℕ) → first (deviceTests d) ≡ 0 → first (contentTests d s) ≡ first (recordTests d s)
+
+-- What stands beside the number of a call that takes the record s. Beside 19, where two segments share a sector (19 is not given otherwise: `Clashing`),
+-- the two that clash, which are that pair and no other; zero beside every other number.
+pub record Beside (s : List ℕ) : Type 0 where
+  pub number : (n : ℕ) → named n s .number ≡ n
+  pub pair : (i j x : ℕ) → Share (segments s) i j x → FirstPair (segments s) (named 19 s .first) (named 19 s .second)
+  pub only : (i j : ℕ) → FirstPair (segments s) i j → (named 19 s .first ≡ i) × (named 19 s .second ≡ j)
+  pub nothing : (n : ℕ) → (n ≡ 19 → ⊥) → (named n s .first ≡ 0) × (named n s .second ≡ 0)
+
+abbrev pub Naming : Type 0
+Naming = (s : List ℕ) → Beside s
 
 -- The check of every accepted record gives the order of its segments: each is at one place, not empty, and ends where a later one
 -- begins, or before.
@@ -167,9 +193,9 @@ pub record Handed (d : Device) (s : List ℕ) (p : ℕ) (t : List ℕ) (n : ℕ)
       ≡ nth (segments s) (p + i) .kind ∷ nth (segments s) (p + i) .start ∷ nth (segments s) (p + i) .sectors ∷ []
   pub past : drop (3 * n) (segmentsLeft d s p t) ≡ drop (3 * n) t
 
--- a refusal: the number, and the table as it was
+-- a refusal: the number with what stands beside it, and the table as it was
 abbrev pub NotHanded : Device → List ℕ → ℕ → List ℕ → ℕ → Type 0
-NotHanded d s p t n = (segmentsAnswer d s p (length t) ≡ Counted.Refused n) × (segmentsLeft d s p t ≡ t)
+NotHanded d s p t n = (segmentsAnswer d s p (length t) ≡ Counted.Refused (named n s)) × (segmentsLeft d s p t ≡ t)
 
 -- Segments of an accepted record are handed on, but where some are left and the table has no room for one: 1.
 abbrev pub Handing : Type 0
@@ -179,13 +205,23 @@ Handing =
     × ((first (recordTests d s) ≡ 0 → p < length (segments s) → length t < 3 → NotHanded d s p t 1)
     × ((n : ℕ) → 0 < n → first (recordTests d s) ≡ n → NotHanded d s p t n))
 
--- What a call answers has the number that its tests give, for every input.
+-- What a call answers has the number that its tests give, with what stands beside it, for every input; and a check that refuses has no order.
 pub record Numbers (d : Device) (s : List ℕ) (p w : ℕ) : Type 0 where
-  pub clash : clashNumber (clashAnswer s) ≡ first (lengthTests s)
-  pub segment : foundNumber (segmentAnswer d s p) ≡ first (recordTests d s ++ positionTests s p)
-  pub many : countedNumber (countAnswer d s) ≡ first (recordTests d s)
-  pub head : headingNumber (headAnswer d s) ≡ first (recordTests d s)
-  pub handed : countedNumber (segmentsAnswer d s p w) ≡ first (recordTests d s ++ someRoom s p w)
+  pub check : checked (first (recordTests d s)) s .refusal ≡ named (first (recordTests d s)) s
+  pub no-order : (first (recordTests d s) ≡ 0 → ⊥) → checked (first (recordTests d s)) s .order ≡ noOrder
+  pub segment : foundRefusal (segmentAnswer d s p) ≡ named (first (recordTests d s ++ positionTests s p)) s
+  pub many : countedRefusal (countAnswer d s) ≡ named (first (recordTests d s)) s
+  pub head : headingRefusal (headAnswer d s) ≡ named (first (recordTests d s)) s
+  pub handed : countedRefusal (segmentsAnswer d s p w) ≡ named (first (recordTests d s ++ someRoom s p w)) s
 
 abbrev pub Numbered : Type 0
 Numbered = (d : Device) (s : List ℕ) (p w : ℕ) → Numbers d s p w
+
+-- What a call answers that is not refused; for segments in a table it is `Handing`.
+pub record Values (d : Device) (s : List ℕ) (p : ℕ) : Type 0 where
+  pub segment : first (recordTests d s ++ positionTests s p) ≡ 0 → segmentAnswer d s p ≡ Found.At (nth (segments s) p)
+  pub many : first (recordTests d s) ≡ 0 → countAnswer d s ≡ Counted.Segments (length (segments s))
+  pub head : first (recordTests d s) ≡ 0 → headAnswer d s ≡ Heading.Of (headOf s)
+
+abbrev pub Valued : Type 0
+Valued = (d : Device) (s : List ℕ) (p : ℕ) → Values d s p

@@ -3,45 +3,42 @@ use items::Head;
 use layout::Device;
 use order::Clash;
 use order::Order;
+use refusal::Refusal;
 use segments::Segment;
 ghost use mathlib.Core.Path.{_≡_};
 ghost use mathlib.Core.List.{[], _++_};
 ghost use Prim.Native.Nat.{_+_, _*_, _≤_, min};
 ghost use lib.ListN.{length, take, drop};
 ghost use Rattle.refusal.specs.Tests.{first};
+ghost use Rattle.refusal.specs.Refusals.{plain};
 ghost use Rattle.items.specs.Items.{segments, segmentsIn};
 ghost use Rattle.order.specs.Ordering.{noOrder};
-ghost use Rattle.record.specs.Accept.{allInRange, contentTests, recordTests, checked};
-ghost use Rattle.record.specs.Answers.{clashAnswer, segmentAnswer, countAnswer, headAnswer, segmentsAnswer, segmentsLeft, allValues};
+ghost use Rattle.record.specs.Accept.{allInRange, contentTests, recordTests, named, checked, clashRefusal};
+ghost use Rattle.record.specs.Answers.{segmentAnswer, countAnswer, headAnswer, segmentsAnswer, segmentsLeft, allValues};
 
-// What `check_in_order` answers: the refusal number, and the order of an accepted record's segments.
+// What `check_in_order` answers: the refusal, with number 0 of an accepted record, and the order of an accepted record's segments; no order of
+// a refused one.
 pub struct Checked {
-    pub number: u8,
+    pub refusal: Refusal,
     pub order: Order,
-}
-
-// What `first_clash` answers.
-pub enum Clashes {
-    First(Clash),
-    Refused(u8),
 }
 
 // What `read_segment` answers.
 pub enum Found {
     At(Segment),
-    Refused(u8),
+    Refused(Refusal),
 }
 
 // What `read_count` and `read_segments` answer.
 pub enum Counted {
     Segments(usize),
-    Refused(u8),
+    Refused(Refusal),
 }
 
 // What `read_head` answers.
 pub enum Heading {
     Of(Head),
-    Refused(u8),
+    Refused(Refusal),
 }
 
 // Whether every segment is not empty and lies wholly in the range that its kind may lie in.
@@ -60,16 +57,44 @@ fn all_in_range(d: Device, h: Head, t: &[u8]) -> bool
     true
 }
 
-// A refusal, with no order.
+// A refusal with nothing beside its number, and no order.
 fn refused(number: u8) -> Checked
-    ensures { λ r. ⌜ r ≡ record { number = number; order = noOrder } ⌝ }
+    ensures { λ r. ⌜ r ≡ record { refusal = plain number; order = noOrder } ⌝ }
 {
     let order = order::none();
-    Checked { number, order }
+    Checked {
+        refusal: refusal::plain(number),
+        order,
+    }
 }
 
-// The check of a record on a device whose numbers are allowed: 15, 17, 18 or 19, the first that applies; else 0, and the order of
-// its segments.
+// The refusal of two segments that clash, with their positions beside its number; none where nothing clashes.
+fn clash_refusal(clash: Clash) -> Refusal
+    ensures { λ r. ⌜ r ≡ clashRefusal clash ⌝ }
+{
+    match clash {
+        Clash::Pair(i, j) => Refusal {
+            number: refusal::SEGMENT_CLASH,
+            first: i as u64,
+            second: j as u64,
+        },
+        Clash::Nothing => refusal::plain(refusal::NONE),
+    }
+}
+
+// That refusal, and no order.
+fn clashed(clash: Clash) -> Checked
+    ensures { λ r. ⌜ r ≡ record { refusal = clashRefusal clash; order = noOrder } ⌝ }
+{
+    let order = order::none();
+    Checked {
+        refusal: clash_refusal(clash),
+        order,
+    }
+}
+
+// The check of a record on a device whose numbers are allowed: 15, 17, 18 or 19 with the two that clash, the first that applies; else
+// 0, and the order of its segments.
 fn content_in_order(d: Device, s: &[u8]) -> Checked
     ensures { λ r. ⌜ r ≡ checked (first (contentTests d (now (s .entry)))) (now (s .entry)) ⌝ }
 {
@@ -85,15 +110,17 @@ fn content_in_order(d: Device, s: &[u8]) -> Checked
     }
     let order = order::order_of(t);
     if !order.ordered {
-        return refused(refusal::SEGMENT_CLASH);
+        let clash = order.clash;
+        return clashed(clash);
     }
     Checked {
-        number: refusal::NONE,
+        refusal: refusal::plain(refusal::NONE),
         order,
     }
 }
 
-// The check of device numbers and a record: 4, 7, 8, 15, 17, 18 or 19, the first that applies; else 0, and the order of its segments.
+// The check of device numbers and a record: 4, 7, 8, 15, 17, 18 or 19 with the two that clash, the first that applies; else 0, and the
+// order of its segments.
 pub fn check_in_order(d: Device, s: &[u8]) -> Checked
     ensures { λ r. ⌜ r ≡ checked (first (recordTests d (now (s .entry)))) (now (s .entry)) ⌝ }
 {
@@ -104,41 +131,32 @@ pub fn check_in_order(d: Device, s: &[u8]) -> Checked
     content_in_order(d, s)
 }
 
-// The refusal number of a record's content: 15, 17, 18 or 19, the first that applies; else 0. The device numbers are not tested here.
-pub fn check_content(d: Device, s: &[u8]) -> u8
-    ensures { λ r. ⌜ r ≡ first (contentTests d (now (s .entry))) ⌝ }
+// The refusal of a record's content: 15, 17, 18 or 19 with the two that clash, the first that applies; else number 0. The device
+// numbers are not tested here.
+pub fn check_content(d: Device, s: &[u8]) -> Refusal
+    ensures { λ r. ⌜ r ≡ named (first (contentTests d (now (s .entry)))) (now (s .entry)) ⌝ }
 {
-    content_in_order(d, s).number
+    content_in_order(d, s).refusal
 }
 
-// The refusal number of device numbers and a record: 4, 7, 8, 15, 17, 18 or 19, the first that applies; 0 where it is accepted.
-pub fn check(d: Device, s: &[u8]) -> u8
-    ensures { λ r. ⌜ r ≡ first (recordTests d (now (s .entry))) ⌝ }
+// The refusal of device numbers and a record: 4, 7, 8, 15, 17, 18 or 19 with the two that clash, the first that applies; number 0
+// where it is accepted.
+pub fn check(d: Device, s: &[u8]) -> Refusal
+    ensures { λ r. ⌜ r ≡ named (first (recordTests d (now (s .entry)))) (now (s .entry)) ⌝ }
 {
-    check_in_order(d, s).number
-}
-
-// The first two segments that share a sector, by the lower position and then by the higher, of a record of any content; 15 for a
-// length that no record has.
-pub fn first_clash(s: &[u8]) -> Clashes
-    ensures { λ r. ⌜ r ≡ clashAnswer (now (s .entry)) ⌝ }
-{
-    if !layout::length_allowed(s.len() as u64) {
-        return Clashes::Refused(refusal::RECORD_LENGTH);
-    }
-    Clashes::First(order::clash_of(items::items_of(s)))
+    check_in_order(d, s).refusal
 }
 
 // The segment at a position, counted from 0.
 pub fn read_segment(d: Device, s: &[u8], position: usize) -> Found
     ensures { λ r. ⌜ r ≡ segmentAnswer d (now (s .entry)) position ⌝ }
 {
-    let n = check(d, s);
-    if n != 0 {
-        return Found::Refused(n);
+    let r = check(d, s);
+    if r.number != 0 {
+        return Found::Refused(r);
     }
     if items::count_of(s) <= position {
-        return Found::Refused(refusal::NO_SEGMENT);
+        return Found::Refused(refusal::plain(refusal::NO_SEGMENT));
     }
     Found::At(items::segment_at(s, position))
 }
@@ -147,9 +165,9 @@ pub fn read_segment(d: Device, s: &[u8], position: usize) -> Found
 pub fn read_count(d: Device, s: &[u8]) -> Counted
     ensures { λ r. ⌜ r ≡ countAnswer d (now (s .entry)) ⌝ }
 {
-    let n = check(d, s);
-    if n != 0 {
-        return Counted::Refused(n);
+    let r = check(d, s);
+    if r.number != 0 {
+        return Counted::Refused(r);
     }
     Counted::Segments(items::count_of(s))
 }
@@ -158,9 +176,9 @@ pub fn read_count(d: Device, s: &[u8]) -> Counted
 pub fn read_head(d: Device, s: &[u8]) -> Heading
     ensures { λ r. ⌜ r ≡ headAnswer d (now (s .entry)) ⌝ }
 {
-    let n = check(d, s);
-    if n != 0 {
-        return Heading::Refused(n);
+    let r = check(d, s);
+    if r.number != 0 {
+        return Heading::Refused(r);
     }
     Heading::Of(items::head_of(s))
 }
@@ -193,9 +211,9 @@ pub fn read_segments(d: Device, s: &[u8], position: usize, table: &mut [u64]) ->
     ensures { λ r. ⌜ r ≡ segmentsAnswer d (now (s .entry)) position (length (now (table .entry))) ⌝ }
     ensures { λ _. ⌜ now (table .exit) ≡ segmentsLeft d (now (s .entry)) position (now (table .entry)) ⌝ }
 {
-    let n = check(d, s);
-    if n != 0 {
-        return Counted::Refused(n);
+    let r = check(d, s);
+    if r.number != 0 {
+        return Counted::Refused(r);
     }
     let t = items::items_of(s);
     let many = items::count_in(t);
@@ -203,7 +221,7 @@ pub fn read_segments(d: Device, s: &[u8], position: usize, table: &mut [u64]) ->
         return Counted::Segments(0);
     }
     if table.len() < 3 {
-        return Counted::Refused(refusal::SLICE_SIZE);
+        return Counted::Refused(refusal::plain(refusal::SLICE_SIZE));
     }
     let k = smaller(table.len() / 3, many - position);
     put_segments(t, position, k, table);

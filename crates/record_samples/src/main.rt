@@ -8,11 +8,11 @@ use allocation::RunCount;
 use allocation::RunFound;
 use items::Head;
 use layout::Device;
-use order::Clash;
-use record::Clashes;
 use record::Counted;
 use record::Found;
 use record::Heading;
+use refusal::Refusal;
+use sampling::beside;
 use sampling::number;
 use sampling::one;
 use sampling::put_segment;
@@ -22,6 +22,9 @@ ghost use Prim.Native.Nat.{_≤_};
 
 // The bytes of a record with as many segments as it can have.
 const FULL: usize = items::HEAD_BYTES + items::ITEM_BYTES * items::MOST_SEGMENTS;
+
+// The bytes of a record with four segments.
+const FOUR: usize = items::HEAD_BYTES + 4 * items::ITEM_BYTES;
 
 // Prints a name.
 fn name(s: &[u8]) {
@@ -41,9 +44,10 @@ fn end() {
 }
 
 // Prints a refusal and ends the line.
-fn refused(n: u8) {
+fn refused(r: Refusal) {
     say(b" ");
-    sampling::refused(n);
+    sampling::refusal(r);
+    end();
 }
 
 // The example device.
@@ -55,10 +59,13 @@ fn device() -> Device {
     }
 }
 
-// Prints the number that a record gives on a device.
+// Prints the number that a record gives on a device, and what stands beside it.
 fn check_on(what: &[u8], d: Device, s: &[u8]) {
     name(what);
-    number(record::check(d, s) as u64);
+    let r = record::check(d, s);
+    let n = r.number;
+    number(n as u64);
+    beside(r);
     end();
 }
 
@@ -343,36 +350,76 @@ fn filled() {
     run_at(r, 0);
 }
 
-// Prints two positions that clash.
-fn positions(c: Clash) {
-    match c {
-        Clash::Pair(i, j) => {
-            number(i as u64);
-            number(j as u64);
-            end();
-        }
-        Clash::Nothing => end(),
-    }
+// A segment of a record in the making.
+fn put(s: &mut [u8], i: usize, start: u64, sectors: u64) {
+    put_segment(s, i, 2, start, sectors);
 }
 
-// Prints the first two segments that share a sector, of a record of any content.
-fn clash(s: &[u8]) {
-    name(b"clash");
-    let a = record::first_clash(s);
-    match a {
-        Clashes::First(c) => positions(c),
-        Clashes::Refused(n) => refused(n),
-    }
+// Prints what every call answers on a record.
+fn every_call(what: &[u8], s: &[u8]) {
+    check(what, s);
+    head(s);
+    count(s);
+    segment(s, 0);
+    segment(s, 4);
+    free(s);
+    run_at(s, 0);
+    fit(s, 1);
+    fit(s, 0);
+    refuse(s, 1, 1);
+    refuse(s, 5, 0);
+    refuse_release(s);
+    handed(s, 0);
+    handed_none(s, 1);
 }
 
-// Records with and without two segments that share a sector; an empty segment shares none.
+// Two pairs that clash: 0 and 2, 1 and 3.
+fn two_pairs() {
+    let mut s = [0u8; FOUR];
+    items::begin(&mut s, Head::Plain(128));
+    put(&mut s, 0, 2048, 100);
+    put(&mut s, 1, 3000, 50);
+    put(&mut s, 2, 2147, 1);
+    put(&mut s, 3, 3049, 10);
+    every_call(b"0 and 2, 1 and 3", &s);
+}
+
+// Pairs that clash in other places.
 fn clashes() {
-    clash(&two(2048, 100, 2147, 1));
-    clash(&two(2147, 1, 2048, 100));
-    clash(&two(2048, 100, 2148, 1));
-    clash(&two(2048, 100, 2050, 0));
-    clash(&two(0xFFFF_FFFF_FFFF_FFFF, 2, 0xFFFF_FFFF_FFFF_FFFF, 1));
-    clash(b"");
+    let mut s = [0u8; FOUR];
+    items::begin(&mut s, Head::Plain(128));
+    put(&mut s, 0, 5000, 10);
+    put(&mut s, 1, 3000, 50);
+    put(&mut s, 2, 3049, 10);
+    put(&mut s, 3, 3010, 1);
+    check(b"1 and 2, 1 and 3", &s);
+    put(&mut s, 1, 3049, 10);
+    put(&mut s, 2, 3010, 1);
+    put(&mut s, 3, 3000, 50);
+    check(b"1 and 3, 2 and 3", &s);
+    put(&mut s, 0, 3058, 2);
+    check(b"0 and 1, 1 and 3, 2 and 3", &s);
+    put(&mut s, 0, 3059, 2);
+    put(&mut s, 1, 3049, 9);
+    check(b"1 and 3, 2 and 3 beside one that touches", &s);
+    put(&mut s, 2, 3010, 0);
+    check(b"1 and 3 beside an empty one", &s);
+    check(b"the same twice", &two(2048, 100, 2048, 100));
+}
+
+// Of 409 segments the last two clash.
+fn last_two() {
+    let mut s = io::large_buffer();
+    items::begin(&mut s, Head::Plain(128));
+    let last = items::MOST_SEGMENTS - 1;
+    fill(&mut s, last);
+    put(&mut s, last, 2455, 2);
+    check(b"the last two of 409", endian::window(&s, 0, FULL));
+    put(&mut s, last, 2048, 1);
+    check(
+        b"the first and the last of 409",
+        endian::window(&s, 0, FULL),
+    );
 }
 
 // Prints how many segments from a position on a table of seven numbers takes, and the table.
@@ -383,7 +430,11 @@ fn handed(s: &[u8], position: usize) {
     number(position as u64);
     match a {
         Counted::Segments(n) => number(n as u64),
-        Counted::Refused(n) => number(n as u64 + 100),
+        Counted::Refused(r) => {
+            let k = r.number;
+            number(k as u64 + 100);
+            beside(r);
+        }
     }
     number(t[0]);
     number(t[1]);
@@ -403,7 +454,11 @@ fn handed_none(s: &[u8], position: usize) {
     number(position as u64);
     match a {
         Counted::Segments(n) => number(n as u64),
-        Counted::Refused(n) => number(n as u64 + 100),
+        Counted::Refused(r) => {
+            let k = r.number;
+            number(k as u64 + 100);
+            beside(r);
+        }
     }
     number(t[0]);
     number(t[1]);
@@ -522,6 +577,8 @@ fn main() {
     ranges();
     parts();
     devices();
+    two_pairs();
     clashes();
+    last_two();
     handing();
 }

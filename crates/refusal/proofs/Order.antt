@@ -91,6 +91,37 @@ first-lowest m (t ∷ ts) a p = go (first-lowest (t .otherwise) ts (a .1)) (t .h
         let r : Fails ts (first ts) × ((k : ℕ) → Fails ts k → first ts ≤ k) = h (rw n at p) in
         (inr (rw n (r .0)), later e (r .1))
 
+-- all numbers are below k; then so is the one that is given
+abbrev pub Below : ℕ → List Test → Type 0
+Below k [] = Unit {0}
+Below k (t ∷ ts) = (t .otherwise < k) × Below k ts
+
+pub first-below : (k : ℕ) (ts : List Test) → 0 < k → Below k ts → first ts < k
+first-below k [] l a = rw first-nil l
+first-below k (t ∷ ts) l a = go (first-below k ts l (a .1)) (t .holds) refl
+  where
+    go : first ts < k → (b : Bool) → t .holds ≡ b → first (t ∷ ts) < k
+    go h true e = rw (first-pass (t .holds) (t .otherwise) ts e) h
+    go h false e = rw (first-fail (t .holds) (t .otherwise) ts e) (a .0)
+
+-- a number that is not the first test's is one of those after it
+pub first-other : (b : Bool) (k : ℕ) (ts : List Test) (n : ℕ) → (k ≡ n → ⊥) → first ((b elseRefuse k) ∷ ts) ≡ n → first ts ≡ n
+first-other true k ts n h e = sym (first-pass true k ts refl) ∙ e
+first-other false k ts n h e = absurd (h (sym (first-fail false k ts refl) ∙ e))
+
+-- no test has the number n; then those before the one that gives n hold
+abbrev pub Differ : ℕ → List Test → Type 0
+Differ n [] = Unit {0}
+Differ n (t ∷ ts) = (t .otherwise ≡ n → ⊥) × Differ n ts
+
+pub hold-before : (ts us : List Test) (n : ℕ) → Differ n ts → first (ts ++ us) ≡ n → AllHold ts
+hold-before [] us n a e = tt
+hold-before (t ∷ ts) us n a e = go (hold-before ts us n (a .1)) (t .holds) refl
+  where
+    go : (first (ts ++ us) ≡ n → AllHold ts) → (b : Bool) → t .holds ≡ b → AllHold (t ∷ ts)
+    go h true p = (p, h (sym (first-pass (t .holds) (t .otherwise) (ts ++ us) p) ∙ e))
+    go h false p = absurd (a .0 (sym (first-fail (t .holds) (t .otherwise) (ts ++ us) p) ∙ e))
+
 -- tests that follow other tests: those before them hold
 pub first-after : (ts us : List Test) → AllHold ts → first (ts ++ us) ≡ first us
 first-after [] us h = refl

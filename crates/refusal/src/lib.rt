@@ -52,7 +52,8 @@ pub const NO_SEGMENT: u8 = 22;
 
 pub const NO_STORE: u8 = 23;
 
-// A refusal: its number, 0 for none, and what stands beside it, which is zero for every number that has nothing to say there.
+// A refusal: its number, 0 for none, and what stands beside it. Beside 19 these are the positions, counted from 0, of the two segments that clash;
+// beside every other number both are zero.
 #[repr(C)]
 pub struct Refusal {
     pub number: u8,
@@ -60,7 +61,7 @@ pub struct Refusal {
     pub second: u64,
 }
 
-// A number with nothing beside it.
+// A number with nothing beside it. Not for 19, which has something (`record`, `named`).
 pub fn plain(number: u8) -> Refusal
     ensures { λ r. ⌜ r ≡ plain number ⌝ }
 {

@@ -7,6 +7,7 @@ use runs::Run;
 use sampling::number;
 use sampling::one;
 use sampling::put_segment;
+use sampling::refusal;
 use sampling::say;
 use sampling::two;
 ghost use mathlib.Core.Path.{_≡_};
@@ -42,8 +43,8 @@ fn answer(a: RunCount) {
     match a {
         RunCount::Runs(n) => number(n),
         RunCount::Refused(n) => {
-            say(b" refused");
-            number(n as u64);
+            say(b" ");
+            refusal(n);
         }
     }
 }
@@ -148,6 +149,10 @@ fn records() {
     show(b"past the data range", &one(2, 2095103, 2));
     show(b"a sum that wraps", &one(2, 18446744073709551615, 2));
     show(b"example 11", &two(2048, 100, 2147, 1));
+    show(
+        b"three, of which the last two clash",
+        &three(2048, 2200, 2209),
+    );
 }
 
 // The same where the table has too little room too.

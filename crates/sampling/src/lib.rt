@@ -2,9 +2,11 @@
 // and printed passes through system calls, of which no contract can speak. Assumes what `io` and `libc` do.
 mod print;
 
+pub use print::beside;
 pub use print::decimal;
 pub use print::hex;
 pub use print::number;
+pub use print::refusal;
 pub use print::refused;
 pub use print::say;
 pub use print::sum;

@@ -1,4 +1,5 @@
 // Printing on standard output, in pieces.
+use refusal::Refusal;
 
 // Prints s.
 pub fn say(s: &[u8]) {
@@ -25,6 +26,22 @@ pub fn hex(n: u64, digits: usize) {
 pub fn sum(s: &[u8]) {
     say(b" ");
     hex(checksum::checksum(s) as u64, 8);
+}
+
+// Prints what stands beside a refusal's number, where that is not zero.
+pub fn beside(r: Refusal) {
+    if (r.first != 0) | (r.second != 0) {
+        number(r.first);
+        number(r.second);
+    }
+}
+
+// Prints a refusal with what stands beside its number.
+pub fn refusal(r: Refusal) {
+    say(b"refused");
+    let n = r.number;
+    number(n as u64);
+    beside(r);
 }
 
 // Prints a refusal and ends the line.

@@ -1,3 +1,4 @@
 -- The laws that callers cite.
 pub mod Search
 pub mod Sums
+pub mod Distinct

@@ -50,7 +50,11 @@ pub later-past : (gs : List Segment) (i : ℕ) → length gs ≤ i → laterOf g
 unfolding laterOf
 later-past gs i h = least-none (clashesAt gs i) (length gs) (λ j l. clash-not-later gs i j (let k : j ≤ i = omega arith in k))
 
--- the search over the lower position: a turn passed, found, its end
+-- the search over the lower position: its start, where none before it clashes; a turn passed, found, its end
+pub earlier-from : (gs : List Segment) (i : ℕ) → i ≤ earlierOf gs → least (clashesLater gs) i ≡ i
+unfolding earlierOf
+earlier-from gs i h = least-none (clashesLater gs) i (λ j l. least-below (clashesLater gs) (length gs) j (omega arith))
+
 pub earlier-more : (gs : List Segment) (i : ℕ) → least (clashesLater gs) i ≡ i → length gs ≤ laterOf gs i → least (clashesLater gs) (i + 1) ≡ i + 1
 earlier-more gs i h l = least-more (clashesLater gs) i h (le-ltb (laterOf gs i) (length gs) l)
 
@@ -156,3 +160,17 @@ clash-lowest gs k l m h =
     let r : laterOf gs (earlierOf gs) ≡ laterOf gs k = ap (laterOf gs) q in
     inr (q, (let t : laterOf gs (earlierOf gs) ≤ l = omega arith in t)))
     (λ (q : earlierOf gs < k). inl q) (eq-or-lt-of-le n)
+
+-- where no position before m meets a later one, the search ends at m or after
+pub earlier-past : (gs : List Segment) (m : ℕ) → m ≤ length gs
+    → ((i j : ℕ) → i < m → i < j → j < length gs → meets (nth gs i) (nth gs j) ≡ false) → m ≤ earlierOf gs
+earlier-past gs m l h =
+    elim (decLe m (earlierOf gs)) [
+      | yes q ↦ q
+      | no q ↦
+          let i : ℕ = earlierOf gs in
+          let j : ℕ = laterOf gs i in
+          let u : i < length gs = omega arith in
+          let c : clashesAt gs i j ≡ true = found-clash gs u in
+          absurd (both (meets (nth gs i) (nth gs j)) (clash-meets gs i j c) (h i j (omega arith) (clash-order gs i j c) (later-there gs u)))
+    ]

@@ -5,3 +5,5 @@ pub mod Sectors
 pub mod Left
 pub mod Next
 pub mod Order
+pub mod Looking
+pub mod Pairs

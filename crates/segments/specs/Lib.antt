@@ -3,3 +3,4 @@ pub mod Segments
 pub mod Clash
 pub mod Sectors
 pub mod Order
+pub mod Demand

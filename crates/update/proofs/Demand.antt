@@ -14,7 +14,7 @@ use Rattle.endian.specs.Bytes.{same}
 use Rattle.endian.proofs.Tests.{and-left, and-right}
 use Rattle.refusal.specs.Numbers.{noStore}
 use Rattle.refusal.specs.Tests.{first, AllHold}
-use Rattle.refusal.proofs.Order.{first-pass, first-fail, first-all, answer-yes}
+use Rattle.refusal.proofs.Order.{first-pass, first-fail, first-all}
 use Rattle.layout.specs.declared.Device.{Device}
 use Rattle.layout.specs.declared.Side.{Side}
 use Rattle.layout.specs.declared.Side.the-variants.{Front, Back}
@@ -36,6 +36,7 @@ use Rattle.block.proofs.Readings.{accepted-length}
 use Rattle.block.proofs.Exactly.{obeys}
 use Rattle.block.proofs.Times.{same-test, same-not-later}
 use Rattle.record.specs.Accept.{contentTests}
+use Rattle.record.proofs.Naming.{refuse-yes}
 use Rattle.record.proofs.Right.{right-content}
 use Rattle.copy.specs.declared.Present.the-variants.{At}
 use Rattle.copy.specs.Copy.{isCopy, deviceIn, blockIn, entryIn, otherArea, newest, readingIn}
@@ -669,7 +670,7 @@ giving v d u q t r s =
     record {
       number = number v d u q t r s;
       plan =
-          sym (answer-yes (Planned.Plan (planOn v d t r)) Planned.Refused 0 (updateNumber (copyFrom Front v d) (copyFrom Back v d) t r) (sym (number v d u q t r s)) refl);
+          sym (refuse-yes (Planned.Plan (planOn v d t r)) Planned.Refused r 0 (updateNumber (copyFrom Front v d) (copyFrom Back v d) t r) (sym (number v d u q t r s)) refl);
       count =
           (let e : 2 * sectorsOf (length r) + 2 ≡ sectorsOf (length r) + 1 + sectorsOf (length r) + 1 = omega arith in e) ∙ sym (stores-count v d u q t r s);
       two-k-two = refl;

@@ -1,5 +1,5 @@
 -- What an update promises. `proofs/Allowing.antt` proves `Exactly`, `Ordered` and `Started`, `proofs/Demand.antt` `Demand3`, `Placing` and
--- `Giving`, `proofs/Refusing.antt` `Refusing`, `proofs/Lying.antt` `Within`, `proofs/Changing.antt` `Changing`. That there are copies in step on every allowed device is `format`'s `Possible`.
+-- `Giving`, `proofs/Refusing.antt` `Naming` and `Refusing`, `proofs/Lying.antt` `Within`, `proofs/Changing.antt` `Changing`. That there are copies in step on every allowed device is `format`'s `Possible`.
 use Prim.Native.Nat.{ℕ, suc, _+_, _*_, _^_, _≤_, _<_}
 use mathlib.Core.Path.{_≡_}
 use mathlib.Core.Logic.{_↔_}
@@ -20,7 +20,9 @@ use Rattle.block.specs.declared.Time.{Time}
 use Rattle.block.specs.declared.Holding.{Holding}
 use Rattle.block.specs.Entry.{laterThan}
 use Rattle.block.specs.Accepted.{Accepted}
-use Rattle.record.specs.Accept.{contentTests}
+use Rattle.items.specs.Items.{segments}
+use Rattle.record.specs.Accept.{contentTests, named}
+use Rattle.segments.specs.Demand.{FirstPair}
 use Rattle.record.specs.Demand.{RightBytes}
 use Rattle.copy.specs.declared.Present.the-variants as Present
 use Rattle.copy.specs.Copy.{deviceIn, blockIn, otherArea, copyReading}
@@ -36,7 +38,7 @@ use Rattle.stores.specs.States.{Presents, Gives, Ready, Answered, Excused, Lies
 use Rattle.update.specs.declared.Plan.{Plan}
 use Rattle.update.specs.declared.Planned.the-variants as Planned
 use Rattle.update.specs.Update.{updateNumber, spare, newBlock, updateGroups}
-use Rattle.update.specs.Answers.{plannedNumber, plannedValues}
+use Rattle.update.specs.Answers.{plannedRefusal, plannedValues}
 use Rattle.update.specs.Plan.{planOf, planned, sectorsIn, storesIn, groupOf, flushAfter, storeAnswer, storeBytes}
 
 -- An update that the format does not refuse, in plain words: two copies, which discovery answers and which are in step; a time within
@@ -74,6 +76,12 @@ pub record InOrder (f b : List ℕ) (t : Time) (r : List ℕ) : Type 0 where
 
 abbrev pub Ordered : Type 0
 Ordered = (f b : List ℕ) (t : Time) (r : List ℕ) → InOrder f b t r
+
+-- 19 is of the new record: two of its segments share a sector, and the two that clash stand beside it.
+abbrev pub Naming : Type 0
+Naming =
+    (f b : List ℕ) (t : Time) (r : List ℕ) → updateNumber f b t r ≡ 19
+    → FirstPair (segments r) (plannedRefusal (planned f b t r) .first) (plannedRefusal (planned f b t r) .second)
 
 -- the start of an update: any two copies in step on a record q with its time u, and any update that is not refused
 pub record Start (v : Device) (d : Sectors) (u : Time) (q : List ℕ) (t : Time) (r : List ℕ) : Type 0 where
@@ -165,10 +173,11 @@ pub record PlanGives (v : Device) (d : Sectors) (t : Time) (r : List ℕ) : Type
 abbrev pub Giving : Type 0
 Giving = (v : Device) (d : Sectors) (u : Time) (q : List ℕ) (t : Time) (r : List ℕ) → Start v d u q t r → PlanGives v d t r
 
--- A refused store changes no lent byte, of any plan, made up or not; and a plan's refusal is the update's number.
+-- A refused store changes no lent byte, of any plan, made up or not; a plan's refusal is the update's number, with what stands beside it; and a plan
+-- has 2k + 2 stores.
 pub record Refusing : Type 0 where
   pub store : (p : Plan) (f b r : List ℕ) (i : ℕ) (out : List ℕ) (n : ℕ) → storeAnswer p f b r i out ≡ Refused n → storeBytes p f b r i out ≡ out
-  pub number : (f b : List ℕ) (t : Time) (r : List ℕ) → plannedNumber (planned f b t r) ≡ updateNumber f b t r
+  pub number : (f b : List ℕ) (t : Time) (r : List ℕ) → plannedRefusal (planned f b t r) ≡ named (updateNumber f b t r) r
   pub values : (f b : List ℕ) (t : Time) (r : List ℕ) → updateNumber f b t r ≡ 0 → plannedValues (planned f b t r) ≡ (2 * sectorsOf (length r) + 2) ∷ []
 
 -- Wherever a store is given, of any plan and any copies, made up or not, it goes to a sector of its own side, the front's stores coming

@@ -6,6 +6,7 @@ use mathlib.Core.List.{List}
 use lib.Dec.{leb, ltb, eqb}
 use lib.ListN.{length}
 use Rattle.refusal.specs.Numbers.{notInStep}
+use Rattle.refusal.specs.Refusals.{plain}
 use Rattle.refusal.specs.Tests.{Test, first}
 use Rattle.layout.specs.declared.Side.{Side}
 use Rattle.layout.specs.declared.Side.the-variants.{Front, Back}
@@ -16,6 +17,7 @@ use Rattle.block.specs.declared.Holding.{Holding}
 use Rattle.block.specs.declared.Entry.the-variants.{Used}
 use Rattle.block.specs.declared.BlockFields.{BlockFields}
 use Rattle.block.specs.Block.{fieldsOf}
+use Rattle.record.specs.Accept.{named}
 use Rattle.copy.specs.Copy.{deviceIn, blockIn, otherArea, newest}
 use Rattle.discovery.specs.declared.Finding.{Finding}
 use Rattle.discovery.specs.declared.Other.{Other}
@@ -42,16 +44,16 @@ planOf f b t r = planFor (fieldsOf (blockIn f)) (fieldsOf (blockIn b)) t r
 -- how the code finds it from what discovery answers; nothing public cites this
 abbrev pub planWith : BlockFields → Other → Time → List ℕ → Planned
 planWith x (Both y) t r = Planned.Plan (planFor x y t r)
-planWith x (One m) t r = Planned.Refused notInStep
+planWith x (One m) t r = Planned.Refused (plain notInStep)
 
 abbrev pub planFound : Finding → Other → Bool → Time → List ℕ → Planned
 planFound q o step t r =
     cond (eqb (first (testsAfter step (q .fields .device) (timeAt q) t r)) 0) (planWith (q .fields) o t r)
-    (Planned.Refused (first (testsAfter step (q .fields .device) (timeAt q) t r)))
+    (Planned.Refused (named (first (testsAfter step (q .fields .device) (timeAt q) t r)) r))
 
 -- what `work_out` answers
 abbrev pub planned : List ℕ → List ℕ → Time → List ℕ → Planned
-planned f b t r = cond (eqb (updateNumber f b t r) 0) (Planned.Plan (planOf f b t r)) (Planned.Refused (updateNumber f b t r))
+planned f b t r = cond (eqb (updateNumber f b t r) 0) (Planned.Plan (planOf f b t r)) (Planned.Refused (named (updateNumber f b t r) r))
 
 -- the sectors that the record fills, k, and the stores, 2k + 2
 abbrev pub sectorsIn : Plan → ℕ

@@ -6,6 +6,7 @@ ghost use Rattle.refusal.specs.Tests.{first};
 ghost use Rattle.layout.specs.Limits.{lengthAllowed};
 ghost use Rattle.block.specs.Block.{fieldsOf};
 ghost use Rattle.copy.specs.Copy.{blockIn};
+ghost use Rattle.record.specs.Accept.{named};
 ghost use Rattle.discovery.specs.Newest.{timeAt};
 ghost use Rattle.update.specs.Update.{testsAfter, updateNumber};
 ghost use Rattle.update.specs.Plan.{planFor, planFound, planned, sectorsIn, storesIn, groupOf, flushAfter, partOf, storeAnswer, storeBytes};
@@ -19,6 +20,7 @@ use discovery::Other;
 use layout::Area;
 use layout::Device;
 use layout::Side;
+use refusal::Refusal;
 use stores::Given;
 use stores::Part;
 
@@ -32,22 +34,22 @@ pub struct Plan {
 // What `work_out` answers.
 pub enum Planned {
     Plan(Plan),
-    Refused(u8),
+    Refused(Refusal),
 }
 
 // The tests after discovery has found a record of time `old` on the device d, where `step` says whether the copies are in step.
-fn check_after(d: Device, step: bool, old: Time, t: Time, r: &[u8]) -> u8
-    ensures { λ n. ⌜ n ≡ first (testsAfter step d old t (now (r .entry))) ⌝ }
+fn check_after(d: Device, step: bool, old: Time, t: Time, r: &[u8]) -> Refusal
+    ensures { λ n. ⌜ n ≡ named (first (testsAfter step d old t (now (r .entry)))) (now (r .entry)) ⌝ }
 {
     if !step {
-        return refusal::NOT_IN_STEP;
+        return refusal::plain(refusal::NOT_IN_STEP);
     }
     let within = t.nanoseconds <= layout::MOST_NANOSECONDS;
     if !within {
-        return refusal::AREA_ENTRY;
+        return refusal::plain(refusal::AREA_ENTRY);
     }
     if !block::later(t, old) {
-        return refusal::NOT_LATER;
+        return refusal::plain(refusal::NOT_LATER);
     }
     record::check_content(d, r)
 }
@@ -62,15 +64,15 @@ fn time_at(q: Finding) -> Time
     }
 }
 
-// The refusal number of an update of a front and a back copy with a time and a record: discovery's, or 16, 9, 14, 15, 17, 18
-// or 19, the first that applies; 0 where it is not refused.
-pub fn check(f: &[u8], b: &[u8], t: Time, r: &[u8]) -> u8
-    ensures { λ n. ⌜ n ≡ updateNumber (now (f .entry)) (now (b .entry)) t (now (r .entry)) ⌝ }
+// The refusal of an update of a front and a back copy with a time and a record: discovery's, or 16, 9, 14, 15, 17, 18 or 19 with the
+// two segments that clash, the first that applies; number 0 where it is not refused.
+pub fn check(f: &[u8], b: &[u8], t: Time, r: &[u8]) -> Refusal
+    ensures { λ n. ⌜ n ≡ named (updateNumber (now (f .entry)) (now (b .entry)) t (now (r .entry))) (now (r .entry)) ⌝ }
 {
     let v = discovery::examine(f, b);
     let a = v.answer;
     match a {
-        Answer::Refused(n) => n,
+        Answer::Refused(n) => refusal::plain(n),
         Answer::Found(q, _) => {
             let x = q.fields;
             check_after(x.device, v.step, time_at(q), t, r)
@@ -98,30 +100,30 @@ fn plan_for(x: BlockFields, y: BlockFields, t: Time, r: &[u8]) -> Plan
     }
 }
 
-// The plan of an update where discovery answers with a record and the other copy, or its refusal number.
+// The plan of an update where discovery answers with a record and the other copy, or its refusal.
 fn plan_found(q: Finding, o: Other, step: bool, t: Time, r: &[u8]) -> Planned
     ensures { λ p. ⌜ p ≡ planFound q o step t (now (r .entry)) ⌝ }
 {
     let x = q.fields;
     let n = check_after(x.device, step, time_at(q), t, r);
-    if n != 0 {
+    if n.number != 0 {
         return Planned::Refused(n);
     }
     let Other::Both(y) = o else {
-        return Planned::Refused(refusal::NOT_IN_STEP);
+        return Planned::Refused(refusal::plain(refusal::NOT_IN_STEP));
     };
     let p = plan_for(x, y, t, r);
     Planned::Plan(p)
 }
 
-// Works an update out: the plan of its stores, or its refusal number.
+// Works an update out: the plan of its stores, or its refusal.
 pub fn work_out(f: &[u8], b: &[u8], t: Time, r: &[u8]) -> Planned
     ensures { λ p. ⌜ p ≡ planned (now (f .entry)) (now (b .entry)) t (now (r .entry)) ⌝ }
 {
     let v = discovery::examine(f, b);
     let a = v.answer;
     match a {
-        Answer::Refused(n) => Planned::Refused(n),
+        Answer::Refused(n) => Planned::Refused(refusal::plain(n)),
         Answer::Found(q, o) => plan_found(q, o, v.step, t, r),
     }
 }
@@ -196,7 +198,7 @@ fn part_on(w: Side, x: Area, h: Holding, g: BlockFields) -> Part
 }
 
 // The store of a plan with number i, counted from 0: its 512 bytes into out, its sector as the answer. The record is the one that the
-// plan was made of; the copies are those, as they were or with the plan's earlier stores in them. 1 for a slice of another size, 15 for
+// plan was made of, of which the length alone is tested here; the copies are those, as they were or with the plan's earlier stores in them. 1 for a slice of another size, 15 for
 // a length that no record has, 1 for a length that is not the plan's, 23 past the last store; then 4, 7 or 8 where the device numbers of
 // the store's own copy are not allowed; a block that the writer refuses gives its number. Then out stays.
 pub fn store(p: Plan, f: &[u8], b: &[u8], r: &[u8], i: u64, out: &mut [u8]) -> Given

@@ -12,6 +12,7 @@ ghost use Rattle.sampling.specs.Laying.{inputBytes};
 use block::Time;
 use layout::Area;
 use sampling::number;
+use sampling::refusal;
 use sampling::refused;
 use sampling::say;
 use sampling::sum;
@@ -74,7 +75,10 @@ fn print_lengths(p: Plan, f: &[u8], b: &[u8]) {
 fn judge(f: &[u8], b: &[u8], t: Time, r: &[u8]) {
     let p = update::work_out(f, b, t, r);
     match p {
-        Planned::Refused(n) => refused(n),
+        Planned::Refused(n) => {
+            refusal(n);
+            say(b"\n");
+        }
         Planned::Plan(q) => {
             print_plan(q, f, b, r);
             print_lengths(q, f, b);

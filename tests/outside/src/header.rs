@@ -7,7 +7,7 @@ use crate::model::apply::format_count;
 use crate::model::block::MAX_NANOSECONDS;
 use crate::model::layout::{AREA_OFFSET, BACK, BLOCK_OFFSET, COPY, FRONT, RECORD_LIMIT, SECTOR};
 use crate::model::record::{is_block_size, HEAD_BYTES, MAX_SEGMENTS, SEGMENT_BYTES};
-use crate::model::refusal::Refusal;
+use crate::model::refusal::{Clash, Refusal};
 use crate::model::settled::COPY_SECTORS;
 use crate::model::Model;
 
@@ -331,7 +331,7 @@ fn numbers_are_those_of_the_header() {
         ("NOT_IN_STEP", Refusal::NotInStep),
         ("RECORD_FORM", Refusal::RecordForm),
         ("SEGMENT_PLACE", Refusal::SegmentPlace),
-        ("SEGMENT_CLASH", Refusal::SegmentClash),
+        ("SEGMENT_CLASH", Refusal::SegmentClash(Clash { first: 0, second: 1 })),
         ("NO_ROOM", Refusal::NoRoom),
         ("RECORD_FULL", Refusal::RecordFull),
         ("NO_SEGMENT", Refusal::NoSegment),

@@ -13,3 +13,5 @@ pub mod sample;
 #[cfg(feature = "self-test")]
 pub mod stand_in;
 mod structs;
+#[cfg(feature = "self-test")]
+pub mod wrong;

@@ -1,9 +1,10 @@
-//! The independent implementation behind the C interface, in the library's place.
+//! The independent implementation behind the C interface, in the library's place; with a wrong answer where one is chosen.
 
 use std::slice::{from_raw_parts, from_raw_parts_mut};
 
 use crate::interface::*;
 use crate::model::Model;
+use crate::wrong::told;
 
 unsafe fn shared<'a, T>(items: *const T, length: usize) -> &'a [T] {
     if length == 0 {
@@ -157,7 +158,12 @@ unsafe extern "C" fn amseokbin_update_check(
     record: *const u8,
     record_length: usize,
 ) -> Refused {
-    Model.update_check(shared(front, front_length), shared(back, back_length), time, shared(record, record_length))
+    let record = shared(record, record_length);
+    told(
+        "update_check",
+        record,
+        Model.update_check(shared(front, front_length), shared(back, back_length), time, record),
+    )
 }
 
 #[no_mangle]
@@ -170,7 +176,8 @@ unsafe extern "C" fn amseokbin_update_plan(
     record: *const u8,
     record_length: usize,
 ) -> UpdateAnswer {
-    Model.update_plan(shared(front, front_length), shared(back, back_length), time, shared(record, record_length))
+    let record = shared(record, record_length);
+    told("update_plan", record, Model.update_plan(shared(front, front_length), shared(back, back_length), time, record))
 }
 
 #[no_mangle]
@@ -221,14 +228,19 @@ unsafe extern "C" fn amseokbin_format(
     record: *const u8,
     record_length: usize,
 ) -> Refused {
-    Model.format(
-        unique(front, front_length),
-        unique(back, back_length),
-        device,
-        shared(pool, pool_length),
-        shared(blockdev, blockdev_length),
-        time,
-        shared(record, record_length),
+    let record = shared(record, record_length);
+    told(
+        "format",
+        record,
+        Model.format(
+            unique(front, front_length),
+            unique(back, back_length),
+            device,
+            shared(pool, pool_length),
+            shared(blockdev, blockdev_length),
+            time,
+            record,
+        ),
     )
 }
 
@@ -298,12 +310,14 @@ unsafe extern "C" fn amseokbin_mend_store(
 
 #[no_mangle]
 unsafe extern "C" fn amseokbin_record_check(device: Device, record: *const u8, record_length: usize) -> Refused {
-    Model.record_check(device, shared(record, record_length))
+    let record = shared(record, record_length);
+    told("record_check", record, Model.record_check(device, record))
 }
 
 #[no_mangle]
 unsafe extern "C" fn amseokbin_record_head(device: Device, record: *const u8, record_length: usize) -> HeadAnswer {
-    Model.record_head(device, shared(record, record_length))
+    let record = shared(record, record_length);
+    told("record_head", record, Model.record_head(device, record))
 }
 
 #[no_mangle]
@@ -313,7 +327,8 @@ unsafe extern "C" fn amseokbin_record_segment(
     record_length: usize,
     position: u64,
 ) -> SegmentAnswer {
-    Model.record_segment(device, shared(record, record_length), position)
+    let record = shared(record, record_length);
+    told("record_segment", record, Model.record_segment(device, record, position))
 }
 
 #[no_mangle]
@@ -325,7 +340,8 @@ unsafe extern "C" fn amseokbin_record_segments(
     table: *mut u64,
     table_length: usize,
 ) -> CountAnswer {
-    Model.record_segments(device, shared(record, record_length), position, unique(table, table_length))
+    let record = shared(record, record_length);
+    told("record_segments", record, Model.record_segments(device, record, position, unique(table, table_length)))
 }
 
 #[no_mangle]
@@ -345,7 +361,8 @@ unsafe extern "C" fn amseokbin_record_put(
 
 #[no_mangle]
 unsafe extern "C" fn amseokbin_free_total(device: Device, record: *const u8, record_length: usize) -> TotalAnswer {
-    Model.free_total(device, shared(record, record_length))
+    let record = shared(record, record_length);
+    told("free_total", record, Model.free_total(device, record))
 }
 
 #[no_mangle]
@@ -356,12 +373,14 @@ unsafe extern "C" fn amseokbin_free_runs(
     table: *mut FreeRun,
     table_length: usize,
 ) -> CountAnswer {
-    Model.free_runs(device, shared(record, record_length), unique(table, table_length))
+    let record = shared(record, record_length);
+    told("free_runs", record, Model.free_runs(device, record, unique(table, table_length)))
 }
 
 #[no_mangle]
 unsafe extern "C" fn amseokbin_run_count(device: Device, record: *const u8, record_length: usize) -> CountAnswer {
-    Model.run_count(device, shared(record, record_length))
+    let record = shared(record, record_length);
+    told("run_count", record, Model.run_count(device, record))
 }
 
 #[no_mangle]
@@ -371,7 +390,8 @@ unsafe extern "C" fn amseokbin_run_at(
     record_length: usize,
     number: u64,
 ) -> RunAnswer {
-    Model.run_at(device, shared(record, record_length), number)
+    let record = shared(record, record_length);
+    told("run_at", record, Model.run_at(device, record, number))
 }
 
 #[no_mangle]
@@ -381,7 +401,8 @@ unsafe extern "C" fn amseokbin_first_fit(
     record_length: usize,
     sectors: u64,
 ) -> RunAnswer {
-    Model.first_fit(device, shared(record, record_length), sectors)
+    let record = shared(record, record_length);
+    told("first_fit", record, Model.first_fit(device, record, sectors))
 }
 
 #[no_mangle]
@@ -394,7 +415,8 @@ unsafe extern "C" fn amseokbin_allocate(
     changed: *mut u8,
     changed_length: usize,
 ) -> AllocationAnswer {
-    Model.allocate(device, shared(record, record_length), kind, sectors, unique(changed, changed_length))
+    let record = shared(record, record_length);
+    told("allocate", record, Model.allocate(device, record, kind, sectors, unique(changed, changed_length)))
 }
 
 #[no_mangle]
@@ -406,5 +428,6 @@ unsafe extern "C" fn amseokbin_release(
     changed: *mut u8,
     changed_length: usize,
 ) -> LengthAnswer {
-    Model.release(device, shared(record, record_length), position, unique(changed, changed_length))
+    let record = shared(record, record_length);
+    told("release", record, Model.release(device, record, position, unique(changed, changed_length)))
 }

@@ -12,7 +12,7 @@ pub const WORDS: usize = 80;
 /// The group past the last store.
 pub const NO_GROUP: u8 = 4;
 
-/// A refusal number, and what stands beside it: nothing yet.
+/// A refusal number, and what stands beside it: the positions of two segments that clash beside 19, zeros beside every other.
 #[repr(C)]
 #[derive(Clone, Copy, Debug, Default, PartialEq, Eq)]
 pub struct Refused {
@@ -228,16 +228,27 @@ pub trait Answer: Copy + std::fmt::Debug + PartialEq {
     /// Its refusal number; of an answer that has none, the answer itself.
     fn number(&self) -> u64;
 
-    /// The refusal with this number and zero in every other field, where the answer has a refusal.
-    fn refused(number: u8) -> Option<Self>;
+    /// Its refusal, where it has one.
+    fn refused(&self) -> Option<Refused>;
+
+    /// The answer with this refusal and zero in every other field, where the answer has a refusal.
+    fn alone(refusal: Refused) -> Option<Self>;
 }
 
 /// An answer that begins with a refusal.
 pub trait Refusable: Answer + Default {
-    fn refusal(number: u8) -> Self;
+    fn refusal_mut(&mut self) -> &mut Refused;
+
+    /// The answer with this refusal and zero in every other field.
+    fn refusing(refusal: Refused) -> Self {
+        let mut answer = Self::default();
+        *answer.refusal_mut() = refusal;
+        answer
+    }
 }
 
 impl Refused {
+    /// A number that nothing stands beside.
     pub fn numbered(number: u8) -> Self {
         Refused { number, ..Self::default() }
     }
@@ -248,14 +259,18 @@ impl Answer for Refused {
         self.number.into()
     }
 
-    fn refused(number: u8) -> Option<Self> {
-        Some(Self::numbered(number))
+    fn refused(&self) -> Option<Refused> {
+        Some(*self)
+    }
+
+    fn alone(refusal: Refused) -> Option<Self> {
+        Some(refusal)
     }
 }
 
 impl Refusable for Refused {
-    fn refusal(number: u8) -> Self {
-        Self::numbered(number)
+    fn refusal_mut(&mut self) -> &mut Refused {
+        self
     }
 }
 
@@ -266,14 +281,18 @@ macro_rules! begin_with_a_refusal {
                 self.refusal.number.into()
             }
 
-            fn refused(number: u8) -> Option<Self> {
-                Some(Self::refusal(number))
+            fn refused(&self) -> Option<Refused> {
+                Some(self.refusal)
+            }
+
+            fn alone(refusal: Refused) -> Option<Self> {
+                Some(Self::refusing(refusal))
             }
         }
 
         impl Refusable for $answer {
-            fn refusal(number: u8) -> Self {
-                Self { refusal: Refused::numbered(number), ..Self::default() }
+            fn refusal_mut(&mut self) -> &mut Refused {
+                &mut self.refusal
             }
         }
     )*};
@@ -305,7 +324,11 @@ macro_rules! numbers {
                 u64::from(*self)
             }
 
-            fn refused(_: u8) -> Option<Self> {
+            fn refused(&self) -> Option<Refused> {
+                None
+            }
+
+            fn alone(_: Refused) -> Option<Self> {
                 None
             }
         }
@@ -320,7 +343,11 @@ impl Answer for Words {
         self.used as u64
     }
 
-    fn refused(_: u8) -> Option<Self> {
+    fn refused(&self) -> Option<Refused> {
+        None
+    }
+
+    fn alone(_: Refused) -> Option<Self> {
         None
     }
 }

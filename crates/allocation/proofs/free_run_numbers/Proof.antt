@@ -1,5 +1,5 @@
 -- `allocation::free_run_numbers` meets its contract.
-use Rattle.allocation.proofs.Calls.{Prepared, prepared, number-is, table-short, numbers-no, numbers-yes}
+use Rattle.allocation.proofs.Calls.{Prepared, prepared, number-is, refusal-is, table-short, numbers-no, numbers-own, numbers-yes}
 use Rattle.record.proofs.Testing.{more-no}
 use Rattle.refusal.specs.Tests.{first, _elseRefuse_}
 use Rattle.record.specs.Accept.{recordTests}
@@ -26,10 +26,10 @@ check-in-order-requires c κs = search needs
 
 returns : tie.Need-returns
 returns c =
-    let d : Device = c .before .before .before .before .args .d in
-    let s : List ℕ = c .before .before .before .before .args .s .now in
-    let t : List ℕ = c .before .before .before .before .args .table .now in
-    numbers-no d s t (c .before .check-in-order .result .number) (more-no d s ((leb (length (runsIn d s)) (length t / 2) elseRefuse sliceSize) ∷ []) (c .before .check-in-order .result .number) (number-is d s (c .before .check-in-order .result) (c .before .check-in-order .ensures)) (c .if1 .taken)) (c .if1 .taken)
+    let d : Device = c .before .before .before .before .before .before .args .d in
+    let s : List ℕ = c .before .before .before .before .before .before .args .s .now in
+    let t : List ℕ = c .before .before .before .before .before .before .args .table .now in
+    numbers-no d s t (c .before .before .before .check-in-order .result .refusal) (refusal-is d s (c .before .before .before .check-in-order .result) (c .before .before .before .check-in-order .ensures)) (more-no d s ((leb (length (runsIn d s)) (length t / 2) elseRefuse sliceSize) ∷ []) (c .before .before .before .check-in-order .result .refusal .number) (number-is d s (c .before .before .before .check-in-order .result) (c .before .before .before .check-in-order .ensures)) (c .if1 .taken)) (c .if1 .taken)
 
 items-of-requires : tie.Need-items-of-requires
 items-of-requires c κs = search needs
@@ -39,58 +39,61 @@ count-in-requires c κs = search needs
 
 array-share-prefix-at : tie.Need-array-share-prefix-at
 array-share-prefix-at c =
-    let d : Device = c .before .before .before .before .before .before .before .before .args .d in
-    let s : List ℕ = c .before .before .before .before .before .before .before .before .args .s .now in
-    (prepared d s (c .before .before .before .before .before .check-in-order .result) (c .before .items-of .result .now) (c .count-in .result) (dataRange d) (c .before .before .before .before .before .check-in-order .ensures) (c .before .before .before .before .if1 .left) (c .before .items-of .ensures) (c .count-in .ensures) refl) .inside
+    let d : Device = c .before .before .before .before .before .before .before .before .before .before .args .d in
+    let s : List ℕ = c .before .before .before .before .before .before .before .before .before .before .args .s .now in
+    (prepared d s (c .before .before .before .before .before .before .before .check-in-order .result) (c .before .items-of .result .now) (c .count-in .result) (dataRange d) (c .before .before .before .before .before .before .before .check-in-order .ensures) (c .before .before .before .before .if1 .left) (c .before .items-of .ensures) (c .count-in .ensures) refl) .inside
 
 slice-aggregate-count-gaps : tie.Need-slice-aggregate-count-gaps
 slice-aggregate-count-gaps c =
-    let d : Device = c .before .before .before .before .before .before .before .before .before .args .d in
-    let s : List ℕ = c .before .before .before .before .before .before .before .before .before .args .s .now in
-    (prepared d s (c .before .before .before .before .before .before .check-in-order .result) (c .before .before .items-of .result .now) (c .before .count-in .result) (dataRange d) (c .before .before .before .before .before .before .check-in-order .ensures) (c .before .before .before .before .before .if1 .left) (c .before .before .items-of .ensures) (c .before .count-in .ensures) refl) .exact
+    let d : Device = c .before .before .before .before .before .before .before .before .before .before .before .args .d in
+    let s : List ℕ = c .before .before .before .before .before .before .before .before .before .before .before .args .s .now in
+    (prepared d s (c .before .before .before .before .before .before .before .before .check-in-order .result) (c .before .before .items-of .result .now) (c .before .count-in .result) (dataRange d) (c .before .before .before .before .before .before .before .before .check-in-order .ensures) (c .before .before .before .before .before .if1 .left) (c .before .before .items-of .ensures) (c .before .count-in .ensures) refl) .exact
 
 data-range-requires : tie.Need-data-range-requires
 data-range-requires c κs = search needs
 
 count-gaps-requires : tie.Need-count-gaps-requires
 count-gaps-requires c κs =
-    let d : Device = c .before .before .before .before .before .before .before .before .before .before .args .d in
-    let s : List ℕ = c .before .before .before .before .before .before .before .before .before .before .args .s .now in
-    (prepared d s (c .before .before .before .before .before .before .before .check-in-order .result) (c .before .before .before .items-of .result .now) (c .before .before .count-in .result) (c .data-range .result) (c .before .before .before .before .before .before .before .check-in-order .ensures) (c .before .before .before .before .before .before .if1 .left) (c .before .before .before .items-of .ensures) (c .before .before .count-in .ensures) (c .data-range .ensures)) .chain
+    let d : Device = c .before .before .before .before .before .before .before .before .before .before .before .before .args .d in
+    let s : List ℕ = c .before .before .before .before .before .before .before .before .before .before .before .before .args .s .now in
+    (prepared d s (c .before .before .before .before .before .before .before .before .before .check-in-order .result) (c .before .before .before .items-of .result .now) (c .before .before .count-in .result) (c .data-range .result) (c .before .before .before .before .before .before .before .before .before .check-in-order .ensures) (c .before .before .before .before .before .before .if1 .left) (c .before .before .before .items-of .ensures) (c .before .before .count-in .ensures) (c .data-range .ensures)) .chain
+
+plain-requires : tie.Need-plain-requires
+plain-requires c κs = search needs
 
 returns-2 : tie.Need-returns-2
 returns-2 c =
-    let d : Device = c .before .before .before .before .before .before .before .before .before .before .before .before .args .d in
-    let s : List ℕ = c .before .before .before .before .before .before .before .before .before .before .before .before .args .s .now in
-    let t : List ℕ = c .before .before .before .before .before .before .before .before .before .before .before .before .args .table .now in
-    let w : Prepared d s (c .before .before .before .before .before .before .before .before .before .check-in-order .result) (c .before .before .before .before .before .items-of .result .now) (c .before .before .before .before .count-in .result) (c .before .before .data-range .result) = prepared d s (c .before .before .before .before .before .before .before .before .before .check-in-order .result) (c .before .before .before .before .before .items-of .result .now) (c .before .before .before .before .count-in .result) (c .before .before .data-range .result) (c .before .before .before .before .before .before .before .before .before .check-in-order .ensures) (c .before .before .before .before .before .before .before .before .if1 .left) (c .before .before .before .before .before .items-of .ensures) (c .before .before .before .before .count-in .ensures) (c .before .before .data-range .ensures) in
-    let n : c .before .count-gaps .result ≡ length (runsIn d s) = c .before .count-gaps .ensures ∙ ap (λ (v : List Run). length v) (w .runs) in
-    numbers-no d s t 1 (table-short d s (length t / 2) (w .zero) (let l : length t / 2 < length (runsIn d s) = omega (arith, c .if2 .taken) in l)) (omega arith)
+    let d : Device = c .before .before .before .before .before .before .before .before .before .before .before .before .before .before .before .args .d in
+    let s : List ℕ = c .before .before .before .before .before .before .before .before .before .before .before .before .before .before .before .args .s .now in
+    let t : List ℕ = c .before .before .before .before .before .before .before .before .before .before .before .before .before .before .before .args .table .now in
+    let w : Prepared d s (c .before .before .before .before .before .before .before .before .before .before .before .before .check-in-order .result) (c .before .before .before .before .before .before .items-of .result .now) (c .before .before .before .before .before .count-in .result) (c .before .before .before .data-range .result) = prepared d s (c .before .before .before .before .before .before .before .before .before .before .before .before .check-in-order .result) (c .before .before .before .before .before .before .items-of .result .now) (c .before .before .before .before .before .count-in .result) (c .before .before .before .data-range .result) (c .before .before .before .before .before .before .before .before .before .before .before .before .check-in-order .ensures) (c .before .before .before .before .before .before .before .before .before .if1 .left) (c .before .before .before .before .before .before .items-of .ensures) (c .before .before .before .before .before .count-in .ensures) (c .before .before .before .data-range .ensures) in
+    let n : c .before .before .count-gaps .result ≡ length (runsIn d s) = c .before .before .count-gaps .ensures ∙ ap (λ (v : List Run). length v) (w .runs) in
+    numbers-own d s t 1 (c .plain .result) (c .plain .ensures) (λ q. omega arith) (table-short d s (length t / 2) (w .zero) (let l : length t / 2 < length (runsIn d s) = omega (arith, c .before .if2 .taken) in l)) (λ q. omega arith)
 
 array-share-prefix-at-2 : tie.Need-array-share-prefix-at-2
 array-share-prefix-at-2 c =
-    let d : Device = c .before .before .before .before .before .before .before .before .before .before .before .before .args .d in
-    let s : List ℕ = c .before .before .before .before .before .before .before .before .before .before .before .before .args .s .now in
-    (prepared d s (c .before .before .before .before .before .before .before .before .before .check-in-order .result) (c .before .before .before .before .before .items-of .result .now) (c .before .before .before .before .count-in .result) (dataRange d) (c .before .before .before .before .before .before .before .before .before .check-in-order .ensures) (c .before .before .before .before .before .before .before .before .if1 .left) (c .before .before .before .before .before .items-of .ensures) (c .before .before .before .before .count-in .ensures) refl) .inside
+    let d : Device = c .before .before .before .before .before .before .before .before .before .before .before .before .before .before .args .d in
+    let s : List ℕ = c .before .before .before .before .before .before .before .before .before .before .before .before .before .before .args .s .now in
+    (prepared d s (c .before .before .before .before .before .before .before .before .before .before .before .check-in-order .result) (c .before .before .before .before .before .items-of .result .now) (c .before .before .before .before .count-in .result) (dataRange d) (c .before .before .before .before .before .before .before .before .before .before .before .check-in-order .ensures) (c .before .before .before .before .before .before .before .before .if1 .left) (c .before .before .before .before .before .items-of .ensures) (c .before .before .before .before .count-in .ensures) refl) .inside
 
 slice-aggregate-fill-numbers : tie.Need-slice-aggregate-fill-numbers
 slice-aggregate-fill-numbers c =
-    let d : Device = c .before .before .before .before .before .before .before .before .before .before .before .before .before .args .d in
-    let s : List ℕ = c .before .before .before .before .before .before .before .before .before .before .before .before .before .args .s .now in
-    (prepared d s (c .before .before .before .before .before .before .before .before .before .before .check-in-order .result) (c .before .before .before .before .before .before .items-of .result .now) (c .before .before .before .before .before .count-in .result) (dataRange d) (c .before .before .before .before .before .before .before .before .before .before .check-in-order .ensures) (c .before .before .before .before .before .before .before .before .before .if1 .left) (c .before .before .before .before .before .before .items-of .ensures) (c .before .before .before .before .before .count-in .ensures) refl) .exact
+    let d : Device = c .before .before .before .before .before .before .before .before .before .before .before .before .before .before .before .args .d in
+    let s : List ℕ = c .before .before .before .before .before .before .before .before .before .before .before .before .before .before .before .args .s .now in
+    (prepared d s (c .before .before .before .before .before .before .before .before .before .before .before .before .check-in-order .result) (c .before .before .before .before .before .before .items-of .result .now) (c .before .before .before .before .before .count-in .result) (dataRange d) (c .before .before .before .before .before .before .before .before .before .before .before .before .check-in-order .ensures) (c .before .before .before .before .before .before .before .before .before .if1 .left) (c .before .before .before .before .before .before .items-of .ensures) (c .before .before .before .before .before .count-in .ensures) refl) .exact
 
 data-range-requires-2 : tie.Need-data-range-requires-2
 data-range-requires-2 c κs = search needs
 
 fill-numbers-requires : tie.Need-fill-numbers-requires
 fill-numbers-requires c κs =
-    let d : Device = c .before .before .before .before .before .before .before .before .before .before .before .before .before .before .before .args .d in
-    let s : List ℕ = c .before .before .before .before .before .before .before .before .before .before .before .before .before .before .before .args .s .now in
-    let t : List ℕ = c .before .before .before .before .before .before .before .before .before .before .before .before .before .before .before .args .table .now in
-    let w : Prepared d s (c .before .before .before .before .before .before .before .before .before .before .before .before .check-in-order .result) (c .before .before .before .before .before .before .before .before .items-of .result .now) (c .before .before .before .before .before .before .before .count-in .result) (c .before .before .before .before .before .data-range .result) = prepared d s (c .before .before .before .before .before .before .before .before .before .before .before .before .check-in-order .result) (c .before .before .before .before .before .before .before .before .items-of .result .now) (c .before .before .before .before .before .before .before .count-in .result) (c .before .before .before .before .before .data-range .result) (c .before .before .before .before .before .before .before .before .before .before .before .before .check-in-order .ensures) (c .before .before .before .before .before .before .before .before .before .before .before .if1 .left) (c .before .before .before .before .before .before .before .before .items-of .ensures) (c .before .before .before .before .before .before .before .count-in .ensures) (c .before .before .before .before .before .data-range .ensures) in
+    let d : Device = c .before .before .before .before .before .before .before .before .before .before .before .before .before .before .before .before .before .args .d in
+    let s : List ℕ = c .before .before .before .before .before .before .before .before .before .before .before .before .before .before .before .before .before .args .s .now in
+    let t : List ℕ = c .before .before .before .before .before .before .before .before .before .before .before .before .before .before .before .before .before .args .table .now in
+    let w : Prepared d s (c .before .before .before .before .before .before .before .before .before .before .before .before .before .before .check-in-order .result) (c .before .before .before .before .before .before .before .before .items-of .result .now) (c .before .before .before .before .before .before .before .count-in .result) (c .before .before .before .before .before .data-range .result) = prepared d s (c .before .before .before .before .before .before .before .before .before .before .before .before .before .before .check-in-order .result) (c .before .before .before .before .before .before .before .before .items-of .result .now) (c .before .before .before .before .before .before .before .count-in .result) (c .before .before .before .before .before .data-range .result) (c .before .before .before .before .before .before .before .before .before .before .before .before .before .before .check-in-order .ensures) (c .before .before .before .before .before .before .before .before .before .before .before .if1 .left) (c .before .before .before .before .before .before .before .before .items-of .ensures) (c .before .before .before .before .before .before .before .count-in .ensures) (c .before .before .before .before .before .data-range .ensures) in
     let n : c .before .before .before .before .count-gaps .result ≡ length (runsIn d s) = c .before .before .before .before .count-gaps .ensures ∙ ap (λ (v : List Run). length v) (w .runs) in
-    let v : Prepared d s (c .before .before .before .before .before .before .before .before .before .before .before .before .check-in-order .result) (c .before .before .before .before .before .before .before .before .items-of .result .now) (c .before .before .before .before .before .before .before .count-in .result) (c .before .data-range2 .result) = prepared d s (c .before .before .before .before .before .before .before .before .before .before .before .before .check-in-order .result) (c .before .before .before .before .before .before .before .before .items-of .result .now) (c .before .before .before .before .before .before .before .count-in .result) (c .before .data-range2 .result) (c .before .before .before .before .before .before .before .before .before .before .before .before .check-in-order .ensures) (c .before .before .before .before .before .before .before .before .before .before .before .if1 .left) (c .before .before .before .before .before .before .before .before .items-of .ensures) (c .before .before .before .before .before .before .before .count-in .ensures) (c .before .data-range2 .ensures) in
-    let l : length (runsIn d s) ≡ length (walked (c .before .data-range2 .result) (segmentsIn (c .before .before .before .before .before .before .before .before .items-of .result .now)) (take (c .before .before .before .before .before .before .before .count-in .result) (c .before .before .before .before .before .before .before .before .before .before .before .before .check-in-order .result .order .at))) = sym (ap (λ (x : List Run). length x) (v .runs)) in
+    let v : Prepared d s (c .before .before .before .before .before .before .before .before .before .before .before .before .before .before .check-in-order .result) (c .before .before .before .before .before .before .before .before .items-of .result .now) (c .before .before .before .before .before .before .before .count-in .result) (c .before .data-range2 .result) = prepared d s (c .before .before .before .before .before .before .before .before .before .before .before .before .before .before .check-in-order .result) (c .before .before .before .before .before .before .before .before .items-of .result .now) (c .before .before .before .before .before .before .before .count-in .result) (c .before .data-range2 .result) (c .before .before .before .before .before .before .before .before .before .before .before .before .before .before .check-in-order .ensures) (c .before .before .before .before .before .before .before .before .before .before .before .if1 .left) (c .before .before .before .before .before .before .before .before .items-of .ensures) (c .before .before .before .before .before .before .before .count-in .ensures) (c .before .data-range2 .ensures) in
+    let l : length (runsIn d s) ≡ length (walked (c .before .data-range2 .result) (segmentsIn (c .before .before .before .before .before .before .before .before .items-of .result .now)) (take (c .before .before .before .before .before .before .before .count-in .result) (c .before .before .before .before .before .before .before .before .before .before .before .before .before .before .check-in-order .result .order .at))) = sym (ap (λ (x : List Run). length x) (v .runs)) in
     let h : c .before .before .before .before .count-gaps .result ≤ length t / 2 = omega (arith, c .before .before .before .if2 .left) in
     ((λ _. v .chain), (omega arith, omega arith))
 
@@ -99,14 +102,14 @@ same-length c = search needs
 
 returns-3 : tie.Need-returns-3
 returns-3 c =
-    let d : Device = c .before .before .before .before .before .before .before .before .before .before .before .before .before .before .before .before .before .before .args .d in
-    let s : List ℕ = c .before .before .before .before .before .before .before .before .before .before .before .before .before .before .before .before .before .before .args .s .now in
-    let t : List ℕ = c .before .before .before .before .before .before .before .before .before .before .before .before .before .before .before .before .before .before .args .table .now in
-    let w : Prepared d s (c .before .before .before .before .before .before .before .before .before .before .before .before .before .before .before .check-in-order .result) (c .before .before .before .before .before .before .before .before .before .before .before .items-of .result .now) (c .before .before .before .before .before .before .before .before .before .before .count-in .result) (c .before .before .before .before .before .before .before .before .data-range .result) = prepared d s (c .before .before .before .before .before .before .before .before .before .before .before .before .before .before .before .check-in-order .result) (c .before .before .before .before .before .before .before .before .before .before .before .items-of .result .now) (c .before .before .before .before .before .before .before .before .before .before .count-in .result) (c .before .before .before .before .before .before .before .before .data-range .result) (c .before .before .before .before .before .before .before .before .before .before .before .before .before .before .before .check-in-order .ensures) (c .before .before .before .before .before .before .before .before .before .before .before .before .before .before .if1 .left) (c .before .before .before .before .before .before .before .before .before .before .before .items-of .ensures) (c .before .before .before .before .before .before .before .before .before .before .count-in .ensures) (c .before .before .before .before .before .before .before .before .data-range .ensures) in
+    let d : Device = c .before .before .before .before .before .before .before .before .before .before .before .before .before .before .before .before .before .before .before .before .args .d in
+    let s : List ℕ = c .before .before .before .before .before .before .before .before .before .before .before .before .before .before .before .before .before .before .before .before .args .s .now in
+    let t : List ℕ = c .before .before .before .before .before .before .before .before .before .before .before .before .before .before .before .before .before .before .before .before .args .table .now in
+    let w : Prepared d s (c .before .before .before .before .before .before .before .before .before .before .before .before .before .before .before .before .before .check-in-order .result) (c .before .before .before .before .before .before .before .before .before .before .before .items-of .result .now) (c .before .before .before .before .before .before .before .before .before .before .count-in .result) (c .before .before .before .before .before .before .before .before .data-range .result) = prepared d s (c .before .before .before .before .before .before .before .before .before .before .before .before .before .before .before .before .before .check-in-order .result) (c .before .before .before .before .before .before .before .before .before .before .before .items-of .result .now) (c .before .before .before .before .before .before .before .before .before .before .count-in .result) (c .before .before .before .before .before .before .before .before .data-range .result) (c .before .before .before .before .before .before .before .before .before .before .before .before .before .before .before .before .before .check-in-order .ensures) (c .before .before .before .before .before .before .before .before .before .before .before .before .before .before .if1 .left) (c .before .before .before .before .before .before .before .before .before .before .before .items-of .ensures) (c .before .before .before .before .before .before .before .before .before .before .count-in .ensures) (c .before .before .before .before .before .before .before .before .data-range .ensures) in
     let n : c .before .before .before .before .before .before .before .count-gaps .result ≡ length (runsIn d s) = c .before .before .before .before .before .before .before .count-gaps .ensures ∙ ap (λ (v : List Run). length v) (w .runs) in
-    let v : Prepared d s (c .before .before .before .before .before .before .before .before .before .before .before .before .before .before .before .check-in-order .result) (c .before .before .before .before .before .before .before .before .before .before .before .items-of .result .now) (c .before .before .before .before .before .before .before .before .before .before .count-in .result) (c .before .before .before .before .data-range2 .result) = prepared d s (c .before .before .before .before .before .before .before .before .before .before .before .before .before .before .before .check-in-order .result) (c .before .before .before .before .before .before .before .before .before .before .before .items-of .result .now) (c .before .before .before .before .before .before .before .before .before .before .count-in .result) (c .before .before .before .before .data-range2 .result) (c .before .before .before .before .before .before .before .before .before .before .before .before .before .before .before .check-in-order .ensures) (c .before .before .before .before .before .before .before .before .before .before .before .before .before .before .if1 .left) (c .before .before .before .before .before .before .before .before .before .before .before .items-of .ensures) (c .before .before .before .before .before .before .before .before .before .before .count-in .ensures) (c .before .before .before .before .data-range2 .ensures) in
-    let l : c .before .before .before .before .before .before .before .count-gaps .result ≡ length (walked (c .before .before .before .before .data-range2 .result) (segmentsIn (c .before .before .before .before .before .before .before .before .before .before .before .items-of .result .now)) (take (c .before .before .before .before .before .before .before .before .before .before .count-in .result) (c .before .before .before .before .before .before .before .before .before .before .before .before .before .before .before .check-in-order .result .order .at))) = n ∙ sym (ap (λ (x : List Run). length x) (v .runs)) in
-    numbers-yes d s t (c .before .before .before .before .before .before .before .count-gaps .result) (walked (c .before .before .before .before .data-range2 .result) (segmentsIn (c .before .before .before .before .before .before .before .before .before .before .before .items-of .result .now)) (take (c .before .before .before .before .before .before .before .before .before .before .count-in .result) (c .before .before .before .before .before .before .before .before .before .before .before .before .before .before .before .check-in-order .result .order .at))) (c .before .before .fill-numbers .last .1 .1 .1 .1 .0) (v .runs) l (v .zero) (let h : c .before .before .before .before .before .before .before .count-gaps .result ≤ length t / 2 = omega (arith, c .before .before .before .before .before .before .if2 .left) in h) (c .before .before .fill-numbers .ensures)
+    let v : Prepared d s (c .before .before .before .before .before .before .before .before .before .before .before .before .before .before .before .before .before .check-in-order .result) (c .before .before .before .before .before .before .before .before .before .before .before .items-of .result .now) (c .before .before .before .before .before .before .before .before .before .before .count-in .result) (c .before .before .before .before .data-range2 .result) = prepared d s (c .before .before .before .before .before .before .before .before .before .before .before .before .before .before .before .before .before .check-in-order .result) (c .before .before .before .before .before .before .before .before .before .before .before .items-of .result .now) (c .before .before .before .before .before .before .before .before .before .before .count-in .result) (c .before .before .before .before .data-range2 .result) (c .before .before .before .before .before .before .before .before .before .before .before .before .before .before .before .before .before .check-in-order .ensures) (c .before .before .before .before .before .before .before .before .before .before .before .before .before .before .if1 .left) (c .before .before .before .before .before .before .before .before .before .before .before .items-of .ensures) (c .before .before .before .before .before .before .before .before .before .before .count-in .ensures) (c .before .before .before .before .data-range2 .ensures) in
+    let l : c .before .before .before .before .before .before .before .count-gaps .result ≡ length (walked (c .before .before .before .before .data-range2 .result) (segmentsIn (c .before .before .before .before .before .before .before .before .before .before .before .items-of .result .now)) (take (c .before .before .before .before .before .before .before .before .before .before .count-in .result) (c .before .before .before .before .before .before .before .before .before .before .before .before .before .before .before .before .before .check-in-order .result .order .at))) = n ∙ sym (ap (λ (x : List Run). length x) (v .runs)) in
+    numbers-yes d s t (c .before .before .before .before .before .before .before .count-gaps .result) (walked (c .before .before .before .before .data-range2 .result) (segmentsIn (c .before .before .before .before .before .before .before .before .before .before .before .items-of .result .now)) (take (c .before .before .before .before .before .before .before .before .before .before .count-in .result) (c .before .before .before .before .before .before .before .before .before .before .before .before .before .before .before .before .before .check-in-order .result .order .at))) (c .before .before .fill-numbers .last .1 .1 .1 .1 .0) (v .runs) l (v .zero) (let h : c .before .before .before .before .before .before .before .count-gaps .result ≤ length t / 2 = omega (arith, c .before .before .before .before .before .before .if2 .left) in h) (c .before .before .fill-numbers .ensures)
 
 pub free-run-numbers-spec : {M : Type 1} → statement M
 free-run-numbers-spec =
@@ -120,6 +123,7 @@ free-run-numbers-spec =
     slice-aggregate-count-gaps
     data-range-requires
     count-gaps-requires
+    plain-requires
     returns-2
     array-share-prefix-at-2
     slice-aggregate-fill-numbers

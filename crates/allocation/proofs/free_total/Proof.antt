@@ -1,6 +1,6 @@
 -- `allocation::free_total` meets its contract.
 use Rattle.allocation.proofs.Calls.{total-left, total-fits}
-use Rattle.refusal.proofs.Order.{answer-no, answer-yes}
+use Rattle.record.proofs.Naming.{number-is, named-again, refuse-no, refuse-yes}
 use Rattle.refusal.specs.Tests.{first}
 use Rattle.record.specs.Accept.{recordTests}
 use Rattle.items.specs.Head.{dataRange}
@@ -23,9 +23,9 @@ check-requires c κs = search needs
 
 returns : tie.Need-returns
 returns c =
-    let d : Device = c .before .before .before .args .d in
-    let s : List ℕ = c .before .before .before .args .s .now in
-    answer-no (FreeTotal.Sectors (freeSectors (dataRange d) (segments s))) FreeTotal.Refused (c .before .check .result) (first (recordTests d s)) (c .before .check .ensures) (c .if1 .taken)
+    let d : Device = c .before .before .before .before .args .d in
+    let s : List ℕ = c .before .before .before .before .args .s .now in
+    refuse-no (FreeTotal.Sectors (freeSectors (dataRange d) (segments s))) FreeTotal.Refused s (c .before .before .check .result) (first (recordTests d s)) (named-again (c .before .before .check .result) _ s (c .before .before .check .ensures)) (number-is (c .before .before .check .result) _ s (c .before .before .check .ensures)) (c .if1 .taken)
 
 data-end-requires : tie.Need-data-end-requires
 data-end-requires c κs = search needs
@@ -35,9 +35,9 @@ data-start-requires c κs = search needs
 
 sub-data : tie.Need-sub-data
 sub-data c =
-    let d : Device = c .before .before .before .before .before .args .d in
-    let s : List ℕ = c .before .before .before .before .before .args .s .now in
-    let z : first (recordTests d s) ≡ 0 = sym (c .before .before .before .check .ensures) ∙ c .before .before .if1 .left in
+    let d : Device = c .before .before .before .before .before .before .args .d in
+    let s : List ℕ = c .before .before .before .before .before .before .args .s .now in
+    let z : first (recordTests d s) ≡ 0 = sym (number-is _ _ s (c .before .before .before .before .check .ensures)) ∙ c .before .before .if1 .left in
     let f : (allocated (segments s) ≤ dataEnd d - dataStart d) × (dataStart d ≤ dataEnd d) = total-fits d s z in
     omega (arith, c .data-start .ensures, c .before .data-end .ensures)
 
@@ -46,30 +46,30 @@ items-of-requires c κs = search needs
 
 allocated-of-requires : tie.Need-allocated-of-requires
 allocated-of-requires c κs =
-    let d : Device = c .before .before .before .before .before .before .args .d in
-    let s : List ℕ = c .before .before .before .before .before .before .args .s .now in
-    let z : first (recordTests d s) ≡ 0 = sym (c .before .before .before .before .check .ensures) ∙ c .before .before .before .if1 .left in
+    let d : Device = c .before .before .before .before .before .before .before .args .d in
+    let s : List ℕ = c .before .before .before .before .before .before .before .args .s .now in
+    let z : first (recordTests d s) ≡ 0 = sym (number-is _ _ s (c .before .before .before .before .before .check .ensures)) ∙ c .before .before .before .if1 .left in
     let f : (allocated (segments s) ≤ dataEnd d - dataStart d) × (dataStart d ≤ dataEnd d) = total-fits d s z in
     let e : allocated (segmentsIn (c .items-of .result .now)) ≡ allocated (segments s) = ap (λ (u : List ℕ). allocated (segmentsIn u)) (c .items-of .ensures) in
     omega (arith, c .before .before .data-end .ensures)
 
 sub-t7 : tie.Need-sub-t7
 sub-t7 c =
-    let d : Device = c .before .before .before .before .before .before .before .args .d in
-    let s : List ℕ = c .before .before .before .before .before .before .before .args .s .now in
-    let z : first (recordTests d s) ≡ 0 = sym (c .before .before .before .before .before .check .ensures) ∙ c .before .before .before .before .if1 .left in
+    let d : Device = c .before .before .before .before .before .before .before .before .args .d in
+    let s : List ℕ = c .before .before .before .before .before .before .before .before .args .s .now in
+    let z : first (recordTests d s) ≡ 0 = sym (number-is _ _ s (c .before .before .before .before .before .before .check .ensures)) ∙ c .before .before .before .before .if1 .left in
     let f : (allocated (segments s) ≤ dataEnd d - dataStart d) × (dataStart d ≤ dataEnd d) = total-fits d s z in
     let e : c .allocated-of .result ≡ allocated (segments s) = c .allocated-of .ensures ∙ ap (λ (u : List ℕ). allocated (segmentsIn u)) (c .before .items-of .ensures) in
     omega (arith, c .before .before .before .data-end .ensures, c .before .before .data-start .ensures)
 
 returns-2 : tie.Need-returns-2
 returns-2 c =
-    let d : Device = c .before .before .before .before .before .before .before .args .d in
-    let s : List ℕ = c .before .before .before .before .before .before .before .args .s .now in
-    let z : first (recordTests d s) ≡ 0 = sym (c .before .before .before .before .before .check .ensures) ∙ c .before .before .before .before .if1 .left in
+    let d : Device = c .before .before .before .before .before .before .before .before .args .d in
+    let s : List ℕ = c .before .before .before .before .before .before .before .before .args .s .now in
+    let z : first (recordTests d s) ≡ 0 = sym (number-is _ _ s (c .before .before .before .before .before .before .check .ensures)) ∙ c .before .before .before .before .if1 .left in
     let e : c .allocated-of .result ≡ allocated (segments s) = c .allocated-of .ensures ∙ ap (λ (u : List ℕ). allocated (segmentsIn u)) (c .before .items-of .ensures) in
     rw (c .before .before .before .data-end .ensures, c .before .before .data-start .ensures, e)
-    (ap FreeTotal.Sectors (total-left d s z) ∙ answer-yes (FreeTotal.Sectors (freeSectors (dataRange d) (segments s))) FreeTotal.Refused 0 (first (recordTests d s)) (sym z) refl)
+    (ap FreeTotal.Sectors (total-left d s z) ∙ refuse-yes (FreeTotal.Sectors (freeSectors (dataRange d) (segments s))) FreeTotal.Refused s 0 (first (recordTests d s)) (sym z) refl)
 
 pub free-total-spec : {M : Type 1} → statement M
 free-total-spec =

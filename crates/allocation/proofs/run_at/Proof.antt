@@ -1,6 +1,6 @@
 -- `allocation::run_at` meets its contract.
-use Rattle.allocation.proofs.Calls.{Prepared, prepared, number-is}
-use Rattle.refusal.proofs.Order.{answer-no, answer-yes}
+use Rattle.allocation.proofs.Calls.{Prepared, prepared, number-is, refusal-is}
+use Rattle.record.proofs.Naming.{refuse-no, refuse-yes}
 use Rattle.refusal.specs.Tests.{first}
 use Rattle.record.specs.Accept.{recordTests}
 use Rattle.items.specs.Head.{dataRange}
@@ -21,9 +21,9 @@ check-in-order-requires c κs = search needs
 
 returns : tie.Need-returns
 returns c =
-    let d : Device = c .before .before .before .args .d in
-    let s : List ℕ = c .before .before .before .args .s .now in
-    answer-no (RunFound.At (runAt (runsIn d s) (c .before .before .before .args .k))) RunFound.Refused (c .before .check-in-order .result .number) (first (recordTests d s)) (number-is d s (c .before .check-in-order .result) (c .before .check-in-order .ensures)) (c .if1 .taken)
+    let d : Device = c .before .before .before .before .before .args .d in
+    let s : List ℕ = c .before .before .before .before .before .args .s .now in
+    refuse-no (RunFound.At (runAt (runsIn d s) (c .before .before .before .before .before .args .k))) RunFound.Refused s (c .before .before .before .check-in-order .result .refusal) (first (recordTests d s)) (refusal-is d s (c .before .before .before .check-in-order .result) (c .before .before .before .check-in-order .ensures)) (number-is d s (c .before .before .before .check-in-order .result) (c .before .before .before .check-in-order .ensures)) (c .if1 .taken)
 
 items-of-requires : tie.Need-items-of-requires
 items-of-requires c κs = search needs
@@ -33,33 +33,33 @@ count-in-requires c κs = search needs
 
 array-share-prefix-at : tie.Need-array-share-prefix-at
 array-share-prefix-at c =
-    let d : Device = c .before .before .before .before .before .before .before .args .d in
-    let s : List ℕ = c .before .before .before .before .before .before .before .args .s .now in
-    (prepared d s (c .before .before .before .before .before .check-in-order .result) (c .before .items-of .result .now) (c .count-in .result) (dataRange d) (c .before .before .before .before .before .check-in-order .ensures) (c .before .before .before .before .if1 .left) (c .before .items-of .ensures) (c .count-in .ensures) refl) .inside
+    let d : Device = c .before .before .before .before .before .before .before .before .before .args .d in
+    let s : List ℕ = c .before .before .before .before .before .before .before .before .before .args .s .now in
+    (prepared d s (c .before .before .before .before .before .before .before .check-in-order .result) (c .before .items-of .result .now) (c .count-in .result) (dataRange d) (c .before .before .before .before .before .before .before .check-in-order .ensures) (c .before .before .before .before .if1 .left) (c .before .items-of .ensures) (c .count-in .ensures) refl) .inside
 
 slice-aggregate-gap-at : tie.Need-slice-aggregate-gap-at
 slice-aggregate-gap-at c =
-    let d : Device = c .before .before .before .before .before .before .before .before .args .d in
-    let s : List ℕ = c .before .before .before .before .before .before .before .before .args .s .now in
-    (prepared d s (c .before .before .before .before .before .before .check-in-order .result) (c .before .before .items-of .result .now) (c .before .count-in .result) (dataRange d) (c .before .before .before .before .before .before .check-in-order .ensures) (c .before .before .before .before .before .if1 .left) (c .before .before .items-of .ensures) (c .before .count-in .ensures) refl) .exact
+    let d : Device = c .before .before .before .before .before .before .before .before .before .before .args .d in
+    let s : List ℕ = c .before .before .before .before .before .before .before .before .before .before .args .s .now in
+    (prepared d s (c .before .before .before .before .before .before .before .before .check-in-order .result) (c .before .before .items-of .result .now) (c .before .count-in .result) (dataRange d) (c .before .before .before .before .before .before .before .before .check-in-order .ensures) (c .before .before .before .before .before .if1 .left) (c .before .before .items-of .ensures) (c .before .count-in .ensures) refl) .exact
 
 data-range-requires : tie.Need-data-range-requires
 data-range-requires c κs = search needs
 
 gap-at-requires : tie.Need-gap-at-requires
 gap-at-requires c κs =
-    let d : Device = c .before .before .before .before .before .before .before .before .before .args .d in
-    let s : List ℕ = c .before .before .before .before .before .before .before .before .before .args .s .now in
-    (prepared d s (c .before .before .before .before .before .before .before .check-in-order .result) (c .before .before .before .items-of .result .now) (c .before .before .count-in .result) (c .data-range .result) (c .before .before .before .before .before .before .before .check-in-order .ensures) (c .before .before .before .before .before .before .if1 .left) (c .before .before .before .items-of .ensures) (c .before .before .count-in .ensures) (c .data-range .ensures)) .chain
+    let d : Device = c .before .before .before .before .before .before .before .before .before .before .before .args .d in
+    let s : List ℕ = c .before .before .before .before .before .before .before .before .before .before .before .args .s .now in
+    (prepared d s (c .before .before .before .before .before .before .before .before .before .check-in-order .result) (c .before .before .before .items-of .result .now) (c .before .before .count-in .result) (c .data-range .result) (c .before .before .before .before .before .before .before .before .before .check-in-order .ensures) (c .before .before .before .before .before .before .if1 .left) (c .before .before .before .items-of .ensures) (c .before .before .count-in .ensures) (c .data-range .ensures)) .chain
 
 returns-2 : tie.Need-returns-2
 returns-2 c =
-    let d : Device = c .before .before .before .before .before .before .before .before .before .before .args .d in
-    let s : List ℕ = c .before .before .before .before .before .before .before .before .before .before .args .s .now in
-    let k : ℕ = c .before .before .before .before .before .before .before .before .before .before .args .k in
-    let w : Prepared d s (c .before .before .before .before .before .before .before .before .check-in-order .result) (c .before .before .before .before .items-of .result .now) (c .before .before .before .count-in .result) (c .before .data-range .result) = prepared d s (c .before .before .before .before .before .before .before .before .check-in-order .result) (c .before .before .before .before .items-of .result .now) (c .before .before .before .count-in .result) (c .before .data-range .result) (c .before .before .before .before .before .before .before .before .check-in-order .ensures) (c .before .before .before .before .before .before .before .if1 .left) (c .before .before .before .before .items-of .ensures) (c .before .before .before .count-in .ensures) (c .before .data-range .ensures) in
+    let d : Device = c .before .before .before .before .before .before .before .before .before .before .before .before .args .d in
+    let s : List ℕ = c .before .before .before .before .before .before .before .before .before .before .before .before .args .s .now in
+    let k : ℕ = c .before .before .before .before .before .before .before .before .before .before .before .before .args .k in
+    let w : Prepared d s (c .before .before .before .before .before .before .before .before .before .before .check-in-order .result) (c .before .before .before .before .items-of .result .now) (c .before .before .before .count-in .result) (c .before .data-range .result) = prepared d s (c .before .before .before .before .before .before .before .before .before .before .check-in-order .result) (c .before .before .before .before .items-of .result .now) (c .before .before .before .count-in .result) (c .before .data-range .result) (c .before .before .before .before .before .before .before .before .before .before .check-in-order .ensures) (c .before .before .before .before .before .before .before .if1 .left) (c .before .before .before .before .items-of .ensures) (c .before .before .before .count-in .ensures) (c .before .data-range .ensures) in
     ap RunFound.At (c .gap-at .ensures ∙ ap (λ (z : List Run). runAt z k) (w .runs))
-    ∙ answer-yes (RunFound.At (runAt (runsIn d s) k)) RunFound.Refused 0 (first (recordTests d s)) (sym (w .zero)) refl
+    ∙ refuse-yes (RunFound.At (runAt (runsIn d s) k)) RunFound.Refused s 0 (first (recordTests d s)) (sym (w .zero)) refl
 
 pub run-at-spec : {M : Type 1} → statement M
 run-at-spec =

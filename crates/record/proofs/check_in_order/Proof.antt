@@ -1,10 +1,13 @@
 -- `record::check_in_order` meets its contract.
 use Rattle.record.proofs.Checking.{checked-no}
-use Rattle.record.proofs.Testing.{check-no, check-yes}
+use native.Mathlib.Omega.{arith}
+use Rattle.refusal.specs.Numbers.{segmentClash}
+use Rattle.layout.specs.Limits.{deviceTests}
+use Rattle.record.proofs.Testing.{device-below, check-no, check-yes}
 use Rattle.record.specs.Accept.{contentTests, checked}
 use Rattle.refusal.specs.Tests.{first}
 use mathlib.Core.List.{List, [], _++_}
-use Prim.Native.Nat.{ℕ}
+use Prim.Native.Nat.{ℕ, _<_}
 use mathlib.Core.Path.{_≡_, refl, ap, _∙_}
 use Rattle.layout.specs.declared.Device.{Device}
 use borrow.Author.Needs.{needs}
@@ -21,7 +24,9 @@ returns : tie.Need-returns
 returns c =
     let d : Device = c .before .before .before .before .args .d in
     let s : List ℕ = c .before .before .before .before .args .s .now in
-    checked-no (c .refused .result) (c .before .before .check .result) _ s (c .refused .ensures) (c .before .if1 .taken)
+    let l : first (deviceTests d) < segmentClash = device-below d in
+    let e : c .before .before .check .result ≡ first (deviceTests d) = c .before .before .check .ensures in
+    checked-no (c .refused .result) (c .before .before .check .result) _ s (c .refused .ensures) (λ z. omega arith) (c .before .if1 .taken)
     (check-no d (contentTests d s) (c .before .before .check .result) (c .before .before .check .ensures) (c .before .if1 .taken))
 
 content-in-order-requires : tie.Need-content-in-order-requires

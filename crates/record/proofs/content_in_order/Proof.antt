@@ -1,10 +1,12 @@
 -- `record::content_in_order` meets its contract, a test at a time.
-use Rattle.record.proofs.Checking.{checked-no, checked-yes, ordered-apart, tested}
+use Rattle.record.proofs.Checking.{checked-no, checked-clash, checked-yes, ordered-apart, tested}
 use Rattle.refusal.proofs.Order.{refused, passed, first-nil}
 use Rattle.record.specs.Accept.{allInRange, contentTests}
 use Rattle.items.specs.declared.Head.{Head}
 use Rattle.items.specs.Head.{headOf}
 use Rattle.items.specs.Items.{segmentsIn, segments}
+use Rattle.segments.specs.Clash.{apart}
+use Rattle.order.specs.declared.Order.{Order}
 use Rattle.order.specs.Ordering.{order}
 use mathlib.Core.List.{List, [], _++_}
 use Prim.Native.Nat.{ℕ}
@@ -25,7 +27,7 @@ returns : tie.Need-returns
 returns c =
     let d : Device = c .before .before .before .before .args .d in
     let s : List ℕ = c .before .before .before .before .args .s .now in
-    checked-no (c .refused .result) 15 _ s (c .refused .ensures) (omega arith)
+    checked-no (c .refused .result) 15 _ s (c .refused .ensures) (omega arith) (omega arith)
     (refused _ _ 15 _ (c .before .before .length-allowed .ensures) (c .before .if1 .taken))
 
 well-formed-requires : tie.Need-well-formed-requires
@@ -38,7 +40,7 @@ returns-2 : tie.Need-returns-2
 returns-2 c =
     let d : Device = c .before .before .before .before .before .before .args .d in
     let s : List ℕ = c .before .before .before .before .before .before .args .s .now in
-    checked-no (c .refused2 .result) 17 _ s (c .refused2 .ensures) (omega arith)
+    checked-no (c .refused2 .result) 17 _ s (c .refused2 .ensures) (omega arith) (omega arith)
     (passed _ _ 15 _ (c .before .before .before .before .length-allowed .ensures) (c .before .before .before .if1 .left) 17
     (refused _ _ 17 _ (c .before .before .well-formed .ensures) (c .before .if2 .taken)))
 
@@ -58,7 +60,7 @@ returns-3 : tie.Need-returns-3
 returns-3 c =
     let d : Device = c .before .before .before .before .before .before .before .before .before .before .args .d in
     let s : List ℕ = c .before .before .before .before .before .before .before .before .before .before .args .s .now in
-    checked-no (c .refused3 .result) 18 _ s (c .refused3 .ensures) (omega arith)
+    checked-no (c .refused3 .result) 18 _ s (c .refused3 .ensures) (omega arith) (omega arith)
     (passed _ _ 15 _ (c .before .before .before .before .before .before .before .before .length-allowed .ensures) (c .before .before .before .before .before .before .before .if1 .left) 18
     (passed _ _ 17 _ (c .before .before .before .before .before .before .well-formed .ensures) (c .before .before .before .before .before .if2 .left) 18
     (refused _ _ 18 _ (c .before .before .all-in-range .ensures ∙ (ap (λ (z : Head). allInRange d z (segmentsIn (c .before .before .before .before .items-of .result .now))) (c .before .before .before .head-of .ensures) ∙ ap (λ (z : List ℕ). allInRange d (headOf s) (segmentsIn z)) (c .before .before .before .before .items-of .ensures))) (c .before .if3 .taken))))
@@ -66,28 +68,35 @@ returns-3 c =
 order-of-requires : tie.Need-order-of-requires
 order-of-requires c κs = search needs
 
-refused-requires-4 : tie.Need-refused-requires-4
-refused-requires-4 c κs = search needs
+clashed-requires : tie.Need-clashed-requires
+clashed-requires c κs = search needs
 
 returns-4 : tie.Need-returns-4
 returns-4 c =
     let d : Device = c .before .before .before .before .before .before .before .before .before .before .before .before .before .args .d in
     let s : List ℕ = c .before .before .before .before .before .before .before .before .before .before .before .before .before .args .s .now in
-    checked-no (c .refused4 .result) 19 _ s (c .refused4 .ensures) (omega arith)
+    let o : Order = c .before .before .before .order-of .result in
+    let t : List ℕ = c .before .before .before .before .before .before .before .items-of .result .now in
+    let a : o .ordered ≡ apart (segments s) =
+    ordered-apart d s (c .before .before .before .before .before .before .before .items-of .result .now) (c .before .before .before .order-of .result) (tested _ _ (c .before .before .before .before .before .before .before .before .before .before .before .length-allowed .ensures) (c .before .before .before .before .before .before .before .before .before .before .if1 .left)) (tested _ _ (c .before .before .before .before .before .before .before .before .before .well-formed .ensures) (c .before .before .before .before .before .before .before .before .if2 .left)) (tested _ _ (c .before .before .before .before .before .all-in-range .ensures ∙ (ap (λ (z : Head). allInRange d z (segmentsIn (c .before .before .before .before .before .before .before .items-of .result .now))) (c .before .before .before .before .before .before .head-of .ensures) ∙ ap (λ (z : List ℕ). allInRange d (headOf s) (segmentsIn z)) (c .before .before .before .before .before .before .before .items-of .ensures))) (c .before .before .before .before .if3 .left)) (c .before .before .before .before .before .before .before .items-of .ensures) (c .before .before .before .order-of .ensures) in
+    checked-clash (c .clashed .result) o _ s t (c .clashed .ensures) (c .before .before .before .before .before .before .before .items-of .ensures) (c .before .before .before .order-of .ensures) a (c .before .if4 .taken)
     (passed _ _ 15 _ (c .before .before .before .before .before .before .before .before .before .before .before .length-allowed .ensures) (c .before .before .before .before .before .before .before .before .before .before .if1 .left) 19
     (passed _ _ 17 _ (c .before .before .before .before .before .before .before .before .before .well-formed .ensures) (c .before .before .before .before .before .before .before .before .if2 .left) 19
     (passed _ _ 18 _ (c .before .before .before .before .before .all-in-range .ensures ∙ (ap (λ (z : Head). allInRange d z (segmentsIn (c .before .before .before .before .before .before .before .items-of .result .now))) (c .before .before .before .before .before .before .head-of .ensures) ∙ ap (λ (z : List ℕ). allInRange d (headOf s) (segmentsIn z)) (c .before .before .before .before .before .before .before .items-of .ensures))) (c .before .before .before .before .if3 .left) 19
-    (refused _ _ 19 _ (ordered-apart d s (c .before .before .before .before .before .before .before .items-of .result .now) (c .before .before .before .order-of .result) (tested _ _ (c .before .before .before .before .before .before .before .before .before .before .before .length-allowed .ensures) (c .before .before .before .before .before .before .before .before .before .before .if1 .left)) (tested _ _ (c .before .before .before .before .before .before .before .before .before .well-formed .ensures) (c .before .before .before .before .before .before .before .before .if2 .left)) (tested _ _ (c .before .before .before .before .before .all-in-range .ensures ∙ (ap (λ (z : Head). allInRange d z (segmentsIn (c .before .before .before .before .before .before .before .items-of .result .now))) (c .before .before .before .before .before .before .head-of .ensures) ∙ ap (λ (z : List ℕ). allInRange d (headOf s) (segmentsIn z)) (c .before .before .before .before .before .before .before .items-of .ensures))) (c .before .before .before .before .if3 .left)) (c .before .before .before .before .before .before .before .items-of .ensures) (c .before .before .before .order-of .ensures)) (c .before .if4 .taken)))))
+    (refused _ _ 19 _ a (c .before .if4 .taken)))))
+
+plain-requires : tie.Need-plain-requires
+plain-requires c κs = search needs
 
 returns-5 : tie.Need-returns-5
 returns-5 c =
-    let d : Device = c .before .before .before .before .before .before .before .before .before .before .before .before .args .d in
-    let s : List ℕ = c .before .before .before .before .before .before .before .before .before .before .before .before .args .s .now in
-    checked-yes _ s (c .before .before .order-of .result) (c .before .before .order-of .ensures ∙ ap (λ (z : List ℕ). order (segmentsIn z)) (c .before .before .before .before .before .before .items-of .ensures))
-    (passed _ _ 15 _ (c .before .before .before .before .before .before .before .before .before .before .length-allowed .ensures) (c .before .before .before .before .before .before .before .before .before .if1 .left) 0
-    (passed _ _ 17 _ (c .before .before .before .before .before .before .before .before .well-formed .ensures) (c .before .before .before .before .before .before .before .if2 .left) 0
-    (passed _ _ 18 _ (c .before .before .before .before .all-in-range .ensures ∙ (ap (λ (z : Head). allInRange d z (segmentsIn (c .before .before .before .before .before .before .items-of .result .now))) (c .before .before .before .before .before .head-of .ensures) ∙ ap (λ (z : List ℕ). allInRange d (headOf s) (segmentsIn z)) (c .before .before .before .before .before .before .items-of .ensures))) (c .before .before .before .if3 .left) 0
-    (passed _ _ 19 _ (ordered-apart d s (c .before .before .before .before .before .before .items-of .result .now) (c .before .before .order-of .result) (tested _ _ (c .before .before .before .before .before .before .before .before .before .before .length-allowed .ensures) (c .before .before .before .before .before .before .before .before .before .if1 .left)) (tested _ _ (c .before .before .before .before .before .before .before .before .well-formed .ensures) (c .before .before .before .before .before .before .before .if2 .left)) (tested _ _ (c .before .before .before .before .all-in-range .ensures ∙ (ap (λ (z : Head). allInRange d z (segmentsIn (c .before .before .before .before .before .before .items-of .result .now))) (c .before .before .before .before .before .head-of .ensures) ∙ ap (λ (z : List ℕ). allInRange d (headOf s) (segmentsIn z)) (c .before .before .before .before .before .before .items-of .ensures))) (c .before .before .before .if3 .left)) (c .before .before .before .before .before .before .items-of .ensures) (c .before .before .order-of .ensures)) (c .if4 .left) 0 (sym first-nil)))))
+    let d : Device = c .before .before .before .before .before .before .before .before .before .before .before .before .before .args .d in
+    let s : List ℕ = c .before .before .before .before .before .before .before .before .before .before .before .before .before .args .s .now in
+    checked-yes _ s (c .plain .result) (c .before .before .before .order-of .result) (c .plain .ensures) (c .before .before .before .order-of .ensures ∙ ap (λ (z : List ℕ). order (segmentsIn z)) (c .before .before .before .before .before .before .before .items-of .ensures))
+    (passed _ _ 15 _ (c .before .before .before .before .before .before .before .before .before .before .before .length-allowed .ensures) (c .before .before .before .before .before .before .before .before .before .before .if1 .left) 0
+    (passed _ _ 17 _ (c .before .before .before .before .before .before .before .before .before .well-formed .ensures) (c .before .before .before .before .before .before .before .before .if2 .left) 0
+    (passed _ _ 18 _ (c .before .before .before .before .before .all-in-range .ensures ∙ (ap (λ (z : Head). allInRange d z (segmentsIn (c .before .before .before .before .before .before .before .items-of .result .now))) (c .before .before .before .before .before .before .head-of .ensures) ∙ ap (λ (z : List ℕ). allInRange d (headOf s) (segmentsIn z)) (c .before .before .before .before .before .before .before .items-of .ensures))) (c .before .before .before .before .if3 .left) 0
+    (passed _ _ 19 _ (ordered-apart d s (c .before .before .before .before .before .before .before .items-of .result .now) (c .before .before .before .order-of .result) (tested _ _ (c .before .before .before .before .before .before .before .before .before .before .before .length-allowed .ensures) (c .before .before .before .before .before .before .before .before .before .before .if1 .left)) (tested _ _ (c .before .before .before .before .before .before .before .before .before .well-formed .ensures) (c .before .before .before .before .before .before .before .before .if2 .left)) (tested _ _ (c .before .before .before .before .before .all-in-range .ensures ∙ (ap (λ (z : Head). allInRange d z (segmentsIn (c .before .before .before .before .before .before .before .items-of .result .now))) (c .before .before .before .before .before .before .head-of .ensures) ∙ ap (λ (z : List ℕ). allInRange d (headOf s) (segmentsIn z)) (c .before .before .before .before .before .before .before .items-of .ensures))) (c .before .before .before .before .if3 .left)) (c .before .before .before .before .before .before .before .items-of .ensures) (c .before .before .before .order-of .ensures)) (c .before .if4 .left) 0 (sym first-nil)))))
 
 pub content-in-order-spec : {M : Type 1} → statement M
 content-in-order-spec =
@@ -105,6 +114,7 @@ content-in-order-spec =
     refused-requires-3
     returns-3
     order-of-requires
-    refused-requires-4
+    clashed-requires
     returns-4
+    plain-requires
     returns-5)

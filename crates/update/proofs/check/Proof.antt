@@ -4,6 +4,7 @@ use mathlib.Core.Bool.{Bool}
 use Rattle.refusal.specs.Tests.{first}
 use Rattle.block.specs.declared.Time.{Time}
 use Rattle.discovery.specs.declared.Examined.{Examined}
+use Rattle.record.specs.Accept.{named}
 use Rattle.update.specs.Update.{testsAfter}
 use Rattle.update.proofs.Number.{number-refused, number-found}
 use borrow.Author.Needs.{needs}
@@ -25,14 +26,17 @@ time-at-requires c κs = search needs
 check-after-requires : tie.Need-check-after-requires
 check-after-requires c κs = search needs
 
+plain-requires : tie.Need-plain-requires
+plain-requires c κs = search needs
+
 returns : tie.Need-returns
-returns c = number-refused (c .before .before .before .before .before .before .before .args .f .now) (c .before .before .before .before .before .before .before .args .b .now) (c .before .before .before .before .before .before .before .args .t) (c .before .before .before .before .before .before .before .args .r .now) _ (ap (λ (v : Examined). v .answer) (c .before .before .before .examine .ensures)) _ (c .before .a .given .1)
+returns c = number-refused (c .before .before .before .before .before .before .before .before .args .f .now) (c .before .before .before .before .before .before .before .before .args .b .now) (c .before .before .before .before .before .before .before .before .args .t) (c .before .before .before .before .before .before .before .before .args .r .now) _ (ap (λ (v : Examined). v .answer) (c .before .before .before .before .examine .ensures)) _ _ (c .before .before .a .given .1) (c .plain .ensures)
 
 returns-2 : tie.Need-returns-2
 returns-2 c =
     number-found (c .before .before .before .before .before .before .before .before .before .before .args .f .now) (c .before .before .before .before .before .before .before .before .before .before .args .b .now) (c .before .before .before .before .before .before .before .before .before .before .args .t) (c .before .before .before .before .before .before .before .before .before .before .args .r .now) _ (ap (λ (v : Examined). v .answer) (c .before .before .before .before .before .before .examine .ensures)) _ _ (c .before .before .before .before .a2 .given .1) _
     (c .check-after .ensures
-    ∙ ap₂ (λ (s : Bool) (z : Time). first (testsAfter s (c .before .before .before .before .a2 .given .0 .0 .fields .device) z (c .before .before .before .before .before .before .before .before .before .before .args .t) (c .before .before .before .before .before .before .before .before .before .before .args .r .now)))
+    ∙ ap₂ (λ (s : Bool) (z : Time). named (first (testsAfter s (c .before .before .before .before .a2 .given .0 .0 .fields .device) z (c .before .before .before .before .before .before .before .before .before .before .args .t) (c .before .before .before .before .before .before .before .before .before .before .args .r .now))) (c .before .before .before .before .before .before .before .before .before .before .args .r .now))
     (ap (λ (v : Examined). v .step) (c .before .before .before .before .before .before .examine .ensures)) (c .before .time-at .ensures))
 
 pub check-spec : {M : Type 1} → statement M
@@ -41,6 +45,7 @@ check-spec =
     (tie.spec
     examine-requires
     enum-known-a
+    plain-requires
     enum-known-a-2
     time-at-requires
     check-after-requires

@@ -18,8 +18,11 @@ enum-known-a-2 c = search needs
 plan-found-requires : tie.Need-plan-found-requires
 plan-found-requires c κs = search needs
 
+plain-requires : tie.Need-plain-requires
+plain-requires c κs = search needs
+
 returns : tie.Need-returns
-returns c = plan-refused (c .before .before .before .before .before .before .before .args .f .now) (c .before .before .before .before .before .before .before .args .b .now) (c .before .before .before .before .before .before .before .args .t) (c .before .before .before .before .before .before .before .args .r .now) _ (sym (ap (λ (v : Examined). v .answer) (c .before .before .before .examine .ensures)) ∙ c .before .a .given .1)
+returns c = plan-refused (c .before .before .before .before .before .before .before .before .args .f .now) (c .before .before .before .before .before .before .before .before .args .b .now) (c .before .before .before .before .before .before .before .before .args .t) (c .before .before .before .before .before .before .before .before .args .r .now) _ _ (sym (ap (λ (v : Examined). v .answer) (c .before .before .before .before .examine .ensures)) ∙ c .before .before .a .given .1) (c .plain .ensures)
 
 returns-2 : tie.Need-returns-2
 returns-2 c =
@@ -30,4 +33,4 @@ returns-2 c =
 pub work-out-spec : {M : Type 1} → statement M
 work-out-spec =
     tie.close
-    (tie.spec examine-requires enum-known-a enum-known-a-2 plan-found-requires returns returns-2)
+    (tie.spec examine-requires enum-known-a plain-requires enum-known-a-2 plan-found-requires returns returns-2)

@@ -8,12 +8,11 @@ use std::hint::black_box;
 use std::time::Instant;
 
 use outside::ffi::Library;
-use outside::interface::{Answer, FreeRun, Interface};
+use outside::interface::{Answer, FreeRun, Interface, Refused};
 use outside::model::block::{Identity, Time};
 use outside::model::layout::{Device, COPY, RECORD_LIMIT, SECTOR};
 use outside::model::record::{Segment, MAX_SEGMENTS};
-use outside::model::refusal::Refusal;
-use outside::model::Model;
+use outside::model::{sweep, Model};
 use outside::rng::Rng;
 use outside::sample::copies::{copy, get_block, Area};
 use outside::sample::records::encode;
@@ -26,6 +25,7 @@ const DEVICE: Device = Device { sectors: 1 << 40, metadata: 16_384, reserved: 65
 fn main() {
     println!("Output buffers are zeroed once, before the first call, and not cleared between calls.");
     println!("Median of {ROUNDS} rounds, library and model in turn; the model is plain Rust.");
+    println!("Of a record refused with 19 the model's search sorts and sweeps; both name the pair.");
     println!();
     println!("{:48} {:>12} {:>12} {:>8}", "call", "library", "model", "ratio");
     let mut rng = Rng::new(1);
@@ -119,16 +119,30 @@ fn scattered(rng: &mut Rng, count: usize) -> Vec<u8> {
     encode(128, &scattered_segments(rng, count))
 }
 
-/// A record of scattered segments in which only the one at this position and the next share a sector.
-fn clashing(rng: &mut Rng, count: usize, position: usize) -> Vec<u8> {
+/// A record of scattered segments in which only those at these two positions share a sector.
+fn clashing(rng: &mut Rng, count: usize, (first, second): (usize, usize)) -> Vec<u8> {
     let mut segments = scattered_segments(rng, count);
-    let Segment { start, length, .. } = segments[position];
-    segments[position + 1] = Segment { kind: 2, start: start + length - 1, length: 100 };
+    let Segment { start, length, .. } = segments[first];
+    segments[second] = Segment { kind: 2, start: start + length - 1, length: 100 };
+    clashing_alone(&segments, (first, second))
+}
+
+/// A record of scattered segments in which the first, as long as one is, lies over the last and shares a sector with no other.
+fn covering(rng: &mut Rng, count: usize) -> Vec<u8> {
+    let mut segments = scattered_segments(rng, count);
+    segments[0].length = 9_000;
+    segments[count - 1] = Segment { kind: 2, start: segments[0].start + 4_000, length: 100 };
+    clashing_alone(&segments, (0, count - 1))
+}
+
+/// The record of segments of which only those at these two positions share a sector.
+fn clashing_alone(segments: &[Segment], clash: (usize, usize)) -> Vec<u8> {
+    let count = segments.len();
     let pairs = (0..count).flat_map(|i| (i + 1..count).map(move |j| (i, j)));
     let shares = |a: &Segment, b: &Segment| a.start < b.start + b.length && b.start < a.start + a.length;
     let found: Vec<(usize, usize)> = pairs.filter(|&(i, j)| shares(&segments[i], &segments[j])).collect();
-    assert_eq!(found, [(position, position + 1)]);
-    encode(128, &segments)
+    assert_eq!(found, [clash]);
+    encode(128, segments)
 }
 
 fn checksums(rng: &mut Rng) {
@@ -300,15 +314,29 @@ fn mend(rng: &mut Rng) {
     }
 }
 
+/// Beside the library a sort and a sweep that name the pair as well, since the model's two nested loops take the square of the segments.
 fn record_clash(rng: &mut Rng) {
-    let last = MAX_SEGMENTS - 2;
-    for (position, place) in [(last, "last two"), (last / 2, "middle two")] {
-        let record = clashing(rng, MAX_SEGMENTS, position);
-        row(&format!("record refused with 19, {place} of 409"), |api| {
-            let refused = black_box(api.record_check(DEVICE, black_box(&record)));
-            assert_eq!(refused.number, Refusal::SegmentClash.number());
-        });
+    let last = MAX_SEGMENTS - 1;
+    let middle = (last - 1) / 2;
+    for ((first, second), place) in [((last - 1, last), "last two"), ((middle, middle + 1), "middle two")] {
+        let record = clashing(rng, MAX_SEGMENTS, (first, second));
+        clash_row(&format!("record refused with 19, {place} of 409"), &record, (first, second));
     }
+    clash_row("record refused with 19, first over last of 409", &covering(rng, MAX_SEGMENTS), (0, last));
+}
+
+/// Both have to name this pair in every call.
+fn clash_row(name: &str, record: &[u8], (first, second): (usize, usize)) {
+    let pair = Refused { number: 19, first: first as u64, second: second as u64 };
+    let times = in_turn(2, |index| {
+        let record = black_box(record);
+        let refused = match index {
+            0 => Library.record_check(DEVICE, record),
+            _ => sweep::check(&DEVICE, record).map_or_else(Refused::from, |()| Refused::default()),
+        };
+        assert_eq!(black_box(refused), pair);
+    });
+    print_row(name, times[0], times[1]);
 }
 
 fn free_runs(rng: &mut Rng) {

@@ -15,9 +15,16 @@ pub struct Model;
 
 type Done<T> = Result<T, Refusal>;
 
+impl From<Refusal> for Refused {
+    fn from(refusal: Refusal) -> Self {
+        let [first, second] = refusal.beside();
+        Refused { number: refusal.number(), first, second }
+    }
+}
+
 /// The answer of a call, or its refusal with zero in every other field.
 fn answer<A: Refusable>(done: Done<A>) -> A {
-    done.unwrap_or_else(|refusal| A::refusal(refusal.number()))
+    done.unwrap_or_else(|refusal| A::refusing(refusal.into()))
 }
 
 fn refused(done: Done<()>) -> Refused {

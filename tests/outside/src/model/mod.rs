@@ -11,6 +11,7 @@ pub mod record;
 pub mod refusal;
 pub mod room;
 pub mod settled;
+pub mod sweep;
 pub mod update;
 
 mod calls;

@@ -2,7 +2,7 @@
 
 use super::block::{u32_at, u64_at};
 use super::layout::{Device, RECORD_LIMIT};
-use super::refusal::{require, Refusal};
+use super::refusal::{require, Clash, Refusal};
 
 pub const HEAD_BYTES: usize = 8;
 pub const HEAD_KIND: u16 = 16;
@@ -23,7 +23,14 @@ pub struct Span {
     pub end: u64,
 }
 
-/// The spans of a record's segments, ascending.
+impl Span {
+    /// The two share a sector. Neither is empty.
+    pub fn shares(&self, other: &Span) -> bool {
+        self.start < other.end && other.start < self.end
+    }
+}
+
+/// The spans of a record's segments.
 pub struct Spans {
     spans: [Span; MAX_SEGMENTS],
     count: usize,
@@ -33,6 +40,19 @@ impl Spans {
     pub fn as_slice(&self) -> &[Span] {
         &self.spans[..self.count]
     }
+}
+
+/// The pair that clashes, of spans in the order of their positions, as it is defined: the lowest position that clashes with a later
+/// one, and the lowest such later position.
+pub fn clash(spans: &[Span]) -> Option<Clash> {
+    for first in 0..spans.len() {
+        for second in first + 1..spans.len() {
+            if spans[first].shares(&spans[second]) {
+                return Some(Clash { first, second });
+            }
+        }
+    }
+    None
 }
 
 pub fn is_block_size(block_size: u32) -> bool {
@@ -138,18 +158,27 @@ impl<'a> Record<'a> {
         Some(Segment::read(&self.bytes[start..start + SEGMENT_BYTES]))
     }
 
-    /// 18, 19; otherwise the segments' spans.
-    pub fn spans(&self, device: &Device) -> Result<Spans, Refusal> {
+    /// 18; otherwise the segments' spans in the order of their positions.
+    pub fn places(&self, device: &Device) -> Result<Spans, Refusal> {
         let data = Span { start: device.data_start(), end: device.data_end() };
         let mut spans = [Span { start: 0, end: 0 }; MAX_SEGMENTS];
-        let count = self.count();
         for (segment, span) in self.segments().zip(&mut spans) {
             *span = segment.span(&data).ok_or(Refusal::SegmentPlace)?;
         }
-        spans[..count].sort_unstable();
-        let clash = spans[..count].windows(2).any(|pair| pair[1].start < pair[0].end);
-        require(!clash, Refusal::SegmentClash)?;
-        Ok(Spans { spans, count })
+        Ok(Spans { spans, count: self.count() })
+    }
+
+    /// 18, 19; otherwise the segments' spans, ascending. Whether two clash is seen in the sorted spans; which two, in those that are in the
+    /// order of their positions.
+    pub fn spans(&self, device: &Device) -> Result<Spans, Refusal> {
+        let mut spans = self.places(device)?;
+        let sorted = &mut spans.spans[..spans.count];
+        sorted.sort_unstable();
+        if sorted.windows(2).any(|pair| pair[1].start < pair[0].end) {
+            let clash = clash(self.places(device)?.as_slice()).expect("two segments share a sector");
+            return Err(Refusal::SegmentClash(clash));
+        }
+        Ok(spans)
     }
 }
 

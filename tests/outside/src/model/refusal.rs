@@ -1,36 +1,76 @@
-//! The refusal numbers.
+//! Refusals: their numbers, and what stands beside them.
+
+/// Two segments of a record that share a sector, by their positions, which count from 0.
+#[derive(Clone, Copy, Debug, PartialEq, Eq, PartialOrd, Ord)]
+pub struct Clash {
+    /// The lowest position that clashes with a later one.
+    pub first: usize,
+    /// The lowest such later position.
+    pub second: usize,
+}
 
 #[derive(Clone, Copy, Debug, PartialEq, Eq)]
-#[repr(u8)]
 pub enum Refusal {
-    SliceSize = 1,
-    Signature = 2,
-    BlockCrc = 3,
-    DeviceSize = 4,
-    NotZero = 5,
-    UuidByte = 6,
-    MetadataSize = 7,
-    ReservedSize = 8,
-    AreaEntry = 9,
-    NoBlock = 10,
-    Identity = 11,
-    NoRecord = 12,
-    TwoRecords = 13,
-    NotLater = 14,
-    RecordLength = 15,
-    NotInStep = 16,
-    RecordForm = 17,
-    SegmentPlace = 18,
-    SegmentClash = 19,
-    NoRoom = 20,
-    RecordFull = 21,
-    NoSegment = 22,
-    NoStore = 23,
+    SliceSize,
+    Signature,
+    BlockCrc,
+    DeviceSize,
+    NotZero,
+    UuidByte,
+    MetadataSize,
+    ReservedSize,
+    AreaEntry,
+    NoBlock,
+    Identity,
+    NoRecord,
+    TwoRecords,
+    NotLater,
+    RecordLength,
+    NotInStep,
+    RecordForm,
+    SegmentPlace,
+    SegmentClash(Clash),
+    NoRoom,
+    RecordFull,
+    NoSegment,
+    NoStore,
 }
 
 impl Refusal {
     pub fn number(self) -> u8 {
-        self as u8
+        match self {
+            Refusal::SliceSize => 1,
+            Refusal::Signature => 2,
+            Refusal::BlockCrc => 3,
+            Refusal::DeviceSize => 4,
+            Refusal::NotZero => 5,
+            Refusal::UuidByte => 6,
+            Refusal::MetadataSize => 7,
+            Refusal::ReservedSize => 8,
+            Refusal::AreaEntry => 9,
+            Refusal::NoBlock => 10,
+            Refusal::Identity => 11,
+            Refusal::NoRecord => 12,
+            Refusal::TwoRecords => 13,
+            Refusal::NotLater => 14,
+            Refusal::RecordLength => 15,
+            Refusal::NotInStep => 16,
+            Refusal::RecordForm => 17,
+            Refusal::SegmentPlace => 18,
+            Refusal::SegmentClash(_) => 19,
+            Refusal::NoRoom => 20,
+            Refusal::RecordFull => 21,
+            Refusal::NoSegment => 22,
+            Refusal::NoStore => 23,
+        }
+    }
+
+    /// What stands beside the number: the pair beside 19, zeros beside every other.
+    pub fn beside(self) -> [u64; 2] {
+        match self {
+            Refusal::SegmentClash(Clash { first, second }) => [first as u64, second as u64],
+            _ => [0, 0],
+        }
     }
 }
 

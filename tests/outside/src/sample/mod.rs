@@ -1,6 +1,7 @@
 //! Random inputs: devices, times, records and copies, valid and damaged.
 
 pub mod blocks;
+pub mod clashes;
 pub mod copies;
 pub mod numbers;
 pub mod records;

@@ -1,15 +1,10 @@
 -- `amseokbin::copies::amseokbin_format` meets its contract.
-use mathlib.Core.Path.{ap, _∙_}
-use Rattle.refusal.specs.Refusals.{plain}
 use borrow.Author.Needs.{needs}
 use Rattle.amseokbin.proofs.copies.amseokbin_format.Statement.{statement}
 use Rattle.amseokbin.proofs.copies.amseokbin_format.Tie as tie
 
 format-copies-requires : tie.Need-format-copies-requires
 format-copies-requires c κs = search needs
-
-plain-requires : tie.Need-plain-requires
-plain-requires c κs = search needs
 
 same-length : tie.Need-same-length
 same-length c = search needs
@@ -18,8 +13,8 @@ same-length-2 : tie.Need-same-length-2
 same-length-2 c = search needs
 
 returns : tie.Need-returns
-returns c = (c .plain .ensures ∙ ap plain (c .before .before .before .before .before .format-copies .ensures .0), (c .before .before .before .before .before .format-copies .ensures .1 .0, c .before .before .before .before .before .format-copies .ensures .1 .1))
+returns c = (c .before .before .before .before .format-copies .ensures .0, (c .before .before .before .before .format-copies .ensures .1 .0, c .before .before .before .before .format-copies .ensures .1 .1))
 
 pub amseokbin-format-spec : {M : Type 1} → statement M
 amseokbin-format-spec =
-    tie.close (tie.spec format-copies-requires plain-requires same-length same-length-2 returns)
+    tie.close (tie.spec format-copies-requires same-length same-length-2 returns)

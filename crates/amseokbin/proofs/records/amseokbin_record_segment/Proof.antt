@@ -17,14 +17,11 @@ plain-requires c κs = search needs
 enum-known-a-2 : tie.Need-enum-known-a-2
 enum-known-a-2 c = search needs
 
-plain-requires-2 : tie.Need-plain-requires-2
-plain-requires-2 c κs = search needs
-
 returns : tie.Need-returns
 returns c = _∙_ {b = segmentAnswer (c .before .before .before .before .read-segment .result)} (rw (c .before .before .a .given .1, c .plain .ensures)) (ap segmentAnswer (c .before .before .before .before .read-segment .ensures))
 
 returns-2 : tie.Need-returns-2
-returns-2 c = _∙_ {b = segmentAnswer (c .before .before .before .before .read-segment .result)} (rw (c .before .before .a2 .given .1, c .plain2 .ensures)) (ap segmentAnswer (c .before .before .before .before .read-segment .ensures))
+returns-2 c = _∙_ {b = segmentAnswer (c .before .before .before .read-segment .result)} (rw (c .before .a2 .given .1)) (ap segmentAnswer (c .before .before .before .read-segment .ensures))
 
 pub amseokbin-record-segment-spec : {M : Type 1} → statement M
 amseokbin-record-segment-spec =
@@ -34,6 +31,5 @@ amseokbin-record-segment-spec =
     enum-known-a
     plain-requires
     enum-known-a-2
-    plain-requires-2
     returns
     returns-2)

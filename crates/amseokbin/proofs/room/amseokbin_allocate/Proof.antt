@@ -17,9 +17,6 @@ plain-requires c κs = search needs
 enum-known-a-2 : tie.Need-enum-known-a-2
 enum-known-a-2 c = search needs
 
-plain-requires-2 : tie.Need-plain-requires-2
-plain-requires-2 c κs = search needs
-
 same-length : tie.Need-same-length
 same-length c = search needs
 
@@ -30,7 +27,7 @@ same-length-2 : tie.Need-same-length-2
 same-length-2 c = search needs
 
 returns-2 : tie.Need-returns-2
-returns-2 c = (_∙_ {b = allocationAnswer (c .before .before .before .before .before .before .allocate .result)} (rw (c .before .before .a2 .given .1, c .plain2 .ensures)) (ap allocationAnswer (c .before .before .before .before .before .before .allocate .ensures .0)), c .before .before .before .before .before .before .allocate .ensures .1)
+returns-2 c = (_∙_ {b = allocationAnswer (c .before .before .before .before .before .allocate .result)} (rw (c .before .a2 .given .1)) (ap allocationAnswer (c .before .before .before .before .before .allocate .ensures .0)), c .before .before .before .before .before .allocate .ensures .1)
 
 pub amseokbin-allocate-spec : {M : Type 1} → statement M
 amseokbin-allocate-spec =
@@ -40,7 +37,6 @@ amseokbin-allocate-spec =
     enum-known-a
     plain-requires
     enum-known-a-2
-    plain-requires-2
     same-length
     returns
     same-length-2

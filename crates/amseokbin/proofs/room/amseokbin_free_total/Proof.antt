@@ -17,14 +17,11 @@ plain-requires c κs = search needs
 enum-known-a-2 : tie.Need-enum-known-a-2
 enum-known-a-2 c = search needs
 
-plain-requires-2 : tie.Need-plain-requires-2
-plain-requires-2 c κs = search needs
-
 returns : tie.Need-returns
 returns c = _∙_ {b = totalAnswer (c .before .before .before .before .free-total .result)} (rw (c .before .before .a .given .1, c .plain .ensures)) (ap totalAnswer (c .before .before .before .before .free-total .ensures))
 
 returns-2 : tie.Need-returns-2
-returns-2 c = _∙_ {b = totalAnswer (c .before .before .before .before .free-total .result)} (rw (c .before .before .a2 .given .1, c .plain2 .ensures)) (ap totalAnswer (c .before .before .before .before .free-total .ensures))
+returns-2 c = _∙_ {b = totalAnswer (c .before .before .before .free-total .result)} (rw (c .before .a2 .given .1)) (ap totalAnswer (c .before .before .before .free-total .ensures))
 
 pub amseokbin-free-total-spec : {M : Type 1} → statement M
 amseokbin-free-total-spec =
@@ -34,6 +31,5 @@ amseokbin-free-total-spec =
     enum-known-a
     plain-requires
     enum-known-a-2
-    plain-requires-2
     returns
     returns-2)

@@ -1,6 +1,4 @@
 -- `amseokbin::updates::amseokbin_update_check` meets its contract.
-use mathlib.Core.Path.{ap, _∙_}
-use Rattle.refusal.specs.Refusals.{plain}
 use borrow.Author.Needs.{needs}
 use Rattle.amseokbin.proofs.updates.amseokbin_update_check.Statement.{statement}
 use Rattle.amseokbin.proofs.updates.amseokbin_update_check.Tie as tie
@@ -8,11 +6,8 @@ use Rattle.amseokbin.proofs.updates.amseokbin_update_check.Tie as tie
 check-requires : tie.Need-check-requires
 check-requires c κs = search needs
 
-plain-requires : tie.Need-plain-requires
-plain-requires c κs = search needs
-
 returns : tie.Need-returns
-returns c = c .plain .ensures ∙ ap plain (c .before .check .ensures)
+returns c = c .check .ensures
 
 pub amseokbin-update-check-spec : {M : Type 1} → statement M
-amseokbin-update-check-spec = tie.close (tie.spec check-requires plain-requires returns)
+amseokbin-update-check-spec = tie.close (tie.spec check-requires returns)

@@ -20,9 +20,6 @@ plan-of-requires c κs = search needs
 enum-known-a-2 : tie.Need-enum-known-a-2
 enum-known-a-2 c = search needs
 
-plain-requires-2 : tie.Need-plain-requires-2
-plain-requires-2 c κs = search needs
-
 no-plan-requires : tie.Need-no-plan-requires
 no-plan-requires c κs = search needs
 
@@ -30,7 +27,7 @@ returns : tie.Need-returns
 returns c = _∙_ {b = updateAnswer (c .before .before .before .before .before .work-out .result)} (rw (c .before .before .before .a .given .1, c .before .plain .ensures, c .plan-of .ensures)) (ap updateAnswer (c .before .before .before .before .before .work-out .ensures))
 
 returns-2 : tie.Need-returns-2
-returns-2 c = _∙_ {b = updateAnswer (c .before .before .before .before .before .work-out .result)} (rw (c .before .before .before .a2 .given .1, c .before .plain2 .ensures, c .no-plan .ensures)) (ap updateAnswer (c .before .before .before .before .before .work-out .ensures))
+returns-2 c = _∙_ {b = updateAnswer (c .before .before .before .before .work-out .result)} (rw (c .before .before .a2 .given .1, c .no-plan .ensures)) (ap updateAnswer (c .before .before .before .before .work-out .ensures))
 
 pub amseokbin-update-plan-spec : {M : Type 1} → statement M
 amseokbin-update-plan-spec =
@@ -41,7 +38,6 @@ amseokbin-update-plan-spec =
     plain-requires
     plan-of-requires
     enum-known-a-2
-    plain-requires-2
     no-plan-requires
     returns
     returns-2)

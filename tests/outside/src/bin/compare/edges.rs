@@ -5,17 +5,19 @@ use std::cell::RefCell;
 
 use outside::ffi::Library;
 use outside::guard::Guarded;
-use outside::interface::{Answer, FreeRun, Interface, SegmentFields, UUID};
-use outside::model::block::Block;
+use outside::interface::{Answer, Device, FreeRun, Interface, SegmentFields, Time, UUID};
+use outside::model::block::{Block, Identity};
 use outside::model::layout::{COPY, RECORD_LIMIT, SECTOR};
 use outside::model::settled::matters;
 use outside::model::Model;
 use outside::rng::Rng;
 use outside::sample::blocks::block;
+use outside::sample::clashes::SHAPES;
 use outside::sample::copies::{any_pair, in_step, payload};
 use outside::sample::numbers::{identity, later, time};
-use outside::sample::records::{any_record, record, segment_count};
+use outside::sample::records::{any_record, block_size, encode, record, segment_count};
 
+use crate::expected::CLASH;
 use crate::run::Run;
 
 /// The memory of all cases.
@@ -44,6 +46,27 @@ pub fn case(run: &mut Run, rng: &mut Rng, _: u64) {
             _ => records(&mut edge, rng),
         }
         run.reached("slices at the edge of forbidden memory");
+    });
+}
+
+/// Records whose segments clash, in every shape.
+pub fn clashes(run: &mut Run, rng: &mut Rng, number: u64) {
+    let (_, shape) = SHAPES[number as usize % SHAPES.len()];
+    let identity = identity(rng);
+    let (segments, _) = shape(rng, &identity.device);
+    let record = encode(block_size(rng), &segments);
+    ROOM.with_borrow_mut(|room| {
+        let mut edge = Edge { run, end: rng.coin(), room };
+        on_record(&mut edge, rng, identity.device, &record);
+        let (present, old) = (time(rng), payload(rng, &identity));
+        format_with(&mut edge, &identity, present, &record);
+        if let Some(time) = later(rng, present) {
+            let [front, back] = in_step(rng, &identity, present, &old);
+            update_with(&mut edge, rng, [&front, &back], time, &record);
+        }
+        if Model.record_check(identity.device, &record).number == CLASH {
+            run.reached("a clash in slices at the edge of forbidden memory");
+        }
     });
 }
 
@@ -203,20 +226,24 @@ fn updates(edge: &mut Edge, rng: &mut Rng) {
         return;
     };
     let record = any_record(rng, &identity.device);
-    edge.bytes("update_check", [&front, &back, &record], |api, [front, back, record]| {
+    update_with(edge, rng, [&front, &back], time, &record);
+}
+
+fn update_with(edge: &mut Edge, rng: &mut Rng, [front, back]: [&[u8]; 2], time: Time, record: &[u8]) {
+    edge.bytes("update_check", [front, back, record], |api, [front, back, record]| {
         api.update_check(front, back, time, record)
     });
-    edge.bytes("update_plan", [&front, &back, &record], |api, [front, back, record]| {
+    edge.bytes("update_plan", [front, back, record], |api, [front, back, record]| {
         api.update_plan(front, back, time, record)
     });
-    let answer = Model.update_plan(&front, &back, time, &record);
+    let answer = Model.update_plan(front, back, time, record);
     if answer.number() != 0 {
         return;
     }
     let plan = answer.plan;
     let count = Model.update_count(plan);
     for number in [0, rng.below(count), count / 2 - 1, count - 1, count] {
-        edge.bytes("update_store", [&front, &back, &record, &[7; SECTOR]], |api, [front, back, record, bytes]| {
+        edge.bytes("update_store", [front, back, record, &[7; SECTOR]], |api, [front, back, record, bytes]| {
             api.update_store(plan, front, back, record, number, bytes)
         });
     }
@@ -227,11 +254,7 @@ fn formats(edge: &mut Edge, rng: &mut Rng) {
     let (device, time) = (identity.device, time(rng));
     let count = segment_count(rng);
     let record = record(rng, &device, count);
-    let copy = [7; COPY];
-    let uuids: [&[u8; UUID]; 2] = [&identity.pool_uuid, &identity.device_uuid];
-    edge.bytes("format", [&copy, &copy, uuids[0], uuids[1], &record], |api, [front, back, pool, blockdev, record]| {
-        api.format(front, back, device, pool, blockdev, time, record)
-    });
+    format_with(edge, &identity, time, &record);
     let [front, back] = [rng.bytes(COPY), rng.bytes(COPY)];
     for number in [rng.below(80), 79, 80] {
         edge.bytes("format_store", [&front, &back, &[7; SECTOR]], |api, [front, back, bytes]| {
@@ -240,10 +263,22 @@ fn formats(edge: &mut Edge, rng: &mut Rng) {
     }
 }
 
+fn format_with(edge: &mut Edge, identity: &Identity, time: Time, record: &[u8]) {
+    let copy = [7; COPY];
+    let uuids: [&[u8; UUID]; 2] = [&identity.pool_uuid, &identity.device_uuid];
+    edge.bytes("format", [&copy, &copy, uuids[0], uuids[1], record], |api, [front, back, pool, blockdev, record]| {
+        api.format(front, back, identity.device, pool, blockdev, time, record)
+    });
+}
+
 fn records(edge: &mut Edge, rng: &mut Rng) {
     let device = identity(rng).device;
     let record = any_record(rng, &device);
-    let slice = [&record[..]];
+    on_record(edge, rng, device, &record);
+}
+
+fn on_record(edge: &mut Edge, rng: &mut Rng, device: Device, record: &[u8]) {
+    let slice = [record];
     let (position, sectors) = (rng.below(410), rng.next() >> rng.below(64));
     edge.bytes("record_check", slice, |api, [record]| api.record_check(device, record));
     edge.bytes("record_head", slice, |api, [record]| api.record_head(device, record));
@@ -256,18 +291,18 @@ fn records(edge: &mut Edge, rng: &mut Rng) {
     let left = (record.len().saturating_sub(8) / 20).saturating_sub(position as usize);
     let some = rng.index(left + 1);
     let right = 3 * rng.one_of(&[left, left, some, 0]);
-    edge.numbers("record_segments", &record, right, |api, record, table| {
+    edge.numbers("record_segments", record, right, |api, record, table| {
         api.record_segments(device, record, position, table)
     });
-    let runs = Model.run_count(device, &record).count as usize;
-    edge.runs("free_runs", &record, runs, |api, record, table| api.free_runs(device, record, table));
+    let runs = Model.run_count(device, record).count as usize;
+    edge.runs("free_runs", record, runs, |api, record, table| api.free_runs(device, record, table));
 
     let changed = vec![7; record.len() + 20];
-    edge.bytes("allocate", [&record, &changed], |api, [record, changed]| {
+    edge.bytes("allocate", [record, &changed], |api, [record, changed]| {
         api.allocate(device, record, 2, sectors, changed)
     });
     let changed = vec![7; record.len().saturating_sub(20)];
-    edge.bytes("release", [&record, &changed], |api, [record, changed]| api.release(device, record, position, changed));
+    edge.bytes("release", [record, &changed], |api, [record, changed]| api.release(device, record, position, changed));
     edge.bytes("record_begin", [&[7; 8]], |api, [record]| api.record_begin(record, 128));
     let mut buffer = vec![7; 28 + 20 * position as usize];
     Model.record_begin(&mut buffer, 128);

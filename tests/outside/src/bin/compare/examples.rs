@@ -1,9 +1,9 @@
 //! Published check values and the worked examples of the layout's rules, with what they must give.
 
 use outside::ffi::Library;
-use outside::interface::{Answer, Device, FreeRun, Interface, SegmentFields, Time, WORDS};
+use outside::interface::{Answer, Device, FreeRun, Interface, Refused, SegmentFields, Time, WORDS};
 use outside::model::layout::{COPY, SECTOR};
-use outside::model::record::Segment;
+use outside::model::record::{Segment, MAX_SEGMENTS};
 use outside::model::Model;
 use outside::rng::Rng;
 use outside::sample::records::encode;
@@ -28,6 +28,7 @@ pub fn case(run: &mut Run, _: &mut Rng, _: u64) {
         heads(api, &mut expect);
         segments(api, &mut expect);
         free_room(api, &mut expect);
+        clashes(api, &mut expect);
         stores(api, &mut expect);
         worked(api, &mut expect);
         unread(api, &mut expect);
@@ -43,9 +44,7 @@ fn check_values(api: &dyn Interface, expect: &mut Expect) {
     descending.reverse();
     // The read command of RFC 3720, appendix B.4: its bytes that are not zero.
     let mut read = [0; 48];
-    for (at, byte) in
-        [(0, 0x01), (1, 0xc0), (16, 0x14), (22, 0x04), (27, 0x14), (31, 0x18), (32, 0x28), (40, 0x02)]
-    {
+    for (at, byte) in [(0, 0x01), (1, 0xc0), (16, 0x14), (22, 0x04), (27, 0x14), (31, 0x18), (32, 0x28), (40, 0x02)] {
         read[at] = byte;
     }
     let published: [(&str, &[u8], u32); 8] = [
@@ -186,6 +185,105 @@ fn free_room(api: &dyn Interface, expect: &mut Expect) {
     let beside = record(&[(2_048, 100), (2_148, 1)]);
     expect("example 11, 19", api.record_check(DEVICE, &clash).number == 19);
     expect("example 11, accepted", api.record_check(DEVICE, &beside).number == 0);
+}
+
+/// What every call that takes a record and tests it refuses it with.
+fn refusals(api: &dyn Interface, record: &[u8]) -> [(&'static str, Refused); 14] {
+    let time = |seconds| Time { seconds, nanoseconds: 0 };
+    let (mut front, mut back) = (vec![0; COPY], vec![0; COPY]);
+    api.format(&mut front, &mut back, DEVICE, UUID, UUID, time(10), &RECORD);
+    let check = api.update_check(&front, &back, time(11), record);
+    let plan = api.update_plan(&front, &back, time(11), record).refusal;
+    let mut bytes = vec![0; record.len() + 20];
+    [
+        ("record_check", api.record_check(DEVICE, record)),
+        ("record_head", api.record_head(DEVICE, record).refusal),
+        ("record_segment", api.record_segment(DEVICE, record, 0).refusal),
+        ("record_segments", api.record_segments(DEVICE, record, 0, &mut [0; 3]).refusal),
+        ("free_total", api.free_total(DEVICE, record).refusal),
+        ("free_runs", api.free_runs(DEVICE, record, &mut [FreeRun::default(); MAX_SEGMENTS + 1]).refusal),
+        ("run_count", api.run_count(DEVICE, record).refusal),
+        ("run_at", api.run_at(DEVICE, record, 0).refusal),
+        ("first_fit", api.first_fit(DEVICE, record, 1).refusal),
+        ("allocate", api.allocate(DEVICE, record, 2, 1, &mut bytes).refusal),
+        ("release", api.release(DEVICE, record, 0, &mut bytes).refusal),
+        ("update_check", check),
+        ("update_plan", plan),
+        ("format", api.format(&mut front, &mut back, DEVICE, UUID, UUID, time(10), record)),
+    ]
+}
+
+/// The first sectors and the lengths of a record's segments.
+type Places<'a> = &'a [(u64, u64)];
+
+/// The two segments that clash: the lowest position that clashes with a later one, and the lowest such later position. The pairs were
+/// worked out by hand.
+fn clashes(api: &dyn Interface, expect: &mut Expect) {
+    let pair = |first, second| Refused { number: 19, first, second };
+    let none = Refused::numbered;
+    let few: &[(&str, Places, Refused)] = &[
+        ("example 11", &[(2_048, 100), (2_147, 1)], pair(0, 1)),
+        ("example 11, beside", &[(2_048, 100), (2_148, 1)], none(0)),
+        ("the first two", &[(2_048, 10), (2_057, 1), (3_000, 5)], pair(0, 1)),
+        ("the last two", &[(5_000, 1), (2_048, 10), (2_050, 2)], pair(1, 2)),
+        ("the earlier starts later", &[(2_100, 10), (2_095, 10)], pair(0, 1)),
+        ("the later lies in the earlier", &[(2_048, 100), (4_000, 1), (2_100, 1)], pair(0, 2)),
+        ("the earlier lies in the later", &[(2_100, 1), (4_000, 1), (2_048, 100)], pair(0, 2)),
+        ("two equal", &[(3_000, 5), (2_048, 10), (3_000, 5)], pair(0, 2)),
+        ("three equal", &[(2_048, 10), (3_000, 5), (3_000, 5), (3_000, 5)], pair(1, 2)),
+        ("one over several", &[(2_048, 1), (2_060, 1), (2_070, 1), (2_055, 100)], pair(1, 3)),
+        ("one over several, first", &[(2_055, 100), (2_048, 1), (2_070, 1), (2_060, 1)], pair(0, 2)),
+        ("one over all", &[(2_048, 1), (2_095_103, 1), (2_048, 2_093_056)], pair(0, 2)),
+        ("two pairs, one after the other", &[(9_000, 1), (2_048, 10), (2_050, 1), (5_000, 9), (5_001, 1)], pair(1, 2)),
+        ("two pairs in turn", &[(9_000, 1), (2_048, 10), (5_000, 10), (5_001, 1), (2_050, 1)], pair(1, 4)),
+        ("a pair inside a pair", &[(2_048, 100), (5_000, 10), (5_005, 1), (2_100, 1)], pair(0, 3)),
+        ("one with two later ones", &[(2_048, 100), (2_500, 1), (2_140, 9), (2_050, 1)], pair(0, 2)),
+        ("a chain from the left", &[(2_048, 10), (2_057, 10), (2_066, 10)], pair(0, 1)),
+        ("a chain, the ends first", &[(2_048, 10), (2_066, 10), (2_057, 10)], pair(0, 2)),
+        ("a chain, the right end first", &[(2_066, 10), (2_048, 10), (2_057, 10)], pair(0, 2)),
+        ("a row without gaps", &[(2_148, 10), (2_048, 100), (2_158, 1)], none(0)),
+        ("a row, one sector too long", &[(2_148, 10), (2_048, 100), (2_157, 1)], pair(0, 2)),
+        ("an empty segment after a clash", &[(2_048, 10), (2_048, 10), (3_000, 0)], none(18)),
+        ("an empty segment before a clash", &[(3_000, 0), (2_048, 10), (2_048, 10)], none(18)),
+        ("a segment before the data range", &[(2_048, 10), (2_048, 10), (2_047, 1)], none(18)),
+        ("a segment past the data range", &[(2_095_103, 2), (2_048, 10), (2_048, 10)], none(18)),
+    ];
+    let segment = |&(start, length): &(u64, u64)| Segment { kind: 2, start, length };
+    let mut holds = |name: &str, segments: &[Segment], refusal: Refused| {
+        for (call, answer) in refusals(api, &encode(128, segments)) {
+            // A call may have another number for a record without a clash, as an allocation has for one that is full.
+            let other = answer.number != 19 && answer == none(answer.number);
+            let same = if refusal.number == 0 { other } else { answer == refusal };
+            expect(&format!("{call} of {name}"), same);
+        }
+    };
+    for (name, places, refusal) in few {
+        holds(name, &places.iter().map(segment).collect::<Vec<_>>(), *refusal);
+    }
+
+    // 409 segments in a row; then some of them elsewhere.
+    let row: Vec<Segment> = (0..409).map(|i| segment(&(2_048 + 10 * i, 10))).collect();
+    let moved = |places: &[(usize, usize)]| {
+        let mut segments = row.clone();
+        for &(position, to) in places {
+            segments[position].start = row[to].start;
+        }
+        segments
+    };
+    holds("409 in a row", &row, none(0));
+    holds("the last two of 409", &moved(&[(408, 407)]), pair(407, 408));
+    holds("the first two of 409", &moved(&[(0, 1)]), pair(0, 1));
+    holds("the first and the last of 409", &moved(&[(0, 408)]), pair(0, 408));
+    holds("two far apart of 409", &moved(&[(300, 3)]), pair(3, 300));
+    holds("two past 255 of 409", &moved(&[(256, 391)]), pair(256, 391));
+    holds("several pairs of 409", &moved(&[(408, 200), (100, 150), (120, 407)]), pair(100, 150));
+    let more = [&row[..], &[segment(&(2_048, 1))]].concat();
+    holds("a clash of 410", &more, none(15));
+    let mut faults = moved(&[(10, 20)]);
+    faults[408].length = 0;
+    holds("a clash and an empty segment of 409", &faults, none(18));
+    faults[300].kind = 5;
+    holds("a clash, an empty segment and a kind not known of 409", &faults, none(17));
 }
 
 /// Examples 7 and 12, and the dump of the printed record.

@@ -46,6 +46,12 @@ pub const CALLS: &[(&str, &[u64])] = &[
     ("release", &[0, 1, 4, 7, 8, 15, 17, 18, 19, 22]),
 ];
 
+/// The number that names two segments.
+pub const CLASH: u8 = 19;
+
+/// How many different pairs each call that can give 19 has to name.
+pub const LEAST_PAIRS: usize = 1_000;
+
 /// Cases beside the answers.
 pub const LAST: &[&str] = &[
     "locate_blocks, as the places say",
@@ -129,4 +135,47 @@ pub const LAST: &[&str] = &[
     "a mend applied, store by store",
     "a mend with a last store applied, store by store",
     "slices at the edge of forbidden memory",
+    "a clash: the first two",
+    "a clash: the last two",
+    "a clash: the last two of 409",
+    "a clash: the first and the last of 409",
+    "a clash: any two of 409",
+    "a clash: several pairs",
+    "a clash: equal segments",
+    "a clash: one inside another, several deep",
+    "a clash: one over several",
+    "a clash: one over all the others",
+    "a clash: three in a chain",
+    "a clash: the earlier position starts later",
+    "a clash: the earlier position starts first",
+    "a clash: in a row without gaps, one sector too long",
+    "no clash: in a row without gaps",
+    "few segments in a narrow range",
+    "many segments in a range that is wide for them",
+    "a clash: a record of all of up to four segments in four sectors",
+    "no clash: a record of all of up to four segments in four sectors",
+    "a clash in slices at the edge of forbidden memory",
+    "a clash beside 4, 7 or 8",
+    "a clash beside 15",
+    "a clash beside 17, for a head or the length",
+    "a clash beside 17 and 18",
+    "a clash beside 18",
+    "format, a clash beside 6",
+    "format, a clash beside 9",
+    "update, a clash beside 1",
+    "update, a clash beside 9",
+    "update, a clash beside 14",
+    "update, a clash beside 16",
+    "record_segment, 19 before 22",
+    "record_segments, 19 before 1 for too little room",
+    "free_runs, 19 before 1 for too little room",
+    "first_fit, 19 before 18 for its own count",
+    "first_fit, 19 before 20",
+    "allocate, 19 before 17 for its own kind",
+    "allocate, 19 before 18 for its own count",
+    "allocate, 19 before 20",
+    "allocate, 19 before 21",
+    "allocate, 19 before 1 for too little room",
+    "release, 19 before 22",
+    "release, 19 before 1 for too little room",
 ];

@@ -8,6 +8,7 @@
 mod applying;
 mod blocks;
 mod checksums;
+mod clashes;
 mod copies;
 mod edges;
 mod examples;
@@ -49,6 +50,9 @@ const FAMILIES: &[Family] = &[
     ("walks", 1_000, walks::case),
     ("edges", 2_000, edges::case),
     ("words", words::CASES, words::case),
+    ("clashes", 6_800, clashes::case),
+    ("overlaps", clashes::OVERLAPS, clashes::overlaps),
+    ("clash-edges", 340, edges::clashes),
 ];
 
 fn main() {

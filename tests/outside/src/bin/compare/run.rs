@@ -1,15 +1,16 @@
 //! Makes one call to the library and to the independent implementation, and compares answers and all lent memory.
 
-use std::collections::BTreeMap;
+use std::collections::{BTreeMap, BTreeSet};
 use std::process::exit;
 
 use outside::ffi::Library;
-use outside::interface::{Answer, Interface};
+use outside::interface::{Answer, Interface, Refused};
 use outside::lent::{Item, Lent};
+use outside::model::record::MAX_SEGMENTS;
 use outside::model::Model;
 use outside::rng::Rng;
 
-use crate::expected::{CALLS, LAST};
+use crate::expected::{CALLS, CLASH, LAST, LEAST_PAIRS};
 
 const MOST_FAILURES: u64 = 10;
 
@@ -22,6 +23,8 @@ pub struct Run {
     calls: u64,
     failures: u64,
     answers: BTreeMap<(&'static str, u64), u64>,
+    /// The pairs that each call named beside 19.
+    pairs: BTreeMap<&'static str, BTreeSet<(u64, u64)>>,
 }
 
 /// What both implementations answered, and what they left in the lent memory.
@@ -41,8 +44,8 @@ impl<A: Answer, const B: usize, const N: usize> Outcome<A, B, N> {
 
 impl Run {
     pub fn new(seed: u64, single: bool) -> Self {
-        let answers = BTreeMap::new();
-        Run { seed, family: "", case: 0, single, calls: 0, failures: 0, answers }
+        let (answers, pairs) = (BTreeMap::new(), BTreeMap::new());
+        Run { seed, family: "", case: 0, single, calls: 0, failures: 0, answers, pairs }
     }
 
     pub fn begin(&mut self, family: &'static str, number: u64, case: u64) -> Rng {
@@ -62,7 +65,7 @@ impl Run {
     }
 
     /// Calls both with the same lent memory and compares everything: every field of the answers, and all that was lent. Of a
-    /// refusal every other field is zero, and nothing that was lent is changed.
+    /// refusal every other field is zero, and nothing that was lent is changed. A pair stands beside 19 and beside no other number.
     pub fn both<A: Answer, const B: usize, const N: usize>(
         &mut self,
         call: &'static str,
@@ -75,10 +78,12 @@ impl Run {
         let outcome = self.call(call, inputs, (bytes, numbers), f);
         self.same(call, inputs, "bytes", &outcome.library.0, &outcome.model.0);
         self.same(call, inputs, "numbers", &outcome.library.1, &outcome.model.1);
-        let number = outcome.answer.number();
-        let refused = A::refused(number as u8).filter(|_| number != 0);
-        if let Some(alone) = refused {
-            if outcome.answer != alone {
+        let refusal = outcome.answer.refused();
+        if let Some(refused) = refusal.filter(|refused| !is_beside(refused)) {
+            self.fail(call, inputs, &format!("a pair where there is none, or none where there is one: {refused:?}"));
+        }
+        if let Some(refused) = refusal.filter(|refused| refused.number != 0) {
+            if A::alone(refused) != Some(outcome.answer) {
                 let what = format!("refused, but another field is not zero: {:?}", outcome.answer);
                 self.fail(call, inputs, &what);
             }
@@ -112,6 +117,9 @@ impl Run {
             self.fail(call, inputs, &what);
         }
         self.count(call, expected.number());
+        if let Some(Refused { number: CLASH, first, second }) = expected.refused() {
+            self.pairs.entry(call).or_default().insert((first, second));
+        }
         Outcome { answer, expected, library, model }
     }
 
@@ -179,6 +187,9 @@ impl Run {
             let count = self.answers.get(&(*case, 1)).copied().unwrap_or(0);
             println!("{case}: {count}");
         }
+        for call in clashing() {
+            println!("{call}, different pairs beside 19: {}", self.pair_count(call));
+        }
         if !self.single {
             self.check_answers();
         }
@@ -186,6 +197,10 @@ impl Run {
         if self.failures > 0 {
             exit(1);
         }
+    }
+
+    fn pair_count(&self, call: &str) -> usize {
+        self.pairs.get(call).map_or(0, BTreeSet::len)
     }
 
     fn check_answers(&mut self) {
@@ -205,6 +220,26 @@ impl Run {
                 self.failures += 1;
             }
         }
+        for call in clashing() {
+            if self.pair_count(call) < LEAST_PAIRS {
+                println!("FAILED {call}: fewer than {LEAST_PAIRS} different pairs beside 19");
+                self.failures += 1;
+            }
+        }
+    }
+}
+
+/// The calls that can give 19.
+fn clashing() -> impl Iterator<Item = &'static str> {
+    CALLS.iter().filter(|(_, listed)| listed.contains(&u64::from(CLASH))).map(|(call, _)| *call)
+}
+
+/// What stands beside a number can stand there: two positions beside 19, the lower one first, and zeros beside every other.
+fn is_beside(refused: &Refused) -> bool {
+    let Refused { number, first, second } = *refused;
+    match number {
+        CLASH => first < second && second < MAX_SEGMENTS as u64,
+        _ => first == 0 && second == 0,
     }
 }
 
