@@ -59,8 +59,8 @@ FAR = 2 ** 64 - 1
 lines = []
 
 
-def say(value, name):
-    lines.append(f"{value:08x} {name}")
+def say(value, name, digits=8):
+    lines.append(f"{value:0{digits}x} {name}")
 
 
 def read(data, at, width):
@@ -78,13 +78,13 @@ def checksums():
 def numbers():
     for at in (0, 2, 9, 10, FAR):
         for width in (2, 4, 8):
-            say(read(TEN, at, width), f"{width} bytes read")
+            say(read(TEN, at, width), f"{width} bytes read", max(8, 2 * width))
     for at in (0, 6, 7, FAR):
         fits = at + 4 <= 10
         data = laid(bytes(10), [(at, number(0x04030201, 4))] if fits else [])
         say(0 if fits else 1, "answered")
-        say(read(data, 0, 8), "first 8 of 10 bytes after a write of 4")
-        say(read(data, 2, 8), "last 8 of 10 bytes after a write of 4")
+        say(read(data, 0, 8), "first 8 of 10 bytes after a write of 4", 16)
+        say(read(data, 2, 8), "last 8 of 10 bytes after a write of 4", 16)
 
 
 def main():

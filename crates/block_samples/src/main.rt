@@ -14,39 +14,48 @@ use block::Verdict;
 use layout::Device;
 use layout::DeviceMap;
 use layout::Located;
-use sampling::decimal;
-use sampling::hex;
 use sampling::number;
-use sampling::refused;
+use sampling::print;
+use sampling::refusal;
 use sampling::say;
+use sampling::short_hex;
+use text::Text;
 
 // The most bytes of a sample.
 const SAMPLE_LIMIT: usize = 4096;
 
+// Prints a refusal's number and ends the line.
+fn refused(n: u8) {
+    print(refusal(refusal::plain(n)));
+    say(b"\n");
+}
+
 // Prints a used entry: seconds.nanoseconds:bytes:checksum.
 fn holding(h: Holding) {
-    number(h.seconds);
+    print(number(h.seconds));
     say(b".");
-    decimal(h.nanoseconds as u64);
+    print(Text::new().decimal(h.nanoseconds as u64));
     say(b":");
-    decimal(h.bytes as u64);
+    print(Text::new().decimal(h.bytes as u64));
     say(b":");
-    hex(h.checksum as u64, 8);
+    print(short_hex(h.checksum));
 }
 
 // Prints an area entry.
 fn entry(e: Entry) {
     match e {
-        Entry::Unused => say(b" -"),
+        Entry::Unused => {
+            say(b" -");
+        }
         Entry::Used(h) => holding(h),
     }
 }
 
 // Prints the device's three numbers.
 fn device(d: Device) {
-    number(d.sectors);
-    number(d.metadata as u64);
-    number(d.reserved as u64);
+    print(number(d.sectors));
+    print(number(d.metadata as u64));
+    print(number(d.reserved as u64));
 }
 
 // Whether a block that is written from these fields, over bytes 0xEE, is s.
@@ -112,11 +121,11 @@ fn samples(s: &[u8])
 
 // Prints the first sectors of a copy's parts.
 fn copy(c: layout::CopyMap) {
-    number(c.header);
-    number(c.block);
-    number(c.a);
-    number(c.b);
-    number(c.reserved);
+    print(number(c.header));
+    print(number(c.block));
+    print(number(c.a));
+    print(number(c.b));
+    print(number(c.reserved));
 }
 
 // Prints both copies' places and the data range.
@@ -128,8 +137,8 @@ fn print_map(p: DeviceMap) {
     say(b" back");
     copy(back);
     say(b" data");
-    number(p.start);
-    number(p.end);
+    print(number(p.start));
+    print(number(p.end));
     say(b"\n");
 }
 
@@ -164,7 +173,7 @@ fn devices() {
 
 // Prints the line of a refusal number: the number and its words.
 fn words(n: u8) {
-    decimal(n as u64);
+    print(Text::new().decimal(n as u64));
     say(b" ");
     let w = refusal::words_of(n);
     let bytes = w.bytes;

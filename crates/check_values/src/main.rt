@@ -3,12 +3,15 @@
 // library. Assumes what `io` and `libc` do.
 ghost use mathlib.Core.Path.{_≡_};
 ghost use lib.ListN.{length};
-use sampling::hex;
+use sampling::long_hex;
+use sampling::print;
 use sampling::say;
+use sampling::short_hex;
+use text::Text;
 
-// Prints a value in eight digits, then a name and the line's end.
-fn line(value: u64, name: &[u8]) {
-    hex(value, 8);
+// Prints a value, then a name and the line's end.
+fn line(value: Text, name: &[u8]) {
+    print(value);
     say(b" ");
     say(name);
     say(b"\n");
@@ -16,7 +19,7 @@ fn line(value: u64, name: &[u8]) {
 
 // Prints the checksum of s.
 fn sum(s: &[u8], name: &[u8]) {
-    line(checksum::checksum(s) as u64, name);
+    line(short_hex(checksum::checksum(s)), name);
 }
 
 // 32 bytes that begin with first, each the one before it plus step.
@@ -37,7 +40,7 @@ fn cuts(s: &[u8], name: &[u8]) {
     let mut i = 0;
     while i <= s.len() {
         let first = checksum::checksum(&s[..i]);
-        line(checksum::continued(first, &s[i..]) as u64, name);
+        line(short_hex(checksum::continued(first, &s[i..])), name);
         i += 1;
     }
 }
@@ -67,24 +70,24 @@ fn checksums() {
 // Prints the numbers of 2, 4 and 8 bytes at `at` of ten bytes 0x01 to 0x0a.
 fn read(at: usize) {
     let s = b"\x01\x02\x03\x04\x05\x06\x07\x08\x09\x0a";
-    line(endian::read_u16(s, at) as u64, b"2 bytes read");
-    line(endian::read_u32(s, at) as u64, b"4 bytes read");
-    line(endian::read_u64(s, at), b"8 bytes read");
+    line(short_hex(endian::read_u16(s, at) as u32), b"2 bytes read");
+    line(short_hex(endian::read_u32(s, at)), b"4 bytes read");
+    line(long_hex(endian::read_u64(s, at)), b"8 bytes read");
 }
 
 // Prints what a write of 4 bytes at `at` of ten zeros answers, and the first and the last 8 of the ten afterwards.
 fn write(at: usize) {
     let mut s = [0u8; 10];
     line(
-        endian::write_u32(&mut s, at, 0x0403_0201) as u64,
+        short_hex(endian::write_u32(&mut s, at, 0x0403_0201) as u32),
         b"answered",
     );
     line(
-        endian::read_u64(&s, 0),
+        long_hex(endian::read_u64(&s, 0)),
         b"first 8 of 10 bytes after a write of 4",
     );
     line(
-        endian::read_u64(&s, 2),
+        long_hex(endian::read_u64(&s, 2)),
         b"last 8 of 10 bytes after a write of 4",
     );
 }

@@ -11,17 +11,18 @@ use dump_line::Written;
 use layout::Device;
 use refusal::Refusal;
 use sampling::beside;
-use sampling::decimal;
+use sampling::print;
 use sampling::say;
 use sampling::sum;
+use text::Text;
 
 // Prints the number, what stands beside it, the two checksums and the line.
-fn print(r: Refusal, f: &[u8], b: &[u8]) {
+fn print_line(r: Refusal, f: &[u8], b: &[u8]) {
     let n = r.number;
-    decimal(n as u64);
-    beside(r);
-    sum(f);
-    sum(b);
+    print(Text::new().decimal(n as u64));
+    print(beside(r));
+    print(sum(f));
+    print(sum(b));
     say(b" ");
     let mut line = [0u8; dump_line::LINE_BYTES];
     let w = dump_line::line(f, b, &mut line);
@@ -56,7 +57,7 @@ fn judge(f: &mut [u8], b: &mut [u8], s: &[u8], at: usize)
         t,
         endian::window(s, at + 34 + p + u, r),
     );
-    print(n, f, b);
+    print_line(n, f, b);
 }
 
 // The same with copies of n and m bytes, lent from f and b.

@@ -16,6 +16,7 @@ use layout::Side;
 use mend::Mending;
 use mend::Rewrite;
 use sampling::number;
+use sampling::print;
 use sampling::say;
 use sampling::sum;
 use stores::Given;
@@ -40,14 +41,16 @@ const NOWHERE: usize = 0xFFFF_FFFF_FFFF_FFFF;
 // Prints what there is to do.
 fn print_answer(m: Mending) {
     match m {
-        Mending::InStep => say(b"in step"),
+        Mending::InStep => {
+            say(b"in step");
+        }
         Mending::Needed(_) => {
             say(b"stores");
-            number(mend::count(m));
+            print(number(mend::count(m)));
         }
         Mending::Refused(n) => {
             say(b"refused");
-            number(n as u64);
+            print(number(n as u64));
         }
     }
     say(b"\n");
@@ -135,11 +138,11 @@ fn print_given(g: Given, d: Device) -> usize {
     match g {
         Given::Refused(n) => {
             say(b" refused");
-            number(n as u64);
+            print(number(n as u64));
             NOWHERE
         }
         Given::At(sector) => {
-            number(sector);
+            print(number(sector));
             let at = place(sector, d);
             if at == NOWHERE {
                 say(b" nowhere");
@@ -153,8 +156,8 @@ fn print_given(g: Given, d: Device) -> usize {
 // it to e.
 fn run_store(m: Mending, i: u64, d: Device, n: usize, k: usize, e: &mut [u8]) {
     say(b"store");
-    number(i);
-    number(mend::group(m, i) as u64);
+    print(number(i));
+    print(number(mend::group(m, i) as u64));
     let mut out = [0xEEu8; layout::SECTOR_BYTES];
     let g = mend::store(
         m,
@@ -165,7 +168,7 @@ fn run_store(m: Mending, i: u64, d: Device, n: usize, k: usize, e: &mut [u8]) {
     );
     let at = print_given(g, d);
     endian::put(e, at, &out);
-    sum(&out);
+    print(sum(&out));
     if mend::flush(m, i) {
         say(b" flush");
     }
@@ -203,8 +206,8 @@ fn print_copies(f: &[u8], b: &[u8]) {
     } else {
         say(b"copies not in step");
     }
-    sum(f);
-    sum(b);
+    print(sum(f));
+    print(sum(b));
     say(b"\n");
     print_answer(mend::work_out(f, b));
 }
@@ -251,11 +254,11 @@ fn samples(s: &[u8], d: &mut [u8])
 // Prints what store i of a mend is refused with where out is lent for it.
 fn lend(m: Mending, f: &[u8], b: &[u8], i: u64, out: &mut [u8]) {
     say(b"lent");
-    number(out.len() as u64);
+    print(number(out.len() as u64));
     say(b" for");
-    number(i);
+    print(number(i));
     print_given(mend::store(m, f, b, i, out), kept_device(m, f, b));
-    sum(out);
+    print(sum(out));
     say(b"\n");
 }
 

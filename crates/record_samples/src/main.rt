@@ -15,6 +15,7 @@ use refusal::Refusal;
 use sampling::beside;
 use sampling::number;
 use sampling::one;
+use sampling::print;
 use sampling::put_segment;
 use sampling::say;
 use sampling::two;
@@ -35,7 +36,7 @@ fn name(s: &[u8]) {
 // Prints a number in 16 digits after a blank.
 fn hex(n: u64) {
     say(b" ");
-    sampling::hex(n, 16);
+    print(sampling::long_hex(n));
 }
 
 // Ends a line.
@@ -46,7 +47,7 @@ fn end() {
 // Prints a refusal and ends the line.
 fn refused(r: Refusal) {
     say(b" ");
-    sampling::refusal(r);
+    print(sampling::refusal(r));
     end();
 }
 
@@ -64,8 +65,8 @@ fn check_on(what: &[u8], d: Device, s: &[u8]) {
     name(what);
     let r = record::check(d, s);
     let n = r.number;
-    number(n as u64);
-    beside(r);
+    print(number(n as u64));
+    print(beside(r));
     end();
 }
 
@@ -80,7 +81,7 @@ fn head(s: &[u8]) {
     match record::read_head(device(), s) {
         Heading::Of(h) => {
             let size = items::block_size(h);
-            number(size as u64);
+            print(number(size as u64));
             end();
         }
         Heading::Refused(n) => refused(n),
@@ -92,7 +93,7 @@ fn count(s: &[u8]) {
     name(b"segments");
     match record::read_count(device(), s) {
         Counted::Segments(n) => {
-            number(n as u64);
+            print(number(n as u64));
             end();
         }
         Counted::Refused(n) => refused(n),
@@ -102,13 +103,13 @@ fn count(s: &[u8]) {
 // Prints the segment at a position: kind, start, sectors.
 fn segment(s: &[u8], position: usize) {
     name(b"segment");
-    number(position as u64);
+    print(number(position as u64));
     match record::read_segment(device(), s, position) {
         Found::At(g) => {
             let kind = g.kind;
-            number(kind as u64);
-            number(g.start);
-            number(g.sectors);
+            print(number(kind as u64));
+            print(number(g.start));
+            print(number(g.sectors));
             end();
         }
         Found::Refused(n) => refused(n),
@@ -119,8 +120,8 @@ fn segment(s: &[u8], position: usize) {
 fn run(r: RunFound) {
     match r {
         RunFound::At(x) => {
-            number(x.start);
-            number(x.sectors);
+            print(number(x.start));
+            print(number(x.sectors));
             end();
         }
         RunFound::Refused(n) => refused(n),
@@ -130,7 +131,7 @@ fn run(r: RunFound) {
 // Prints run number k.
 fn run_at(s: &[u8], k: u64) {
     name(b"run");
-    number(k);
+    print(number(k));
     run(allocation::run_at(device(), s, k));
 }
 
@@ -139,7 +140,7 @@ fn free(s: &[u8]) {
     name(b"free runs");
     match allocation::count_runs(device(), s) {
         RunCount::Runs(n) => {
-            number(n);
+            print(number(n));
             end();
         }
         RunCount::Refused(n) => refused(n),
@@ -147,7 +148,7 @@ fn free(s: &[u8]) {
     name(b"free total");
     match allocation::free_total(device(), s) {
         FreeTotal::Sectors(n) => {
-            number(n);
+            print(number(n));
             end();
         }
         FreeTotal::Refused(n) => refused(n),
@@ -157,7 +158,7 @@ fn free(s: &[u8]) {
 // Prints the first run for m sectors.
 fn fit(s: &[u8], m: u64) {
     name(b"first fit for");
-    number(m);
+    print(number(m));
     run(allocation::first_fit(device(), s, m));
 }
 
@@ -166,8 +167,8 @@ fn allocated(a: Allocation) {
     name(b"allocated");
     match a {
         Allocation::Placed(start, len) => {
-            number(start);
-            number(len as u64);
+            print(number(start));
+            print(number(len as u64));
             end();
         }
         Allocation::Refused(n) => refused(n),
@@ -179,7 +180,7 @@ fn released(a: Released) {
     name(b"released");
     match a {
         Released::Length(len) => {
-            number(len as u64);
+            print(number(len as u64));
             end();
         }
         Released::Refused(n) => refused(n),
@@ -259,7 +260,7 @@ fn refuse(s: &[u8], kind: u16, m: u64) {
     let mut out = [7u8; 70];
     allocated(allocation::allocate(device(), s, kind, m, &mut out));
     name(b"two bytes left");
-    number(endian::read_u16(&out, 0) as u64);
+    print(number(endian::read_u16(&out, 0) as u64));
     end();
 }
 
@@ -281,15 +282,15 @@ fn refuse_release(s: &[u8]) {
 fn heads() {
     let mut out = [0u8; 8];
     name(b"begin with 64");
-    number(items::begin(&mut out, Head::Plain(64)) as u64);
+    print(number(items::begin(&mut out, Head::Plain(64)) as u64));
     end();
     let mut more = [0u8; 8];
     name(b"begin with 2097280");
-    number(items::begin(&mut more, Head::Plain(2097280)) as u64);
+    print(number(items::begin(&mut more, Head::Plain(2097280)) as u64));
     end();
     let mut small = [0u8; 7];
     name(b"begin in 7 bytes");
-    number(items::begin(&mut small, Head::Plain(128)) as u64);
+    print(number(items::begin(&mut small, Head::Plain(128)) as u64));
     end();
 }
 
@@ -422,27 +423,34 @@ fn last_two() {
     );
 }
 
+// Prints how many segments a table took; 100 and the number, with what stands beside it, where that is refused.
+fn taken(a: Counted) {
+    match a {
+        Counted::Segments(n) => {
+            print(number(n as u64));
+        }
+        Counted::Refused(r) => {
+            let k = r.number;
+            print(number(k as u64 + 100));
+            print(beside(r));
+        }
+    }
+}
+
 // Prints how many segments from a position on a table of seven numbers takes, and the table.
 fn handed(s: &[u8], position: usize) {
     let mut t = [9u64; 7];
     let a = record::read_segments(device(), s, position, &mut t);
     name(b"segments from");
-    number(position as u64);
-    match a {
-        Counted::Segments(n) => number(n as u64),
-        Counted::Refused(r) => {
-            let k = r.number;
-            number(k as u64 + 100);
-            beside(r);
-        }
-    }
-    number(t[0]);
-    number(t[1]);
-    number(t[2]);
-    number(t[3]);
-    number(t[4]);
-    number(t[5]);
-    number(t[6]);
+    print(number(position as u64));
+    taken(a);
+    print(number(t[0]));
+    print(number(t[1]));
+    print(number(t[2]));
+    print(number(t[3]));
+    print(number(t[4]));
+    print(number(t[5]));
+    print(number(t[6]));
     end();
 }
 
@@ -451,21 +459,14 @@ fn handed_none(s: &[u8], position: usize) {
     let mut t = [9u64; 2];
     let a = record::read_segments(device(), s, position, &mut t);
     name(b"no room from");
-    number(position as u64);
-    match a {
-        Counted::Segments(n) => number(n as u64),
-        Counted::Refused(r) => {
-            let k = r.number;
-            number(k as u64 + 100);
-            beside(r);
-        }
-    }
-    number(t[0]);
-    number(t[1]);
+    print(number(position as u64));
+    taken(a);
+    print(number(t[0]));
+    print(number(t[1]));
     end();
 }
 
-// Segments from a position on; 100 and the number where that is refused.
+// Segments from a position on.
 fn handing() {
     let s = two(2048, 100, 3000, 50);
     handed(&s, 0);

@@ -6,6 +6,7 @@ use items::Head;
 use runs::Run;
 use sampling::number;
 use sampling::one;
+use sampling::print;
 use sampling::put_segment;
 use sampling::refusal;
 use sampling::say;
@@ -34,17 +35,19 @@ fn fill(sectors: u64, metadata: u32, reserved: u32, s: &[u8], table: [Run; 3]) -
 
 // Prints a run's start and sectors.
 fn run(r: Run) {
-    number(r.start);
-    number(r.sectors);
+    print(number(r.start));
+    print(number(r.sectors));
 }
 
 // Prints what was answered.
 fn answer(a: RunCount) {
     match a {
-        RunCount::Runs(n) => number(n),
+        RunCount::Runs(n) => {
+            print(number(n));
+        }
         RunCount::Refused(n) => {
             say(b" ");
-            refusal(n);
+            print(refusal(n));
         }
     }
 }

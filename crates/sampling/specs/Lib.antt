@@ -1,2 +1,3 @@
 -- What the contracts of `sampling` cite.
 pub mod Laying
+pub mod Pieces

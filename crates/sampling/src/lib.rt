@@ -1,15 +1,15 @@
-// What the sample programs share: their input, patches and segments laid into bytes, and printing. Every call is total. What is read
-// and printed passes through system calls, of which no contract can speak. Assumes what `io` and `libc` do.
-mod print;
+// What the sample programs share: their input, patches and segments laid into bytes, pieces of lines, and printing. Every call is total. What is
+// read and printed passes through system calls, of which no contract can speak. Assumes what `io` and `libc` do.
+mod lines;
 
-pub use print::beside;
-pub use print::decimal;
-pub use print::hex;
-pub use print::number;
-pub use print::refusal;
-pub use print::refused;
-pub use print::say;
-pub use print::sum;
+pub use lines::beside;
+pub use lines::long_hex;
+pub use lines::number;
+pub use lines::print;
+pub use lines::refusal;
+pub use lines::say;
+pub use lines::short_hex;
+pub use lines::sum;
 ghost use mathlib.Core.Path.{_≡_};
 ghost use mathlib.Core.List.{[], _∷_};
 ghost use Prim.Native.Nat.{_≤_};

@@ -12,8 +12,8 @@ ghost use Rattle.sampling.specs.Laying.{inputBytes};
 use block::Time;
 use layout::Area;
 use sampling::number;
+use sampling::print;
 use sampling::refusal;
-use sampling::refused;
 use sampling::say;
 use sampling::sum;
 use stores::Given;
@@ -28,13 +28,16 @@ fn print_store(p: Plan, f: &[u8], b: &[u8], r: &[u8], i: u64) {
     let mut out = [0xEEu8; layout::SECTOR_BYTES];
     let g = update::store(p, f, b, r, i, &mut out);
     match g {
-        Given::Refused(n) => refused(n),
+        Given::Refused(n) => {
+            print(refusal(refusal::plain(n)));
+            say(b"\n");
+        }
         Given::At(sector) => {
             say(b"store");
-            number(i);
-            number(update::group(p, i) as u64);
-            number(sector);
-            sum(&out);
+            print(number(i));
+            print(number(update::group(p, i) as u64));
+            print(number(sector));
+            print(sum(&out));
             say(b"\n");
         }
     }
@@ -43,7 +46,7 @@ fn print_store(p: Plan, f: &[u8], b: &[u8], r: &[u8], i: u64) {
 // Prints how many stores there are.
 fn print_count(n: u64) {
     say(b"stores");
-    number(n);
+    print(number(n));
     say(b"\n");
 }
 
@@ -76,7 +79,7 @@ fn judge(f: &[u8], b: &[u8], t: Time, r: &[u8]) {
     let p = update::work_out(f, b, t, r);
     match p {
         Planned::Refused(n) => {
-            refusal(n);
+            print(refusal(n));
             say(b"\n");
         }
         Planned::Plan(q) => {
@@ -122,8 +125,8 @@ fn samples(s: &[u8]) -> usize
 // Prints what the laying of a record answers, and the checksum of the copy.
 fn print_laid(n: u8, c: &[u8]) {
     say(b"laid");
-    number(n as u64);
-    sum(c);
+    print(number(n as u64));
+    print(sum(c));
     say(b"\n");
 }
 

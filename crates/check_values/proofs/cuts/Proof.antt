@@ -34,8 +34,8 @@ part-continued-end c = search needs
 continued-requires : tie.Need-continued-requires Inv-loop μ-loop
 continued-requires c κs = search needs
 
-cast-line : tie.Need-cast-line Inv-loop μ-loop
-cast-line c = search needs
+short-hex-requires : tie.Need-short-hex-requires Inv-loop μ-loop
+short-hex-requires c κs = search needs
 
 line-requires : tie.Need-line-requires Inv-loop μ-loop
 line-requires c κs = search needs
@@ -65,7 +65,7 @@ cuts-spec =
     part-continued-start
     part-continued-end
     continued-requires
-    cast-line
+    short-hex-requires
     line-requires
     add-i
     loop-less

@@ -1,0 +1,33 @@
+-- `sampling::add_hex` meets its contract.
+use Prim.Native.Nat.{ℕ}
+use mathlib.Core.Path.{_≡_, ap, _∙_}
+use native.Mathlib.Omega.{arith}
+use Rattle.text.specs.Text.{text, added}
+use Rattle.sampling.proofs.Pieces.{hex-is}
+use borrow.Author.Needs.{needs}
+use Rattle.sampling.proofs.lines.add_hex.Statement.{statement}
+use Rattle.sampling.proofs.lines.add_hex.Tie as tie
+
+hex-requires : tie.Need-hex-requires
+hex-requires c κs = search needs
+
+array-share-prefix-out : tie.Need-array-share-prefix-out
+array-share-prefix-out c = search needs
+
+slice-aggregate-add : tie.Need-slice-aggregate-add
+slice-aggregate-add c = search needs
+
+add-requires : tie.Need-add-requires
+add-requires c κs = search needs
+
+returns : tie.Need-returns
+returns c =
+    let n : ℕ = c .before .before .before .before .args .n in
+    c .add .ensures
+    ∙ ap (added (text (c .before .before .before .before .args .t)))
+    (hex-is 8 n _ _ (omega arith) (c .before .before .hex .ensures .1 .0) (c .before .before .hex .ensures .1 .1))
+
+pub add-hex-spec : {M : Type 1} → statement M
+add-hex-spec =
+    tie.close
+    (tie.spec hex-requires array-share-prefix-out slice-aggregate-add add-requires returns)
