@@ -8,9 +8,9 @@ use native.Mathlib.Omega.{arith}
 use borrow.Author.Tests.{eq-eqb}
 use lib.Dec.{eqb, lit≤}
 use native.Mathlib.Decide.{ℕ-discrete}
-use lib.ListN.{length}
+use lib.ListN.{length, drop}
 use Rattle.refusal.specs.Tests.{Test, first, Fails, AllHold}
-use Rattle.refusal.proofs.Order.{first-zero, first-all, first-lowest}
+use Rattle.refusal.proofs.Order.{first-zero, first-all, first-lowest, fails-above}
 use Rattle.endian.proofs.Parts.{length-window-fits}
 use Rattle.endian.proofs.Tests.{and-both}
 use Rattle.block.specs.declared.BlockFields.{BlockFields}
@@ -20,7 +20,7 @@ use Rattle.block.specs.Block.{poolOf, blockdevOf, fieldsOf, readTests, r
 use Rattle.block.specs.Writing.{writeTests}
 use Rattle.block.specs.Entry.{laterThan}
 use Rattle.block.proofs.Times.{Before, NotAfter, later-facts, not-later-facts}
-use Rattle.block.specs.Demand.{Exactly, Applies, Lowest, WriteAfterRead, ReadAfterWrite, nanosecondsIn, Later}
+use Rattle.block.specs.Demand.{Exactly, Applies, NoneApplies, Lowest, WriteAfterRead, ReadAfterWrite, nanosecondsIn, Later}
 use Rattle.block.proofs.Readings.{refused-reading, accepted-reading, ascending}
 use Rattle.block.proofs.Exactly.{obeys, no-refusal}
 use Rattle.block.proofs.Applying.{fails-applies, applies-fails}
@@ -55,6 +55,26 @@ pub exactly : Exactly
 exactly b = (
   λ a. sym (accepted-reading b (no-refusal b a)),
   λ f e. elim (ℕ-discrete (first (readTests b)) 0) [ yes z ↦ obeys b z | no h ↦ absurd (not-accepted b f h e) ],
+)
+
+-- a test of 512 bytes that fails is one of 2 to 9
+past-size : (b : List ℕ) (n : ℕ) → length b ≡ 512 → Fails (readTests b) n → 2 ≤ n
+past-size b n s (inl f) = absurd (true≢false (sym (eq-eqb (length b) 512 s) ∙ f .0))
+past-size b n s (inr f) = fails-above 1 (drop 1 (readTests b)) (ascending b .1) n f
+
+pub none-applies : NoneApplies
+none-applies b = (
+  λ a. (
+    a .size,
+    λ n l c. some-fails (readTests b) n (applies-fails b n c) (first-zero 0 (readTests b) (ascending b) (no-refusal b a)),
+  ),
+  λ h. elim (ℕ-discrete (first (readTests b)) 0) [
+    | yes z ↦ obeys b z
+    | no o ↦
+        let l : 0 < first (readTests b) = omega arith in
+        let f : Fails (readTests b) (first (readTests b)) = first-lowest 0 (readTests b) (ascending b) l .0 in
+        absurd (h .1 (first (readTests b)) (past-size b (first (readTests b)) (h .0) f) (fails-applies b (first (readTests b)) f))
+  ],
 )
 
 -- the first test that fails has the lowest number whose condition holds

@@ -107,16 +107,36 @@ pub zero-test : (s : List ℕ) (n : ℕ) → s ≡ zeros n → allZero s ≡ tru
 unfolding allZero
 zero-test s n e = ap (allPass (λ (x : ℕ). eqb x 0)) e ∙ zeros-all n
 
+-- the test of all four fields, and that of each
+module _ (b : List ℕ) where
+  abbrev flags : Bool
+  flags = allZero (window b 28 4)
+
+  abbrev after-a : Bool
+  after-a = allZero (window b 116 12)
+
+  abbrev after-b : Bool
+  after-b = allZero (window b 148 12)
+
+  abbrev trailing : Bool
+  trailing = allZero (window b 168 344)
+
+  pub fields-each : zeroFields b ≡ true → (flags ≡ true) × (after-a ≡ true) × (after-b ≡ true) × (trailing ≡ true)
+  fields-each z =
+      let y : after-a && (after-b && trailing) ≡ true = and-right flags (after-a && (after-b && trailing)) z in
+      let x : after-b && trailing ≡ true = and-right after-a (after-b && trailing) y in
+      (and-left flags (after-a && (after-b && trailing)) z, and-left after-a (after-b && trailing) y, and-left after-b trailing x, and-right after-b trailing x)
+
+  pub each-fields : flags ≡ true → after-a ≡ true → after-b ≡ true → trailing ≡ true → zeroFields b ≡ true
+  each-fields f x y z =
+      and-both flags (after-a && (after-b && trailing)) f (and-both after-a (after-b && trailing) x (and-both after-b trailing y z))
+
 -- a block that no test refuses obeys the table and the limits
 pub obeys : (b : List ℕ) → first (readTests b) ≡ 0 → Accepted b
 obeys b e =
     let t : AllHold (readTests b) = first-zero 0 (readTests b) (ascending b) e in
     let n : length b ≡ 512 = eqb-true (length b) 512 (t .0) in
-    let z : zeroFields b ≡ true = t .1 .1 .1 .1 .0 in
-    let z2 : allZero (window b 116 12) && (allZero (window b 148 12) && allZero (window b 168 344)) ≡ true =
-    and-right (allZero (window b 28 4)) (allZero (window b 116 12) && (allZero (window b 148 12) && allZero (window b 168 344))) z in
-    let z3 : allZero (window b 148 12) && allZero (window b 168 344) ≡ true =
-    and-right (allZero (window b 116 12)) (allZero (window b 148 12) && allZero (window b 168 344)) z2 in
+    let z : (flags b ≡ true) × (after-a b ≡ true) × (after-b b ≡ true) × (trailing b ≡ true) = fields-each b (t .1 .1 .1 .1 .0) in
     let h : allPass isHex (poolOf b) && allPass isHex (blockdevOf b) ≡ true = t .1 .1 .1 .1 .1 .0 in
     let m : (number b 160 4 % 2 ≡ 0) × (2040 ≤ number b 160 4) × (number b 160 4 ≤ 16384) = metadata-facts (number b 160 4) (t .1 .1 .1 .1 .1 .1 .0) in
     let w : Within (entryAt b 96) × (Within (entryAt b 128) × Apart (entryAt b 96) (entryAt b 128)) =
@@ -126,21 +146,19 @@ obeys b e =
       checksum = eqb-true (number b 0 4) (Crc.checksum (window b 4 508)) (t .1 .1 .0);
       signature = same-equal (window b 4 16) signatureBytes (t .1 .0);
       sectors = leb-true 2097152 (number b 20 8) (t .1 .1 .1 .0);
-      flags =
-          zero-facts b 28 4 (omega arith)
-          (and-left (allZero (window b 28 4)) (allZero (window b 116 12) && (allZero (window b 148 12) && allZero (window b 168 344))) z);
+      flags = zero-facts b 28 4 (omega arith) (z .0);
       pool = hex-bytes (poolOf b) (and-left (allPass isHex (poolOf b)) (allPass isHex (blockdevOf b)) h);
       device = hex-bytes (blockdevOf b) (and-right (allPass isHex (poolOf b)) (allPass isHex (blockdevOf b)) h);
       entry-a = w .0;
-      zero-116 = zero-facts b 116 12 (omega arith) (and-left (allZero (window b 116 12)) (allZero (window b 148 12) && allZero (window b 168 344)) z2);
+      zero-116 = zero-facts b 116 12 (omega arith) (z .1);
       entry-b = w .1 .0;
       times = w .1 .1;
-      zero-148 = zero-facts b 148 12 (omega arith) (and-left (allZero (window b 148 12)) (allZero (window b 168 344)) z3);
+      zero-148 = zero-facts b 148 12 (omega arith) (z .2);
       metadata-even = m .0;
       metadata-least = m .1;
       metadata-most = m .2;
       reserved = leb-true (number b 164 4) 65536 (t .1 .1 .1 .1 .1 .1 .1 .0);
-      zero-168 = zero-facts b 168 344 (omega arith) (and-right (allZero (window b 148 12)) (allZero (window b 168 344)) z3);
+      zero-168 = zero-facts b 168 344 (omega arith) (z .3);
     }
 
 -- and a block that obeys them is refused by none
@@ -155,10 +173,8 @@ no-refusal b h =
           (
             le-leb 2097152 (number b 20 8) (h .sectors),
             (
-              and-both (allZero (window b 28 4)) (allZero (window b 116 12) && (allZero (window b 148 12) && allZero (window b 168 344)))
-                  (zero-test (window b 28 4) 4 (h .flags))
-                  (and-both (allZero (window b 116 12)) (allZero (window b 148 12) && allZero (window b 168 344)) (zero-test (window b 116 12) 12 (h .zero-116))
-                  (and-both (allZero (window b 148 12)) (allZero (window b 168 344)) (zero-test (window b 148 12) 12 (h .zero-148)) (zero-test (window b 168 344) 344 (h .zero-168)))),
+              each-fields b (zero-test (window b 28 4) 4 (h .flags)) (zero-test (window b 116 12) 12 (h .zero-116))
+                  (zero-test (window b 148 12) 12 (h .zero-148)) (zero-test (window b 168 344) 344 (h .zero-168)),
               (
                 and-both (allPass isHex (poolOf b)) (allPass isHex (blockdevOf b))
                     (bytes-hex (poolOf b) (h .pool)) (bytes-hex (blockdevOf b) (h .device)),

@@ -12,7 +12,7 @@ use lib.Seq.{take-all, drop-at}
 use Rattle.endian.specs.Bytes.{le, toLe, window, Bytes}
 use Rattle.endian.proofs.Numbers.{le-toLe, toLe-le, length-toLe}
 use Rattle.endian.proofs.Parts.{length-window-fits, bytes-window, window-append, window-rest}
-use Rattle.endian.proofs.Tests.{and-left, and-right, and-both, equal-same, length-zeros}
+use Rattle.endian.proofs.Tests.{and-left, and-right, equal-same, length-zeros}
 use Rattle.refusal.specs.Tests.{AllHold}
 use Rattle.checksum.specs.Crc.{checksum}
 use Rattle.checksum.proofs.Laws.{checksum-below}
@@ -23,7 +23,7 @@ use Rattle.block.specs.declared.BlockFields.{BlockFields}
 use Rattle.block.specs.declared.Entry.{Entry}
 use Rattle.block.specs.declared.Entry.the-variants.{Unused, Used}
 use Rattle.block.specs.Entry.{entryOf, entryAllowed, differentTimes}
-use Rattle.block.specs.Block.{signatureBytes, number, poolOf, blockdevOf, entryAt, fieldsOf, allZero, limitTests, readTests, reading}
+use Rattle.block.specs.Block.{signatureBytes, number, poolOf, blockdevOf, entryAt, fieldsOf, limitTests, readTests, reading}
 use Rattle.block.specs.declared.Verdict.the-variants.{Accepted}
 use Rattle.block.specs.Accepted as Obeying
 use Rattle.block.specs.Writing.{holdingOf, bodyFields, blockOf}
@@ -31,7 +31,7 @@ use Rattle.block.specs.Demand.{EntryFits}
 use Rattle.block.proofs.Written.{length-signature, length-body, length-blockOf}
 use Rattle.refusal.proofs.Order.{first-all}
 use Rattle.block.proofs.Readings.{accepted-reading}
-use Rattle.block.proofs.Exactly.{zero-test}
+use Rattle.block.proofs.Exactly.{zero-test, each-fields}
 use Rattle.block.proofs.Cuts.{cuts, cons, cuts-join, join-cuts}
 
 -- the widths of the fields from offset 4 on, as the table has them
@@ -205,10 +205,8 @@ module _ (p u : List ℕ) (f : BlockFields) (hp : length p ≡ 32) (hu : length 
           (
             ap sizeAllowed (number-of 20 8 (f .device .sectors) s (field 2)) ∙ h,
             (
-              and-both (allZero (window (blockOf p u f) 28 4)) _ (zero-test (window (blockOf p u f) 28 4) 4 (field 3))
-                  (and-both (allZero (window (blockOf p u f) 116 12)) _ (zero-test (window (blockOf p u f) 116 12) 12 (field 10))
-                  (and-both (allZero (window (blockOf p u f) 148 12)) (allZero (window (blockOf p u f) 168 344))
-                  (zero-test (window (blockOf p u f) 148 12) 12 (field 15)) (zero-test (window (blockOf p u f) 168 344) 344 (field 18)))),
+              each-fields (blockOf p u f) (zero-test (window (blockOf p u f) 28 4) 4 (field 3)) (zero-test (window (blockOf p u f) 116 12) 12 (field 10))
+                  (zero-test (window (blockOf p u f) 148 12) 12 (field 15)) (zero-test (window (blockOf p u f) 168 344) 344 (field 18)),
               subst (λ (x : List ℕ). AllHold (limitTests x (blockdevOf (blockOf p u f)) (fieldsOf (blockOf p u f)))) (sym (field 4))
                   (subst (λ (y : List ℕ). AllHold (limitTests p y (fieldsOf (blockOf p u f)))) (sym (field 5))
                   (subst (λ (g : BlockFields). AllHold (limitTests p u g)) (sym read-fields) t)),

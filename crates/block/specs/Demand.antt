@@ -1,5 +1,6 @@
--- Demand 2, first half, as statements about what `read` and `write` answer. `proofs/Demand.antt` proves them, `proofs/Offsets.antt`
--- `Offsets`.
+-- Demand 2, first half, as statements about what `read` and `write` answer; acceptance by the refusals' conditions, the test of zero fields and the
+-- order of times, by what they mean.
+-- `Offsets` is proved in `proofs/Offsets.antt`, `ZeroMeaning` in `proofs/Applying.antt`, the others in `proofs/Demand.antt`.
 use Prim.Native.Nat.{ℕ, _+_, _*_, _%_, _^_, _≤_, _<_}
 use mathlib.Core.Path.{_≡_}
 use mathlib.Core.Logic.{_⊎_, _↔_}
@@ -17,7 +18,7 @@ use Rattle.block.specs.declared.BlockFields.{BlockFields}
 use Rattle.block.specs.declared.Reading.{Reading}
 use Rattle.block.specs.declared.Verdict.the-variants as Verdict
 use Rattle.block.specs.Entry.{laterThan}
-use Rattle.block.specs.Block.{signatureBytes, number, poolOf, blockdevOf, entryAt, fieldsOf, reading, acceptedReading, refusedReading}
+use Rattle.block.specs.Block.{signatureBytes, number, poolOf, blockdevOf, entryAt, fieldsOf, allZero, reading, acceptedReading, refusedReading}
 use Rattle.block.specs.Accepted.{HexBytes, Within, Apart, Accepted}
 use Rattle.block.specs.Writing.{holdingOf, writeTests, written}
 
@@ -60,6 +61,17 @@ Offsets = (b : List ℕ) → Accepted b → ByOffset b (reading b)
 abbrev pub ZeroBytes : List ℕ → Type 0
 ZeroBytes s = (i : ℕ) → i < length s → getD s i 0 ≡ 0
 
+-- `allZero`, the test of the flags and of each zero field, passes exactly when each element is zero; and, where they are bytes, exactly when each
+-- number is 0 that they make, eight bytes to a number.
+pub record ZeroMeaning : Type 0 where
+  pub bytes : (s : List ℕ) → (allZero s ≡ true ↔ ZeroBytes s)
+  -- as many numbers as begin within s; the last may have fewer bytes
+  pub numbers : (s : List ℕ) → Bytes s → (allZero s ≡ true ↔ ((k : ℕ) → 8 * k < length s → number s (8 * k) 8 ≡ 0))
+  -- the field of 344 bytes, at the end of a block: exactly when bytes 168 to 511 are zero
+  pub trailing : (b : List ℕ) → length b ≡ 512 → (allZero (window b 168 344) ≡ true ↔ ((i : ℕ) → 168 ≤ i → i < 512 → getD b i 0 ≡ 0))
+  -- the same field as 43 numbers; where b is shorter than a block, the bytes that are not there count as zero
+  pub trailing-numbers : (b : List ℕ) → Bytes b → (allZero (window b 168 344) ≡ true ↔ ((k : ℕ) → k < 43 → number b (168 + 8 * k) 8 ≡ 0))
+
 -- the condition of refusal n, 1 to 9, in the words of the table
 abbrev pub Applies : List ℕ → ℕ → Type 0
 Applies b n =
@@ -81,6 +93,10 @@ Applies b n =
     ⊎ (((n ≡ 8) × (65536 < number b 164 4))
     -- an entry is not within its limits, or two used entries have one time
     ⊎ ((n ≡ 9) × ¬ (Within (entryAt b 96) × (Within (entryAt b 128) × Apart (entryAt b 96) (entryAt b 128)))))))))))
+
+-- A list is `Accepted` exactly when it is 512 bytes and none of the conditions of 2 to 9 holds.
+abbrev pub NoneApplies : Type 0
+NoneApplies = (b : List ℕ) → (Accepted b ↔ ((length b ≡ 512) × ((n : ℕ) → 2 ≤ n → ¬ Applies b n)))
 
 -- A block is refused with n exactly when that condition holds and none with a lower number does; there is zero in every other field.
 abbrev pub Lowest : Type 0

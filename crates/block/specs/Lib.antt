@@ -1,4 +1,4 @@
--- What the contracts of `block` cite.
+-- What the contracts of `block` cite, and what holds of it in other words.
 pub mod Entry
 pub mod Block
 pub mod Writing

@@ -144,20 +144,20 @@ pub fn all_hex(s: &[u8]) -> bool
     hex
 }
 
-// Whether all bytes of s are zero.
+// Whether all bytes of s are zero. They are read eight to a number; the last number may have fewer bytes.
 fn all_zero(s: &[u8]) -> bool
     ensures { λ r. ⌜ r ≡ allZero (now (s .entry)) ⌝ }
 {
     let mut zero = true;
     let mut i = 0;
     while i < s.len() {
-        zero = zero & (s[i] == 0);
-        i += 1;
+        zero = zero & (endian::read_u64(s, i) == 0);
+        i += 8;
     }
     zero
 }
 
-// Whether the flags and the zero fields of s are zero.
+// Whether the flags and the zero fields of s are zero. The last, 344 bytes of a block, is read as 43 numbers.
 fn zero_fields(s: &[u8]) -> bool
     ensures { λ r. ⌜ r ≡ zeroFields (now (s .entry)) ⌝ }
 {

@@ -2,4 +2,6 @@
 pub mod Numbers
 pub mod Parts
 pub mod Tests
+pub mod Zero
 pub mod Arms
+pub mod Demand

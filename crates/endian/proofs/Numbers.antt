@@ -2,7 +2,7 @@
 use Prim.Native.Nat.{ℕ, zero, suc, _+_, _*_, _/_, _%_, _^_, _≤_, _<_}
 use mathlib.Core.Path.{_≡_, refl, sym, ap, _∙_}
 use mathlib.Core.List.{List, [], _∷_, _++_}
-use native.Mathlib.Nat.{mod-lt, mod-eq-of-lt, mod-mod, pow-suc, pow-le-pow-right, lt-of-lt-of-le, mul-comm, mul-assoc}
+use native.Mathlib.Nat.{mod-lt, mod-eq-of-lt, mod-mod, pow-suc, pow-le-pow-right, lt-of-lt-of-le, mul-comm, mul-assoc, zero-div, div-one, div-div-eq-div-mul, not-suc-le-zero, le-of-suc-le-suc}
 use native.Mathlib.Omega.{arith}
 use lib.Dec.{lit<}
 use lib.ListN.{length, getD, drop}
@@ -75,6 +75,26 @@ unfolding le toLe
 toLe-le [] b = refl
 toLe-le (x ∷ xs) b =
     rw (low (x % 256) (le xs) (byte x), high (x % 256) (le xs) (byte x), mod-eq-of-lt (b 0), toLe-le xs (λ i. b (suc i)))
+
+-- digit i + 1 of a number is digit i of what is left without its lowest
+higher : (v i : ℕ) → v / 256 ^ suc i % 256 ≡ v / 256 / 256 ^ i % 256
+higher v i =
+    ap (λ (z : ℕ). v / z % 256) (pow-suc 256 i ∙ mul-comm (256 ^ i) 256) ∙ ap (λ (z : ℕ). z % 256) (sym (div-div-eq-div-mul v 256 (256 ^ i)))
+
+-- the byte at place i is digit i, of what is read and of what is written
+pub le-digit : (s : List ℕ) → Bytes s → (i : ℕ) → le s / 256 ^ i % 256 ≡ getD s i 0
+unfolding le
+le-digit [] b i = ap (λ (z : ℕ). z % 256) (zero-div (256 ^ i))
+le-digit (x ∷ xs) b zero = rw (div-one, low (x % 256) (le xs) (byte x)) (mod-eq-of-lt (b 0))
+le-digit (x ∷ xs) b (suc i) =
+    higher (x % 256 + 256 * le xs) i
+    ∙ (ap (λ (z : ℕ). z / 256 ^ i % 256) (high (x % 256) (le xs) (byte x)) ∙ le-digit xs (λ j. b (suc j)) i)
+
+pub toLe-digit : (n v i : ℕ) → i < n → getD (toLe n v) i 0 ≡ v / 256 ^ i % 256
+unfolding toLe
+toLe-digit zero v i h = absurd (not-suc-le-zero h)
+toLe-digit (suc n) v zero h = sym (ap (λ (z : ℕ). z % 256) (div-one v))
+toLe-digit (suc n) v (suc i) h = toLe-digit n (v / 256) i (le-of-suc-le-suc h) ∙ sym (higher v i)
 
 mul-shuffle : (p x : ℕ) → p * 256 * x ≡ 256 * (p * x)
 mul-shuffle p x = rw (mul-comm p 256, mul-assoc 256 p x)

@@ -92,6 +92,12 @@ module _ (p : ℕ → Bool) where
   pub all-done : (s : List ℕ) (i : ℕ) (r : Bool) → length s ≤ i → r && allPass p (drop i s) ≡ r
   all-done s i r h = ap (λ (z : List ℕ). r && allPass p z) (drop-of-length-le s h) ∙ (ap (λ (z : Bool). r && z) all-nil ∙ and-true r)
 
+  -- a list in two parts
+  pub all-append : (s t : List ℕ) → allPass p (s ++ t) ≡ (allPass p s && allPass p t)
+  unfolding allPass
+  all-append [] t = refl
+  all-append (x ∷ xs) t = ap (λ (z : Bool). p x && z) (all-append xs t) ∙ sym (and-assoc (p x) (allPass p xs) (allPass p t))
+
   pub all-at : (s : List ℕ) → allPass p s ≡ true → (i : ℕ) → i < length s → p (getD s i 0) ≡ true
   unfolding allPass
   all-at [] h i k = absurd (not-suc-le-zero k)

@@ -1,5 +1,5 @@
 -- Lists of bytes: the number that bytes make, the bytes of a number, a part of a list, a list laid over another.
--- An element is read as a byte, `b % 256`, so that each definition has a value at every list.
+-- Where an element is read as a byte it is taken as `b % 256`, so that each definition has a value at every list.
 use Prim.Native.Nat.{ℕ, zero, suc, _+_, _*_, _/_, _%_, _<_}
 use mathlib.Core.Bool.{Bool, true, false, cond, _&&_}
 use mathlib.Core.List.{List, [], _∷_, _++_}

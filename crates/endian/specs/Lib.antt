@@ -1,2 +1,3 @@
--- What the contracts of `endian` cite.
+-- What the contracts of `endian` cite, and what holds of it in other words.
 pub mod Bytes
+pub mod Demand

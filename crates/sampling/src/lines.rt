@@ -1,5 +1,6 @@
 // Pieces of lines, as texts, and printing them on standard output.
 ghost use mathlib.Core.Path.{_≡_};
+ghost use Prim.Native.Nat.{_^_, _≤_, _<_};
 ghost use Rattle.checksum.specs.Crc.{checksum};
 ghost use Rattle.text.specs.Text.{text, added};
 ghost use Rattle.sampling.specs.Pieces.{addedNumber, addedBeside, spacedNumber, hex, spacedSum, besidePiece, refusalPiece, Printed};
@@ -23,12 +24,13 @@ fn add_beside(t: Text, r: Refusal) -> Text
     add_number(add_number(t, r.first), r.second)
 }
 
-// The text with a number in 8 hexadecimal digits.
-fn add_hex(t: Text, n: u32) -> Text
-    ensures { λ r. ⌜ text r ≡ added (text t) (hex 8 n) ⌝ }
+// The text with a number in w hexadecimal digits, in which it has room.
+fn add_hex(t: Text, n: u64, w: usize) -> Text
+    requires { ⌜ (1 ≤ w) × (w ≤ 16) × (n < 16 ^ w) ⌝ }
+    ensures { λ r. ⌜ text r ≡ added (text t) (hex w n) ⌝ }
 {
     let mut out = [0u8; 16];
-    let k = io::hex(n as u64, 8, &mut out);
+    let k = io::hex(n, w, &mut out);
     t.add(&out[..k])
 }
 
@@ -43,16 +45,14 @@ pub fn number(n: u64) -> Text
 pub fn short_hex(n: u32) -> Text
     ensures { λ r. ⌜ text r ≡ hex 8 n ⌝ }
 {
-    add_hex(Text::new(), n)
+    add_hex(Text::new(), n as u64, 8)
 }
 
 // A number in 16 hexadecimal digits.
 pub fn long_hex(n: u64) -> Text
     ensures { λ r. ⌜ text r ≡ hex 16 n ⌝ }
 {
-    let mut out = [0u8; 16];
-    let k = io::hex(n, 16, &mut out);
-    Text::new().add(&out[..k])
+    add_hex(Text::new(), n, 16)
 }
 
 // A space and the checksum of s, in 8 hexadecimal digits.
@@ -60,7 +60,7 @@ pub fn sum(s: &[u8]) -> Text
     ensures { λ r. ⌜ text r ≡ spacedSum (checksum (now (s .entry))) ⌝ }
 {
     let c = checksum::checksum(s);
-    add_hex(Text::new().add(b" "), c)
+    add_hex(Text::new().add(b" "), c as u64, 8)
 }
 
 // What stands beside a refusal's number, a space before each; nothing where both are zero.

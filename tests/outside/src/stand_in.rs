@@ -4,7 +4,7 @@ use std::slice::{from_raw_parts, from_raw_parts_mut};
 
 use crate::interface::*;
 use crate::model::Model;
-use crate::wrong::told;
+use crate::wrong::{told, told_block};
 
 unsafe fn shared<'a, T>(items: *const T, length: usize) -> &'a [T] {
     if length == 0 {
@@ -59,7 +59,7 @@ unsafe extern "C" fn amseokbin_places(device: Device) -> PlacesAnswer {
 
 #[no_mangle]
 unsafe extern "C" fn amseokbin_block_read(bytes: *const u8, bytes_length: usize) -> BlockAnswer {
-    Model.block_read(shared(bytes, bytes_length))
+    told_block(shared(bytes, bytes_length), |bytes| Model.block_read(bytes))
 }
 
 #[no_mangle]

@@ -1,11 +1,12 @@
 //! Wrong answers in the library's place, behind the C interface: the independent implementation with something else beside a number
-//! than what has to stand there. The comparison has to notice each of them; the program `wrong` sees to it.
+//! than what has to stand there, or with another test of a block's zero fields. The comparison has to notice each of them; the program
+//! `wrong` sees to it.
 
 use std::env;
 use std::sync::OnceLock;
 
-use crate::interface::{Refusable, Refused};
-use crate::model::block::u64_at;
+use crate::interface::{Answer, BlockAnswer, Refusable, Refused};
+use crate::model::block::{seal, u32_at, u64_at, BlockBytes, ZERO_FIELDS};
 use crate::model::record::{Span, HEAD_BYTES, SEGMENT_BYTES};
 
 /// The variable of the environment that names the wrong answer; without it, or empty, the answers are right.
@@ -64,42 +65,135 @@ const CALLS: &[&str] = &[
     "release",
 ];
 
+/// A test of a block's flags and zero fields.
+type ZeroTest = fn(&[u8]) -> bool;
+
+/// In place of the test that every byte of the flags and the zero fields is zero.
+const ZERO_TESTS: &[(&str, ZeroTest)] = &[
+    ("no zero field tested", |_| true),
+    ("the flags not tested", |block| twelves(block) && last(block)),
+    ("the fields of twelve not tested", |block| flags(block) && last(block)),
+    ("eight bytes of a field of twelve", |block| {
+        flags(block) && [116, 148].map(|at| u64_at(block, at)) == [0; 2] && last(block)
+    }),
+    ("sixteen bytes for a field of twelve", |block| {
+        flags(block) && [116, 124, 148, 156].map(|at| u64_at(block, at)) == [0; 4] && last(block)
+    }),
+    ("the first number not tested", |block| short(block) && numbers(block).skip(1).all(|number| number == 0)),
+    ("the last number not tested", |block| short(block) && numbers(block).take(42).all(|number| number == 0)),
+    ("the low half of each number", |block| short(block) && numbers(block).all(|number| number as u32 == 0)),
+    ("the high half of each number", |block| short(block) && numbers(block).all(|number| number >> 32 == 0)),
+    ("the first byte of each number", |block| short(block) && numbers(block).all(|number| number as u8 == 0)),
+    ("numbers with a sign", |block| short(block) && numbers(block).all(|number| number as i64 <= 0)),
+    ("exclusive or of the numbers", |block| short(block) && numbers(block).fold(0, |all, number| all ^ number) == 0),
+    ("sum of the numbers", |block| short(block) && numbers(block).fold(0, u64::wrapping_add) == 0),
+    ("common bits of the numbers", |block| {
+        short(block) && numbers(block).fold(u64::MAX, |all, number| all & number) == 0
+    }),
+    ("sum of each number's bytes", |block| {
+        short(block) && numbers(block).all(|number| number.to_le_bytes().into_iter().fold(0, u8::wrapping_add) == 0)
+    }),
+];
+
+fn flags(block: &[u8]) -> bool {
+    u32_at(block, 28) == 0
+}
+
+fn twelves(block: &[u8]) -> bool {
+    [116, 148].map(|at| u64_at(block, at) == 0 && u32_at(block, at + 8) == 0) == [true; 2]
+}
+
+/// The flags and the fields of twelve, tested as they should be.
+fn short(block: &[u8]) -> bool {
+    flags(block) && twelves(block)
+}
+
+/// The 43 numbers of the last field.
+fn numbers(block: &[u8]) -> impl Iterator<Item = u64> + '_ {
+    (0..43).map(|number| u64_at(block, 168 + 8 * number))
+}
+
+fn last(block: &[u8]) -> bool {
+    numbers(block).all(|number| number == 0)
+}
+
 /// The name of a wrong answer by one call.
 fn by(call: &str) -> String {
     format!("zeros by {call}")
 }
 
-/// The names of all wrong answers.
-pub fn names() -> Vec<String> {
-    let by_all = CHANGES.iter().map(|(name, _)| name.to_string());
-    by_all.chain(CALLS.iter().map(|call| by(call))).collect()
+/// A wrong answer by its name, and the families of `compare` that have to notice it.
+pub struct Named {
+    pub name: String,
+    pub families: &'static [&'static str],
 }
 
-/// A wrong answer, and the call that gives it; every call where none is named.
-struct Wrong {
-    change: Change,
-    call: Option<&'static str>,
+/// The families that have to notice a wrong answer about a clash, and a wrong test of zero fields.
+const CLASH_FAMILIES: &[&str] = &["examples", "clashes"];
+const ZERO_FAMILIES: &[&str] = &["zeros"];
+
+/// All families that have to notice a wrong answer.
+pub fn families() -> impl Iterator<Item = &'static str> {
+    CLASH_FAMILIES.iter().chain(ZERO_FAMILIES).copied()
+}
+
+/// All wrong answers.
+pub fn names() -> Vec<Named> {
+    let by_all = CHANGES.iter().map(|(name, _)| name.to_string());
+    let clashes = by_all.chain(CALLS.iter().map(|call| by(call)));
+    let zeros = ZERO_TESTS.iter().map(|(name, _)| name.to_string());
+    let clashes = clashes.map(|name| Named { name, families: CLASH_FAMILIES });
+    clashes.chain(zeros.map(|name| Named { name, families: ZERO_FAMILIES })).collect()
+}
+
+/// A wrong answer: another refusal of a record by one call, or by every call where none is named; or another test of zero fields.
+enum Wrong {
+    Record { change: Change, call: Option<&'static str> },
+    Zeros(ZeroTest),
 }
 
 fn chosen() -> Option<&'static Wrong> {
     static CHOSEN: OnceLock<Option<Wrong>> = OnceLock::new();
     let choose = || {
         let name = env::var(VARIABLE).ok().filter(|name| !name.is_empty())?;
-        let by_all = CHANGES.iter().find(|(known, _)| *known == name).map(|(_, change)| (*change, None));
-        let by_one = CALLS.iter().find(|call| by(call) == name).map(|call| (zeros as Change, Some(*call)));
-        let (change, call) = by_all.or(by_one).unwrap_or_else(|| panic!("{VARIABLE}: no wrong answer is {name}"));
-        Some(Wrong { change, call })
+        let by_all = CHANGES.iter().find(|(known, _)| *known == name);
+        let by_all = by_all.map(|(_, change)| Wrong::Record { change: *change, call: None });
+        let by_one = CALLS.iter().find(|call| by(call) == name);
+        let by_one = by_one.map(|call| Wrong::Record { change: zeros, call: Some(call) });
+        let zeros = ZERO_TESTS.iter().find(|(known, _)| *known == name).map(|(_, test)| Wrong::Zeros(*test));
+        Some(by_all.or(by_one).or(zeros).unwrap_or_else(|| panic!("{VARIABLE}: no wrong answer is {name}")))
     };
     CHOSEN.get_or_init(choose).as_ref()
 }
 
 /// The answer of a call for a record, as the chosen wrong answer has it.
 pub fn told<A: Refusable>(call: &'static str, record: &[u8], mut answer: A) -> A {
-    if let Some(wrong) = chosen().filter(|wrong| wrong.call.is_none_or(|only| only == call)) {
-        let refusal = answer.refusal_mut();
-        *refusal = (wrong.change)(*refusal, &spans(record));
+    if let Some(Wrong::Record { change, call: only }) = chosen() {
+        if only.is_none_or(|only| only == call) {
+            let refusal = answer.refusal_mut();
+            *refusal = change(*refusal, &spans(record));
+        }
     }
     answer
+}
+
+/// The reading of a block, with the chosen test of its zero fields where one is chosen.
+pub fn told_block(bytes: &[u8], read: impl Fn(&[u8]) -> BlockAnswer) -> BlockAnswer {
+    let answer = read(bytes);
+    let Some(Wrong::Zeros(test)) = chosen() else { return answer };
+    match answer.number() {
+        // What the tests after it answer: those of a block whose fields are zero.
+        5 if test(bytes) => {
+            let mut block: BlockBytes = bytes.try_into().expect("a block that is refused with 5 has 512 bytes");
+            for range in ZERO_FIELDS {
+                block[range].fill(0);
+            }
+            seal(&mut block);
+            read(&block)
+        }
+        0 | 6..=9 if !test(bytes) => BlockAnswer { refusal: Refused::numbered(5), ..Default::default() },
+        _ => answer,
+    }
 }
 
 /// The segments of a record, whatever else is wrong with it.

@@ -1,28 +1,30 @@
 -- `block::all_zero` meets its contract: the bytes passed, and those left.
-use Prim.Native.Nat.{ℕ, _-_, _≤_}
-use mathlib.Core.Path.{_≡_, refl, sym, _∙_}
-use mathlib.Core.Bool.{_&&_}
+use Prim.Native.Nat.{ℕ, _+_, _-_}
+use mathlib.Core.Path.{_≡_, refl, sym, ap, _∙_}
+use mathlib.Core.Bool.{Bool, _&&_}
 use mathlib.Core.List.{List}
 use native.Mathlib.Omega.{arith}
 use borrow.Author.Needs.{needs}
+use lib.Dec.{eqb}
 use lib.ListN.{length, drop}
-use Rattle.endian.specs.Bytes.{allPass}
-use Rattle.endian.proofs.Tests.{all-next, all-done}
+use Rattle.endian.specs.Bytes.{allPass, Bytes}
+use Rattle.endian.proofs.Tests.{all-done}
+use Rattle.endian.proofs.Zero.{zero-next}
 use Rattle.block.specs.Block.{isZero, allZero}
 use Rattle.block.proofs.all_zero.Statement.{statement}
 use Rattle.block.proofs.all_zero.Tie as tie
 
 abbrev Inv-loop : tie.InvT-loop
-Inv-loop s zero₀ i₀ zero i = (i ≤ length s) × ((zero && allPass isZero (drop i s)) ≡ allPass isZero s)
+Inv-loop s zero₀ i₀ zero i = (zero && allPass isZero (drop i s)) ≡ allPass isZero s
 
 abbrev μ-loop : tie.MeasureT-loop
 μ-loop s zero₀ i₀ zero i = length s - i
 
 loop-holds : tie.Need-loop-holds Inv-loop μ-loop
-loop-holds c = (omega arith, refl)
+loop-holds c = refl
 
-shared-slice-read-zero : tie.Need-shared-slice-read-zero Inv-loop μ-loop
-shared-slice-read-zero c = search needs
+read-u64-requires : tie.Need-read-u64-requires Inv-loop μ-loop
+read-u64-requires c κs = search needs
 
 add-i : tie.Need-add-i Inv-loop μ-loop
 add-i c = search needs
@@ -32,16 +34,18 @@ loop-less c = search needs
 
 loop-again : tie.Need-loop-again Inv-loop μ-loop
 loop-again c =
-    let s : List ℕ = c .before .before .before .args .s .now in
+    let s : List ℕ = c .before .before .before .before .args .s .now in
     let i : ℕ = c .before .before .loop .i in
-    (omega arith, all-next isZero s i (c .before .before .loop .zero) (omega arith) ∙ c .before .before .loop .inv .1)
+    let zero : Bool = c .before .before .loop .zero in
+    let b : Bytes s = λ j. omega (arith, c .before .before .before .shared-slice-known .given j) in
+    ap (λ (x : ℕ). (zero && eqb x 0) && allPass isZero (drop (i + 8) s)) (c .read-u64 .ensures) ∙ (zero-next s i 8 zero b ∙ c .before .before .loop .inv)
 
 returns : tie.Need-returns Inv-loop μ-loop
 unfolding allZero
 returns c =
-    sym (all-done isZero (c .before .before .args .s .now) (c .before .loop .i) (c .before .loop .zero) (c .loop-test .left)) ∙ c .before .loop .inv .1
+    sym (all-done isZero (c .before .before .before .args .s .now) (c .before .loop .i) (c .before .loop .zero) (c .loop-test .left)) ∙ c .before .loop .inv
 
 pub all-zero-spec : {M : Type 1} → statement M
 all-zero-spec =
     tie.close
-    (tie.spec Inv-loop μ-loop loop-holds shared-slice-read-zero add-i loop-less loop-again returns)
+    (tie.spec Inv-loop μ-loop loop-holds read-u64-requires add-i loop-less loop-again returns)

@@ -7,11 +7,9 @@ use std::env;
 use std::path::Path;
 use std::process::{exit, Command};
 
-use outside::wrong::{names, VARIABLE};
+use outside::wrong::{families, names, Named, VARIABLE};
 
 const SEED: &str = "20261115";
-/// Each of them has to notice every wrong answer.
-const FAMILIES: [&str; 2] = ["examples", "clashes"];
 
 /// How many failures a family of cases tells of: none where it passes.
 fn failures(compare: &Path, family: &str, wrong: &str) -> usize {
@@ -27,15 +25,16 @@ fn failures(compare: &Path, family: &str, wrong: &str) -> usize {
 fn main() {
     let compare = env::current_exe().expect("this program's path").with_file_name("compare");
     let mut wrong = 0;
-    for family in FAMILIES {
+    for family in families() {
         if failures(&compare, family, "") > 0 {
             println!("FAILED: right answers are taken for wrong by {family}");
             wrong += 1;
         }
     }
     let names = names();
-    for name in &names {
-        let passed: Vec<&str> = FAMILIES.into_iter().filter(|family| failures(&compare, family, name) == 0).collect();
+    for Named { name, families } in &names {
+        let passed: Vec<&str> =
+            families.iter().copied().filter(|family| failures(&compare, family, name) == 0).collect();
         if passed.is_empty() {
             println!("noticed: {name}");
         } else {

@@ -1,5 +1,7 @@
 //! The signature block.
 
+use std::ops::Range;
+
 use super::crc::crc32;
 use super::layout::{Device, RECORD_LIMIT, SECTOR};
 use super::refusal::{require, Refusal};
@@ -8,6 +10,8 @@ pub const SIGNATURE: [u8; 16] =
     [0x21, 0x53, 0x74, 0x72, 0x61, 0x30, 0x74, 0x69, 0x73, 0x86, 0xff, 0x02, 0x5e, 0x41, 0x72, 0x68];
 /// Where the entries of areas a and b begin in a block, 20 bytes each.
 pub const ENTRY_OFFSET: [usize; 2] = [96, 128];
+/// The flags and the zero fields of a block.
+pub const ZERO_FIELDS: [Range<usize>; 4] = [28..32, 116..128, 148..160, 168..512];
 pub const MAX_NANOSECONDS: u32 = 999_999_999;
 
 pub type BlockBytes = [u8; SECTOR];
@@ -78,7 +82,7 @@ impl Block {
         let read = Block::fields(block);
         let device = &read.identity.device;
         device.check_sectors()?;
-        let zero = [28..32, 116..128, 148..160, 168..512].map(|range| all_zero(&block[range]));
+        let zero = ZERO_FIELDS.map(|range| all_zero(&block[range]));
         require(zero == [true; 4], Refusal::NotZero)?;
         require(is_uuid(&block[32..64]) && is_uuid(&block[64..96]), Refusal::UuidByte)?;
         device.check_metadata()?;

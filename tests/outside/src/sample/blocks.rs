@@ -3,7 +3,7 @@
 use super::numbers::{
     break_metadata, break_nanoseconds, break_reserved, break_sectors, identity, not_hex, spread, time,
 };
-use crate::model::block::{seal, Block, BlockBytes, Entry, Time, ENTRY_OFFSET};
+use crate::model::block::{seal, Block, BlockBytes, Entry, Time, ENTRY_OFFSET, ZERO_FIELDS};
 use crate::model::layout::RECORD_LIMIT;
 use crate::rng::Rng;
 
@@ -89,10 +89,10 @@ pub fn damage(rng: &mut Rng, block: &mut BlockBytes, refusal: u64) {
             block[20..28].copy_from_slice(&sectors.to_le_bytes());
         }
         5 => {
-            let range = rng.one_of(&[(28, 32), (116, 128), (148, 160), (168, 512)]);
-            let last = range.1 - 1;
-            let at = rng.within(range.0, last);
-            let at = rng.one_of(&[range.0, last, at]) as usize;
+            let range = &ZERO_FIELDS[rng.index(ZERO_FIELDS.len())];
+            let (first, last) = (range.start, range.end - 1);
+            let at = first + rng.index(range.len());
+            let at = rng.one_of(&[first, last, at]);
             block[at] ^= 1 << rng.below(8);
         }
         6 => {

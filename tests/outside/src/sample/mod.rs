@@ -5,3 +5,4 @@ pub mod clashes;
 pub mod copies;
 pub mod numbers;
 pub mod records;
+pub mod zeros;

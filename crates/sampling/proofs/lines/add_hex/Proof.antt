@@ -1,5 +1,5 @@
 -- `sampling::add_hex` meets its contract.
-use Prim.Native.Nat.{ℕ}
+use Prim.Native.Nat.{ℕ, _^_, _≤_, _<_, min, max}
 use mathlib.Core.Path.{_≡_, ap, _∙_}
 use native.Mathlib.Omega.{arith}
 use Rattle.text.specs.Text.{text, added}
@@ -23,9 +23,14 @@ add-requires c κs = search needs
 returns : tie.Need-returns
 returns c =
     let n : ℕ = c .before .before .before .before .args .n in
+    let w : ℕ = c .before .before .before .before .args .w in
+    let p : (1 ≤ w) × (w ≤ 16) × (n < 16 ^ w) = c .before .before .before .before .pre in
+    let l : 1 ≤ w = p .0 in
+    let h : w ≤ 16 = p .1 in
+    let e : min (max w 1) 16 ≡ w = omega arith in
     c .add .ensures
     ∙ ap (added (text (c .before .before .before .before .args .t)))
-    (hex-is 8 n _ _ (omega arith) (c .before .before .hex .ensures .1 .0) (c .before .before .hex .ensures .1 .1))
+    (hex-is w n _ _ (p .2) (rw e at (c .before .before .hex .ensures .1 .0)) (c .before .before .hex .ensures .1 .1))
 
 pub add-hex-spec : {M : Type 1} → statement M
 add-hex-spec =

@@ -16,6 +16,9 @@ slice-aggregate-add c = search needs
 add-requires : tie.Need-add-requires
 add-requires c κs = search needs
 
+cast-add-hex : tie.Need-cast-add-hex
+cast-add-hex c = search needs
+
 add-hex-requires : tie.Need-add-hex-requires
 add-hex-requires c κs = search needs
 
@@ -32,5 +35,6 @@ sum-spec =
     new-requires
     slice-aggregate-add
     add-requires
+    cast-add-hex
     add-hex-requires
     returns)

@@ -24,6 +24,7 @@ mod sweeps;
 mod updates;
 mod walks;
 mod words;
+mod zeros;
 
 use std::env;
 use std::process::exit;
@@ -53,6 +54,7 @@ const FAMILIES: &[Family] = &[
     ("clashes", 6_800, clashes::case),
     ("overlaps", clashes::OVERLAPS, clashes::overlaps),
     ("clash-edges", 340, edges::clashes),
+    ("zeros", 9_000, zeros::case),
 ];
 
 fn main() {
