@@ -17,7 +17,7 @@
  * Everything else is tested, and has a number.
  *
  * Answers. A call that can refuse answers a struct whose first field is the refusal, or the refusal alone: number 0 where the call did
- * what it says, else 1 to 23 (enum amseokbin_number). Then every other field is zero, and nothing that was lent is changed. 19 alone has
+ * what it says, else 1 to 24 (enum amseokbin_number). Then every other field is zero, and nothing that was lent is changed. 19 alone has
  * more: every call that gives it returns two segments that clash beside it (struct amseokbin_refusal). Where nothing else is said the lowest
  * number that applies is given: 1 for a slice of another size is tested first, 1 for too little room for an answer last. A copy has exactly
  * AMSEOKBIN_COPY bytes, a block and a store exactly AMSEOKBIN_SECTOR; a record is lent with its own length, a buffer with all its room.
@@ -132,7 +132,7 @@ extern "C" {
 
 /* The version of this header: major, minor. amseokbin_version gives the archive's; they have to be the same. */
 #define AMSEOKBIN_VERSION_MAJOR 0
-#define AMSEOKBIN_VERSION_MINOR 2
+#define AMSEOKBIN_VERSION_MINOR 3
 #define AMSEOKBIN_VERSION (AMSEOKBIN_VERSION_MAJOR * 65536u + AMSEOKBIN_VERSION_MINOR)
 
 /* ---- Sizes and limits ---------------------------------------------------------------------------------------------------- */
@@ -145,7 +145,8 @@ extern "C" {
 #define AMSEOKBIN_AREA_B_OFFSET 12288u
 #define AMSEOKBIN_UUID 32u     /* ASCII hex, 0 to 9 and a to f */
 #define AMSEOKBIN_RECORD 8192u /* the most of a record */
-#define AMSEOKBIN_HEAD 8u      /* a record with no segments */
+#define AMSEOKBIN_HEAD 8u      /* a head of kind 16, and a record with it and no segments */
+#define AMSEOKBIN_MARKED_HEAD 12u /* a head of kind 17, the same */
 #define AMSEOKBIN_SEGMENT 20u  /* each segment adds */
 #define AMSEOKBIN_WORDS 80u
 
@@ -194,10 +195,11 @@ enum amseokbin_number {
     AMSEOKBIN_NO_ROOM = 20,       /* no free run is long enough */
     AMSEOKBIN_RECORD_FULL = 21,   /* the record already holds the most segments, AMSEOKBIN_MOST_SEGMENTS */
     AMSEOKBIN_NO_SEGMENT = 22,    /* no segment has that position */
-    AMSEOKBIN_NO_STORE = 23       /* no store has that number */
+    AMSEOKBIN_NO_STORE = 23,      /* no store has that number */
+    AMSEOKBIN_HEAD_MOVE = 24      /* moving the head would lose its low water mark */
 };
 
-/* Where a field is said to be a side, an area, a present record or a kind. In a field or an argument that the caller makes every number
+/* Where a field is said to be a side, an area, a present record, a kind or a head's kind. In a field or an argument that the caller makes every number
  * but 0 is the back, or area b. */
 enum amseokbin_side { AMSEOKBIN_FRONT = 0, AMSEOKBIN_BACK = 1 };
 enum amseokbin_area { AMSEOKBIN_AREA_A = 0, AMSEOKBIN_AREA_B = 1 };
@@ -208,14 +210,16 @@ enum amseokbin_kind {
     AMSEOKBIN_SPARE = 3,
     AMSEOKBIN_METADATA_VOLUME = 4
 };
+/* The kinds of heads, the first item of a record: without a low water mark, and with one. */
+enum amseokbin_head_kind { AMSEOKBIN_HEAD_PLAIN = 16, AMSEOKBIN_HEAD_MARKED = 17 };
 
 /* ---- What the layout has ------------------------------------------------------------------------------------------------- */
 
 /* A refusal: its number, and what stands beside it. Beside 19, AMSEOKBIN_SEGMENT_CLASH, those are two segments that share a sector: `first`
  * is the lowest position that clashes with a later one, `second` the lowest such later position; others may clash too. Positions count from 0
  * in the record that the call was handed, for an update the new one. amseokbin_record_segment refuses such a record too: a segment
- * begins at byte AMSEOKBIN_HEAD + position * AMSEOKBIN_SEGMENT of it, with its length in bytes (2 bytes), its kind (2), its first sector (8)
- * and its sectors (8), little-endian. Beside every other number, and beside 0, both are zero. */
+ * begins at byte h + position * AMSEOKBIN_SEGMENT of it, where h is the head's length, the record's first two bytes; it has its length in
+ * bytes (2 bytes), its kind (2), its first sector (8) and its sectors (8), little-endian. Beside every other number, and beside 0, both are zero. */
 struct amseokbin_refusal {
     uint8_t number;
     uint64_t first;
@@ -519,10 +523,13 @@ struct amseokbin_store_answer amseokbin_mend_store(struct amseokbin_mend plan, c
 /* Checks a record on a device. 4, 7, 8, 15, 17 to 19; all calls below that take a device and a record give these first. */
 struct amseokbin_refusal amseokbin_record_check(struct amseokbin_device device, const uint8_t *record, size_t record_length);
 
-/* The data block size in sectors, and the number of segments. */
+/* The head's kind, an amseokbin_head_kind, the data block size in sectors, the low water mark in blocks, 0 where the head has none, and the
+ * number of segments. */
 struct amseokbin_head_answer {
     struct amseokbin_refusal refusal;
+    uint16_t kind;
     uint32_t block_size;
+    uint32_t low_water;
     uint64_t segments;
 };
 
@@ -548,9 +555,13 @@ struct amseokbin_count_answer {
 struct amseokbin_count_answer amseokbin_record_segments(struct amseokbin_device device, const uint8_t *record, size_t record_length,
                                                         uint64_t position, uint64_t *table, size_t table_length);
 
-/* Begins a record with its data block size, in the first AMSEOKBIN_HEAD bytes of a buffer. 1 for too little room, then 17 for a size not
- * allowed. */
+/* Begins a record with its data block size, in the first AMSEOKBIN_HEAD bytes of a buffer: a head of kind 16. 1 for too little room, then
+ * 17 for a size not allowed. */
 struct amseokbin_refusal amseokbin_record_begin(uint8_t *buffer, size_t buffer_length, uint32_t block_size);
+
+/* Begins a record with its data block size and a low water mark in blocks, any number, in the first AMSEOKBIN_MARKED_HEAD bytes of a buffer: a
+ * head of kind 17. 1 for too little room, then 17 for a size not allowed. */
+struct amseokbin_refusal amseokbin_record_begin_marked(uint8_t *buffer, size_t buffer_length, uint32_t block_size, uint32_t low_water);
 
 /* A record's length in bytes. */
 struct amseokbin_length_answer {
@@ -559,10 +570,34 @@ struct amseokbin_length_answer {
 };
 
 /* Puts a segment at a position of a record that was begun in a buffer; the length is that of the record that ends with it, so where it
- * goes on top of an earlier one the record is longer than that. The segment and the position may be anything: amseokbin_record_check tests
- * the whole record. 17 for a buffer that does not begin with a head, 1 for too little room, last. */
+ * goes on top of an earlier one the record may be longer than that. The segment and the position may be anything: amseokbin_record_check tests
+ * the whole record. 17 for a buffer that does not begin with a whole head within its limits, 1 for too little room, last. */
 struct amseokbin_length_answer amseokbin_record_put(uint8_t *buffer, size_t buffer_length, uint64_t position,
                                                     struct amseokbin_segment segment);
+
+/* ---- Heads --------------------------------------------------------------------------------------------------------------- */
+
+/*
+ * A record has one head, its first item: of kind 16, or of kind 17, which has a place for a low water mark. It is meant for the
+ * number of free blocks inside the thin data device; nothing here counts those. These three calls write the record with another head to a buffer, or
+ * as it is where its head is already that one. Block size, segments, their order and the free room stay, and so do bytes past the new
+ * record; the answer is its length. AMSEOKBIN_RECORD bytes are always room enough; moving up from kind 16 takes 4 more than the record has.
+ */
+
+/* Moves the head up: one of kind 16 becomes one of kind 17 with the mark 0; a record of kind 17 is written as it is, with its mark. 1 for too
+ * little room, last. */
+struct amseokbin_length_answer amseokbin_head_up(struct amseokbin_device device, const uint8_t *record, size_t record_length,
+                                                 uint8_t *changed, size_t changed_length);
+
+/* Moves the head back: one of kind 17 becomes one of kind 16; a record of kind 16 is written as it is. Then 24 where the head has kind 17 and its
+ * mark is not 0, and 1 for too little room, last. A record of kind 16 that was moved up and back has the bytes that it had. */
+struct amseokbin_length_answer amseokbin_head_back(struct amseokbin_device device, const uint8_t *record, size_t record_length,
+                                                   uint8_t *changed, size_t changed_length);
+
+/* Sets the low water mark of a head of kind 17, to any number. Then 17 for a head of kind 16, which has no place for one, also where the mark is 0,
+ * and 1 for too little room, last. */
+struct amseokbin_length_answer amseokbin_head_mark(struct amseokbin_device device, const uint8_t *record, size_t record_length,
+                                                   uint32_t low_water, uint8_t *changed, size_t changed_length);
 
 /* ---- Free room ----------------------------------------------------------------------------------------------------------- */
 

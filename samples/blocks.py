@@ -273,6 +273,7 @@ WORDS = {
     21: "the record already holds the most segments",
     22: "no segment has that position",
     23: "no store has that number",
+    24: "moving the head would lose its low water mark",
 }
 
 

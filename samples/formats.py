@@ -49,6 +49,8 @@ def samples():
     yield 0, {"data": many(25, LARGE), "device": LARGE, "time": (2 ** 64 - 1, 999999999)}
     yield 0, {"data": many(26, LARGE), "device": LARGE, "pool": UUID, "uuid": POOL}
     yield 0, {"data": many(409, SMALL), "time": (1, 2)}
+    yield 0, {"data": record((2, first, 1), mark=1000)}
+    yield 0, {"data": record(mark=0)}
     yield 0, {"data": record((3, first, end - first), block_size=2097152), "pool": b"0" * 32, "uuid": b"f" * 32}
     yield 0, {"device": (2 ** 64 - 1, 2040, 1), "data": record((1, 2049, 1), (4, 2 ** 64 - 2050 - 8, 1))}
     for size in (0, COPY - 1, COPY + 1, 2 * COPY):
@@ -80,6 +82,7 @@ def samples():
     yield 17, {"data": RECORD + b"\x00"}
     yield 17, {"data": record()[:7]}
     yield 17, {"data": record((2, first, 1), kind=17)}
+    yield 17, {"data": record((2, first, 1), mark=0, kind=18)}
     yield 17, {"data": record((5, first - 1, 1))}
     yield 17, {"data": record((2, first, 1), block_size=129)}
     yield 18, {"data": record((2, first - 1, 1))}

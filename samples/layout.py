@@ -25,9 +25,11 @@ LEAST_METADATA, MOST_METADATA = 2040, 16384
 MOST_RESERVED = 65536
 MOST_NANOSECONDS = 999999999
 LEAST_BLOCK_SIZE, MOST_BLOCK_SIZE = 128, 2097152
-MOST_SEGMENTS = (RECORD_LIMIT - 8) // 20
 KINDS = (1, 2, 3, 4)
-HEAD_KIND = 16
+# The kinds of heads: with the data block size; with that and the low water mark. The length and the kind stand before them.
+PLAIN, MARKED = 16, 17
+HEADS = {PLAIN: struct.Struct("<HHI"), MARKED: struct.Struct("<HHII")}
+MOST_SEGMENTS = {kind: (RECORD_LIMIT - fields.size) // 20 for kind, fields in HEADS.items()}
 
 
 # The checksum. Everything that has one comes from this polynomial, the checksum's table in the source too.
@@ -173,26 +175,41 @@ def item(kind, start, sectors):
     return struct.pack("<HHQQ", 20, kind, start, sectors)
 
 
-def record(*segments, block_size=128, kind=HEAD_KIND):
-    return struct.pack("<HHI", 8, kind, block_size) + b"".join(item(*s) for s in segments)
+def head(block_size=128, mark=None, kind=None):
+    """A head with a mark, or without; a kind that is named stands in place of its own."""
+    fields = HEADS[PLAIN if mark is None else MARKED]
+    kind = kind or (PLAIN if mark is None else MARKED)
+    return fields.pack(fields.size, kind, block_size, *([] if mark is None else [mark]))
+
+
+def record(*segments, **of_head):
+    return head(**of_head) + b"".join(item(*s) for s in segments)
+
+
+def parse_head(data):
+    """Kind, block size, mark (0 for none) and bytes, or None."""
+    if len(data) < 4 or (kind := struct.unpack_from("<HH", data)[1]) not in HEADS or len(data) < HEADS[kind].size:
+        return None
+    length, kind, size, *mark = HEADS[kind].unpack_from(data)
+    if length != HEADS[kind].size or size % 128 or not LEAST_BLOCK_SIZE <= size <= MOST_BLOCK_SIZE:
+        return None
+    return kind, size, (mark or [0])[0], length
 
 
 def parse(data):
-    """The block size and the segments, or None for 17."""
-    if len(data) < 8:
-        return None
-    length, kind, size = struct.unpack_from("<HHI", data)
-    if length != 8 or kind != HEAD_KIND or size % 128 or not LEAST_BLOCK_SIZE <= size <= MOST_BLOCK_SIZE:
+    """The head, as parse_head has it, and the segments, or None for 17."""
+    head = parse_head(data)
+    if head is None:
         return None
     segments = []
-    for at in range(8, len(data), 20):
+    for at in range(head[3], len(data), 20):
         if len(data) - at < 20:
             return None
         length, kind, start, sectors = struct.unpack_from("<HHQQ", data, at)
         if length != 20 or kind not in KINDS:
             return None
         segments.append((kind, start, sectors))
-    return size, segments
+    return head, segments
 
 
 def record_refusal(device, data):

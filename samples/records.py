@@ -8,7 +8,7 @@ It runs the same records and requests as crates/record_samples/src/main.rt, by i
 import struct
 
 import layout
-from layout import KINDS, MOST_SEGMENTS, RECORD, SMALL, beside, data_range, device_refusal, item, parse, record, write
+from layout import KINDS, MOST_SEGMENTS, PLAIN, RECORD, SMALL, beside, data_range, device_refusal, item, parse, record, write
 
 MOST = 2 ** 64 - 1
 lines = []
@@ -68,7 +68,7 @@ def check(name, data, device=SMALL):
 
 def head(data):
     n = refusal(data)
-    answer("block size", n, data, *([] if n else [parse(data)[0]]))
+    answer("block size", n, data, *([] if n else [parse(data)[0][1]]))
 
 
 def count(data):
@@ -108,7 +108,7 @@ def allocate(data, kind, sectors, lent):
         n = 17
     if not n and sectors == 0:
         n = 18
-    if not n and len(segments_of(data)) >= MOST_SEGMENTS:
+    if not n and len(segments_of(data)) >= MOST_SEGMENTS[PLAIN]:
         n = 21
     if not n and first_run(data, sectors) is None:
         n = 20
@@ -225,8 +225,8 @@ def main():
     free(filled)
     fit(filled, 1)
     run_at(filled, 0)
-    for name, at, value in (("a head of 7 bytes", 0, 7), ("a head of 9 bytes", 0, 9), ("a head of kind 17", 2, 17),
-                            ("block size 0", 4, 0), ("block size 64", 4, 64), ("block size 129", 4, 129),
+    for name, at, value in (("a head of 7 bytes", 0, 7), ("a head of 9 bytes", 0, 9), ("kind 17 in 8 bytes", 2, 17),
+                            ("a head of kind 18", 2, 18),                             ("block size 0", 4, 0), ("block size 64", 4, 64), ("block size 129", 4, 129),
                             ("block size 2097280", 6, 32), ("a segment of 19 bytes", 8, 19),
                             ("a segment of 21 bytes", 8, 21), ("kind 65535", 10, 65535)):
         check(name, printed[:at] + struct.pack("<H", value) + printed[at + 2:])

@@ -55,9 +55,10 @@ def main():
     front = copy(held(*TIME, held_record), held(9, 999999999, RECORD), **device)
     back = copy(held(3, 0, RECORD), held(*TIME, held_record), **device)
     good = record((1, FIRST, 7), (4, END - 1, 1))
-    full = record(*((1 + i % 4, FIRST + 3 * i, 1 + i % 3) for i in range(409)))
+    many = [(1 + i % 4, FIRST + 3 * i, 1 + i % 3) for i in range(409)]
+    full, marked = record(*many), record(*many, mark=7)
     even = record(*((3, END - 5 * (i + 1), 5) for i in range(102)))
-    assert len(full) == 8188 and len(even) == 2048
+    assert len(full) == 8188 and len(marked) == 8192 and len(even) == 2048
     updates = [
         ((10, 6), good),
         ((11, 0), record()),
@@ -71,6 +72,10 @@ def main():
         ((11, 0), bytes(8193)),
         ((11, 0), good[:-1]),
         ((11, 0), record((2, FIRST, 1), kind=17)),
+        ((11, 0), record((2, FIRST, 1), kind=18)),
+        ((11, 0), record((2, FIRST, 1), mark=0, kind=16)),
+        ((11, 1), record((2, FIRST, 1), mark=2 ** 32 - 1)),
+        ((11, 2), record(mark=0)[:11]),
         ((11, 0), record((5, FIRST, 1))),
         ((11, 0), record((2, FIRST, 1), block_size=129)),
         ((11, 0), record((2, FIRST - 1, 1))),
@@ -79,6 +84,7 @@ def main():
         ((11, 0), record((2, 2 ** 64 - 1, 2 ** 64 - 1))),
         ((11, 0), record((2, FIRST, 2), (2, FIRST + 1, 1))),
         ((11, 0), record((1, FIRST + 20, 1), (2, FIRST + 5, 2), (3, FIRST, 9), (4, FIRST + 6, 3))),
+        ((11, 4), marked),
         ((11, 5), full),
     ]
     stream, lines = front + back, []

@@ -85,8 +85,9 @@ static void sizes(void)
     AT(mend, bytes, 0), AT(mend, needed, 4), AT(mend, kept, 5), AT(mend, area, 6), AT(mend, last, 7);
     SIZE(mend_answer, 32);
     AT(mend_answer, refusal, 0), AT(mend_answer, plan, 24);
-    SIZE(head_answer, 40);
-    AT(head_answer, refusal, 0), AT(head_answer, block_size, 24), AT(head_answer, segments, 32);
+    SIZE(head_answer, 48);
+    AT(head_answer, refusal, 0), AT(head_answer, kind, 24), AT(head_answer, block_size, 28);
+    AT(head_answer, low_water, 32), AT(head_answer, segments, 40);
     SIZE(segment_answer, 48);
     AT(segment_answer, refusal, 0), AT(segment_answer, segment, 24);
     SIZE(count_answer, 32);
@@ -201,7 +202,8 @@ static void records(void)
     LOOK(number_at(record + 12, 8) == 3000 && number_at(record + 20, 8) == 50);
     OK(amseokbin_record_check(device, record, 48));
     head = amseokbin_record_head(device, record, 48);
-    OK(head.refusal), LOOK(head.block_size == 256 && head.segments == 2);
+    OK(head.refusal), LOOK(head.kind == AMSEOKBIN_HEAD_PLAIN && head.low_water == 0);
+    LOOK(head.block_size == 256 && head.segments == 2);
     segment = amseokbin_record_segment(device, record, 48, 1);
     OK(segment.refusal);
     LOOK(segment.segment.kind == 1 && segment.segment.start == 2100 && segment.segment.sectors == 11);
@@ -225,6 +227,37 @@ static void records(void)
     OK(allocation.refusal), LOOK(allocation.start == 2111 && allocation.length == 68);
     length = amseokbin_release(device, changed, 68, 0, changed + 100, 48);
     OK(length.refusal), LOOK(length.length == 48);
+}
+
+/* The record of `records` with a head of kind 17 and a mark of four different bytes. */
+static void heads(void)
+{
+    const struct amseokbin_segment segment = {AMSEOKBIN_THIN_DATA, 2800, 9};
+    struct amseokbin_length_answer length;
+    struct amseokbin_head_answer head;
+
+    memset(changed, 77, sizeof changed);
+    length = amseokbin_head_up(device, record, 48, changed, sizeof changed);
+    OK(length.refusal), LOOK(length.length == 52);
+    LOOK(number_at(changed, 2) == 12 && number_at(changed + 2, 2) == 17 && number_at(changed + 4, 4) == 256);
+    LOOK(number_at(changed + 8, 4) == 0 && memcmp(changed + 12, record + 8, 40) == 0 && changed[52] == 77);
+    length = amseokbin_head_mark(device, changed, 52, 0xa1b2c3d4, clash, sizeof clash);
+    OK(length.refusal), LOOK(length.length == 52 && number_at(clash + 8, 4) == 0xa1b2c3d4);
+    head = amseokbin_record_head(device, clash, 52);
+    OK(head.refusal), LOOK(head.kind == AMSEOKBIN_HEAD_MARKED && head.low_water == 0xa1b2c3d4);
+    LOOK(head.block_size == 256 && head.segments == 2);
+    length = amseokbin_head_back(device, clash, 52, bytes, sizeof bytes);
+    LOOK(length.refusal.number == AMSEOKBIN_HEAD_MOVE && length.refusal.first == 0 && length.refusal.second == 0);
+    LOOK(length.length == 0);
+    length = amseokbin_head_back(device, changed, 52, bytes, sizeof bytes);
+    OK(length.refusal), LOOK(length.length == 48 && memcmp(bytes, record, 48) == 0);
+    length = amseokbin_head_mark(device, record, 48, 0, bytes, sizeof bytes);
+    LOOK(length.refusal.number == AMSEOKBIN_RECORD_FORM && length.length == 0);
+    OK(amseokbin_record_begin_marked(clash, sizeof clash, 384, 0xd4c3b2a1));
+    LOOK(number_at(clash, 2) == 12 && number_at(clash + 2, 2) == 17);
+    LOOK(number_at(clash + 4, 4) == 384 && number_at(clash + 8, 4) == 0xd4c3b2a1);
+    length = amseokbin_record_put(clash, sizeof clash, 0, segment);
+    OK(length.refusal), LOOK(length.length == 32 && number_at(clash + 16, 8) == 2800);
 }
 
 /* Every call that can give 19 has the pair that clashes beside it, zero in every other field, and leaves what was lent as it was. */
@@ -256,7 +289,7 @@ static void clashes(void)
     LOOK(used == 8188);
     CLASH(amseokbin_record_check(device, clash, used));
     head = amseokbin_record_head(device, clash, used);
-    CLASH(head.refusal), LOOK(head.block_size == 0 && head.segments == 0);
+    CLASH(head.refusal), LOOK(head.kind == 0 && head.block_size == 0 && head.low_water == 0 && head.segments == 0);
     read = amseokbin_record_segment(device, clash, used, 0);
     CLASH(read.refusal), LOOK(read.segment.kind == 0 && read.segment.start == 0 && read.segment.sectors == 0);
     count = amseokbin_record_segments(device, clash, used, 0, numbers, 3);
@@ -275,6 +308,12 @@ static void clashes(void)
     allocation = amseokbin_allocate(device, clash, used, AMSEOKBIN_THIN_DATA, 1, changed, sizeof changed);
     CLASH(allocation.refusal), LOOK(allocation.start == 0 && allocation.length == 0);
     length = amseokbin_release(device, clash, used, 0, changed, sizeof changed);
+    CLASH(length.refusal), LOOK(length.length == 0 && changed[0] == 77);
+    length = amseokbin_head_up(device, clash, used, changed, sizeof changed);
+    CLASH(length.refusal), LOOK(length.length == 0 && changed[0] == 77);
+    length = amseokbin_head_back(device, clash, used, changed, sizeof changed);
+    CLASH(length.refusal), LOOK(length.length == 0 && changed[0] == 77);
+    length = amseokbin_head_mark(device, clash, used, 1, changed, sizeof changed);
     CLASH(length.refusal), LOOK(length.length == 0 && changed[0] == 77);
     CLASH(amseokbin_update_check(COPIES, late, clash, used));
     update = amseokbin_update_plan(COPIES, late, clash, used);
@@ -453,6 +492,7 @@ int main(void)
     small();
     blocks();
     records();
+    heads();
     clashes();
     copies();
     plans();

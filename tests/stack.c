@@ -17,6 +17,7 @@ static int answer;
 
 static uint8_t front[AMSEOKBIN_COPY], back[AMSEOKBIN_COPY];
 static uint8_t record[AMSEOKBIN_RECORD], clash[AMSEOKBIN_RECORD], changed[AMSEOKBIN_RECORD], bytes[AMSEOKBIN_SECTOR];
+static uint8_t marked[AMSEOKBIN_RECORD];
 static uint64_t numbers[AMSEOKBIN_SEGMENT_TABLE];
 static struct amseokbin_run table[AMSEOKBIN_MOST_RUNS];
 static struct amseokbin_update update;
@@ -27,10 +28,12 @@ static const uint8_t uuid[] = "0123456789abcdef0123456789abcdef";
 static const struct amseokbin_device device = {(uint64_t)1 << 40, AMSEOKBIN_MOST_METADATA, AMSEOKBIN_MOST_RESERVED};
 static const struct amseokbin_time first = {10, 5}, second = {11, 0};
 static const size_t length = AMSEOKBIN_HEAD + AMSEOKBIN_SEGMENT * SEGMENTS;
+static const size_t marked_length = AMSEOKBIN_MARKED_HEAD + AMSEOKBIN_SEGMENT * SEGMENTS;
 
 #define COPIES front, sizeof front, back, sizeof back
 #define RECORD record, length
 #define CLASH clash, length
+#define MARKED marked, marked_length
 
 static int nothing(void) { return 0; }
 static int versioned(void) { return amseokbin_version() != AMSEOKBIN_VERSION; }
@@ -62,6 +65,20 @@ static int handing_on(void) {
     return amseokbin_record_segments(device, RECORD, 0, numbers, AMSEOKBIN_SEGMENT_TABLE).refusal.number;
 }
 static int beginning(void) { return amseokbin_record_begin(changed, sizeof changed, 128).number; }
+static int beginning_marked(void) {
+    return amseokbin_record_begin_marked(changed, sizeof changed, 128, 7).number;
+}
+static int moving_up(void) { return amseokbin_head_up(device, RECORD, changed, sizeof changed).refusal.number; }
+static int moving_back(void) { return amseokbin_head_back(device, MARKED, changed, sizeof changed).refusal.number; }
+static int marking(void) { return amseokbin_head_mark(device, MARKED, 7, changed, sizeof changed).refusal.number; }
+static int checking_marked(void) { return amseokbin_record_check(device, MARKED).number; }
+static int allocating_marked(void) {
+    return amseokbin_allocate(device, marked, marked_length - 20, 2, 20000, changed, sizeof changed).refusal.number;
+}
+static int planning_marked(void) { return amseokbin_update_check(COPIES, second, MARKED).number; }
+static int clashing_in_moving(void) {
+    return paired(amseokbin_head_up(device, CLASH, changed, sizeof changed).refusal);
+}
 static int putting(void) {
     const struct amseokbin_segment segment = {AMSEOKBIN_SPARE, 1, 2};
     return amseokbin_record_put(changed, sizeof changed, SEGMENTS - 1, segment).refusal.number;
@@ -165,11 +182,17 @@ int main(int words, char **word) {
         {"places", placing, 0},
         {"record_check", checking, 0},
         {"record_check, 19", clashing, 19},
+        {"record_check, kind 17", checking_marked, 0},
         {"record_head", heading, 0},
         {"record_segment", taking_one, 0},
         {"record_segments", handing_on, 0},
         {"record_begin", beginning, 0},
+        {"record_begin_marked", beginning_marked, 0},
         {"record_put", putting, 0},
+        {"head_up", moving_up, 0},
+        {"head_up, 19", clashing_in_moving, 19},
+        {"head_back", moving_back, 0},
+        {"head_mark", marking, 0},
         {"free_total", totalling, 0},
         {"free_runs", running_free, 0},
         {"free_runs, 19", clashing_in_runs, 19},
@@ -178,6 +201,7 @@ int main(int words, char **word) {
         {"first_fit", fitting, 0},
         {"allocate", allocating, 0},
         {"allocate, 19", clashing_in_allocating, 19},
+        {"allocate, kind 17", allocating_marked, 0},
         {"release", releasing, 0},
         {"format", formatting, 0},
         {"format, 19", clashing_in_formatting, 19},
@@ -193,6 +217,7 @@ int main(int words, char **word) {
         {"in_step", stepping, 0},
         {"settled", settling, 0},
         {"update_check", testing, 0},
+        {"update_check, kind 17", planning_marked, 0},
         {"update_plan", planning, 0},
         {"update_plan, 19", clashing_in_planning, 19},
         {"update_count", counting, 0},
@@ -219,6 +244,8 @@ int main(int words, char **word) {
         put(item, 20, 2), put(item + 2, 2, 2);
         put(item + 4, start + 10000 * (uint64_t)(i * 211 % SEGMENTS), 8), put(item + 12, 1 + 20 * i, 8);
     }
+    put(marked, 12, 2), put(marked + 2, 17, 2), put(marked + 4, 128, 4), put(marked + 8, 0, 4);
+    memcpy(marked + AMSEOKBIN_MARKED_HEAD, record + AMSEOKBIN_HEAD, AMSEOKBIN_SEGMENT * SEGMENTS);
     memcpy(clash, record, length);
     memcpy(clash + length - 16, clash + length - 36, 16);
     base = taken(nothing);
@@ -230,7 +257,7 @@ int main(int words, char **word) {
             fprintf(stderr, "stack: %s answers %d, not %d\n", calls[i].name, answer, calls[i].expected);
             return 1;
         }
-        if (all) printf("%-20s %6d\n", calls[i].name, used);
+        if (all) printf("%-22s %6d\n", calls[i].name, used);
         if (used > most) most = used, which = calls[i].name;
     }
     if (most > MOST) {

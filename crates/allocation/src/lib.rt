@@ -5,7 +5,6 @@ mod walk;
 use layout::Device;
 use refusal::Refusal;
 use runs::Run;
-use segments::Range;
 use segments::Segment;
 ghost use mathlib.Core.Path.{_≡_};
 ghost use Prim.Native.Nat.{_+_, _^_, _≤_, _<_};
@@ -13,7 +12,7 @@ ghost use lib.ListN.{length, take, drop};
 ghost use Rattle.refusal.specs.Tests.{first};
 ghost use Rattle.endian.specs.Bytes.{splice};
 ghost use Rattle.segments.specs.Sectors.{allocated};
-ghost use Rattle.items.specs.Head.{dataRange, itemBytes};
+ghost use Rattle.items.specs.Head.{itemBytes};
 ghost use Rattle.items.specs.Items.{segmentsIn};
 ghost use Rattle.record.specs.Accept.{recordTests};
 ghost use Rattle.allocation.specs.Answers.{runsIn, runsAnswer, runAnswer, totalAnswer, fitAnswer, tableAnswer, tableLeft, entriesOf, numbersAnswer, numbersLeft};
@@ -50,16 +49,6 @@ pub enum Released {
     Refused(Refusal),
 }
 
-// The data range.
-fn data_range(d: Device) -> Range
-    ensures { λ r. ⌜ r ≡ dataRange d ⌝ }
-{
-    Range {
-        start: layout::data_start(d),
-        end: layout::data_end(d),
-    }
-}
-
 // The number of free runs.
 pub fn count_runs(d: Device, s: &[u8]) -> RunCount
     ensures { λ r. ⌜ r ≡ runsAnswer d (now (s .entry)) ⌝ }
@@ -73,7 +62,7 @@ pub fn count_runs(d: Device, s: &[u8]) -> RunCount
     let at = o.at;
     let t = items::items_of(s);
     let many = items::count_in(t);
-    RunCount::Runs(walk::count_gaps(t, &at[..many], data_range(d)))
+    RunCount::Runs(walk::count_gaps(t, &at[..many], items::data_range(d)))
 }
 
 // Free run number k, counted from 0 and ascending; a run of no sectors at 0 where there is none.
@@ -89,7 +78,7 @@ pub fn run_at(d: Device, s: &[u8], k: u64) -> RunFound
     let at = o.at;
     let t = items::items_of(s);
     let many = items::count_in(t);
-    RunFound::At(walk::gap_at(t, &at[..many], data_range(d), k))
+    RunFound::At(walk::gap_at(t, &at[..many], items::data_range(d), k))
 }
 
 // The sum of the segments' lengths.
@@ -136,7 +125,7 @@ pub fn first_fit(d: Device, s: &[u8], m: u64) -> RunFound
     let at = o.at;
     let t = items::items_of(s);
     let many = items::count_in(t);
-    let r = walk::fit(t, &at[..many], data_range(d), m);
+    let r = walk::fit(t, &at[..many], items::data_range(d), m);
     if r.sectors == 0 {
         return RunFound::Refused(refusal::plain(refusal::NO_ROOM));
     }
@@ -248,11 +237,11 @@ pub fn free_run_numbers(d: Device, s: &[u8], table: &mut [u64]) -> RunCount
     let at = o.at;
     let t = items::items_of(s);
     let many = items::count_in(t);
-    let k = walk::count_gaps(t, &at[..many], data_range(d));
+    let k = walk::count_gaps(t, &at[..many], items::data_range(d));
     if ((table.len() / 2) as u64) < k {
         return RunCount::Refused(refusal::plain(refusal::SLICE_SIZE));
     }
-    walk::fill_numbers(t, &at[..many], data_range(d), k as usize, table);
+    walk::fill_numbers(t, &at[..many], items::data_range(d), k as usize, table);
     RunCount::Runs(k)
 }
 
@@ -273,7 +262,11 @@ fn table_answer(d: Device, s: &[u8], checked: Refusal, at: &[u16], w: usize) -> 
         return RunCount::Refused(checked);
     }
     let t = items::items_of(s);
-    let k = walk::count_gaps(t, walk::first_of(at, items::count_in(t)), data_range(d));
+    let k = walk::count_gaps(
+        t,
+        walk::first_of(at, items::count_in(t)),
+        items::data_range(d),
+    );
     if (w as u64) < k {
         return RunCount::Refused(refusal::plain(refusal::SLICE_SIZE));
     }

@@ -149,7 +149,7 @@ pub(super) fn fill_numbers(t: &[u8], at: &[u16], r: Range, n: usize, table: &mut
 fn begin_on(d: Device) -> Walk
     ensures { λ w. ⌜ w ≡ begun (dataRange d) ⌝ }
 {
-    begin(crate::data_range(d))
+    begin(items::data_range(d))
 }
 
 // The first n positions.

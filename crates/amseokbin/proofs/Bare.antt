@@ -40,7 +40,7 @@ use Rattle.discovery.specs.declared.Answer.the-variants as Answer
 use Rattle.discovery.specs.Answers.{otherNumber}
 use Rattle.discovery.specs.Discovery.{aloneOf, newestOf, togetherOf, sameDevice, sameUuids, decide, decideOf}
 use Rattle.discovery.specs.Discovery.{sized, discovery, inStep, readAnswer, copyOn}
-use Rattle.items.specs.declared.Head.the-variants.{Plain}
+use Rattle.items.specs.declared.Head.the-variants.{Plain, Marked}
 use Rattle.items.specs.declared.Put.{Put}
 use Rattle.items.specs.declared.Put.the-variants as Put
 use Rattle.items.specs.Making as Making
@@ -287,6 +287,7 @@ bare =
       apply = λ d content f b. first-free (applyTests d content f b) refl;
       lay = λ c r. first-free (layTests c r) refl;
       record-begin = λ out size. first-free (Making.beginTests out (Plain size)) refl;
+      record-begin-marked = λ out size mark. first-free (Making.beginTests out (Marked size mark)) refl;
       record-put = put-law;
       update-store = λ p f b r i out.
           store-told (Update.storeAnswer (updateFrom p) f b r i out) (Update.flushAfter (updateFrom p) i) (update-law (updateFrom p) f b r i out);

@@ -12,7 +12,7 @@ use Rattle.refusal.proofs.Order.{first-zero, first-before, first-after}
 use Rattle.layout.specs.declared.Device.{Device}
 use Rattle.block.specs.declared.Time.{Time}
 use Rattle.segments.specs.Demand.{FirstPair}
-use Rattle.items.specs.Head.{headOf, blockSize}
+use Rattle.items.specs.Head.{headOf}
 use Rattle.items.specs.Items.{segments}
 use Rattle.record.specs.Accept.{recordTests, named}
 use Rattle.record.specs.Answers as Record
@@ -20,14 +20,19 @@ use Rattle.record.proofs.Testing.{record-ascending}
 use Rattle.record.proofs.Naming.{number-is, named-other}
 use Rattle.record.proofs.Demand as Records
 use Rattle.allocation.specs.Answers as Runs
-use Rattle.allocation.specs.Change as Change
+use Rattle.allocation.specs.Change as Allocation
 use Rattle.allocation.proofs.Demand as Room
+use Rattle.heads.specs.declared.Change.{Change}
+use Rattle.heads.specs.declared.Change.the-variants.{Up, Back, Mark}
+use Rattle.heads.specs.Changing.{headTests, roomTests, changeTests, changeAnswer}
+use Rattle.heads.proofs.Demand as Heads
 use Rattle.update.specs.Update.{updateNumber}
 use Rattle.update.specs.Plan as Update
 use Rattle.update.proofs.Refusing as Updates
 use Rattle.format.specs.Format.{formatNumber}
 use Rattle.format.proofs.Demand as Formats
 use Rattle.amseokbin.specs.declared.HeadAnswer.{HeadAnswer}
+use Rattle.amseokbin.specs.Records.{noHead}
 use Rattle.amseokbin.specs.Pairs.{PairOf, Pairs, Naming}
 use Rattle.amseokbin.proofs.Bare.{free, first-free}
 use Rattle.amseokbin.proofs.Telling.{telling}
@@ -66,7 +71,7 @@ naming d s =
     record {
       record-check = pair-of _ (first (recordTests d s)) s refl (by-record d s);
       record-head = pair-of _ (first (recordTests d s)) s
-          (Records.refusal-of (λ (a : HeadAnswer). a .refusal) _ (λ (q : Refusal). record { refusal = q; size = 0; segments = 0 }) s refl (λ q. refl) (first (recordTests d s)))
+          (Records.refusal-of (λ (a : HeadAnswer). a .refusal) _ noHead s refl (λ q. refl) (first (recordTests d s)))
           (by-record d s);
       record-segment = λ p.
           pair-of _ (first (recordTests d s ++ Record.positionTests s p)) s (telling .segment (Record.segmentAnswer d s p) .0 ∙ Records.numbered d s p 0 .segment)
@@ -84,16 +89,24 @@ naming d s =
           pair-of _ (first (recordTests d s ++ Runs.fitTests (Runs.runsIn d s) m)) s (telling .run (Runs.fitAnswer d s m) .0 ∙ Room.numbered d s 0 m 0 .fit)
           (by-more d s (Runs.fitTests (Runs.runsIn d s) m) refl);
       allocate = λ k m w.
-          pair-of _ (first (Change.allocateTests d s k m w)) s (telling .allocation (Change.allocateAnswer d s k m w) .0 ∙ Room.numbered d s k m w .allocation)
-          (by-more d s (Change.ownTests d s k m w) refl);
+          pair-of _ (first (Allocation.allocateTests d s k m w)) s (telling .allocation (Allocation.allocateAnswer d s k m w) .0 ∙ Room.numbered d s k m w .allocation)
+          (by-more d s (Allocation.ownTests d s k m w) refl);
       release = λ p w.
-          pair-of _ (first (Change.releaseTests d s p w)) s (telling .release (Change.releaseAnswer d s p w) .0 ∙ Room.numbered d s p 0 w .release)
-          (by-more d s (Record.positionTests s p ++ Change.roomTests s w) refl);
+          pair-of _ (first (Allocation.releaseTests d s p w)) s (telling .release (Allocation.releaseAnswer d s p w) .0 ∙ Room.numbered d s p 0 w .release)
+          (by-more d s (Record.positionTests s p ++ Allocation.roomTests s w) refl);
+      head-change = λ c w.
+          pair-of _ (first (changeTests d s c w)) s (telling .changed (changeAnswer d s c w) .0 ∙ Heads.numbered d s c w)
+          (by-more d s (headTests c (headOf s) ++ roomTests c s w) (head-free c w));
       update-check = λ f b t. pair-of _ (updateNumber f b t s) s refl (updating f b t);
       update-plan = λ f b t. pair-of _ (updateNumber f b t s) s (telling .update (Update.planned f b t s) ∙ Updates.refusing .number f b t s) (updating f b t);
       format = λ f b p u t. pair-of _ (formatNumber f b d p u t s) s refl (Formats.naming f b d p u t s);
     }
   where
+    head-free : (c : Change) → (w : ℕ) → free (headTests c (headOf s) ++ roomTests c s w) ≡ true
+    head-free Up w = refl
+    head-free Back w = refl
+    head-free (Mark n) w = refl
+
     updating : (f b : List ℕ) (t : Time) → updateNumber f b t s ≡ 19
         → FirstPair (segments s) (named (updateNumber f b t s) s .first) (named (updateNumber f b t s) s .second)
     updating f b t e = subst (λ (q : Refusal). FirstPair (segments s) (q .first) (q .second)) (Updates.refusing .number f b t s) (Updates.naming f b t s e)

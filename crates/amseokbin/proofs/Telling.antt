@@ -58,12 +58,16 @@ use Rattle.allocation.specs.declared.Allocation.{Allocation}
 use Rattle.allocation.specs.declared.Allocation.the-variants as Allocation
 use Rattle.allocation.specs.declared.Released.{Released}
 use Rattle.allocation.specs.declared.Released.the-variants as Released
-use Rattle.items.specs.Head.{headOf, blockSize}
+use Rattle.items.specs.declared.Head.{Head}
+use Rattle.items.specs.Head.{headOf}
 use Rattle.items.specs.Items.{segments}
 use Rattle.items.specs.Making.{putNumber, putValues}
 use Rattle.record.specs.Accept.{recordTests, named}
 use Rattle.record.specs.Answers.{segmentValues, foundRefusal, foundValues, countedRefusal, countedValues}
 use Rattle.allocation.specs.Answers.{totalRefusal, totalValues, runsRefusal, runsValues, runRefusal, runValues}
+use Rattle.heads.specs.declared.Changed.{Changed}
+use Rattle.heads.specs.declared.Changed.the-variants as Changed
+use Rattle.heads.specs.Changing.{changedRefusal, changedValues}
 use Rattle.allocation.specs.Change.{allocationRefusal, allocationValues, releaseRefusal, releaseValues}
 use Rattle.stores.specs.Answers.{givenNumber, givenValues}
 use Rattle.update.specs.Answers.{plannedRefusal}
@@ -86,7 +90,7 @@ use Rattle.amseokbin.specs.declared.BlockAnswer.{BlockAnswer}
 use Rattle.amseokbin.specs.declared.CopyAnswer.{CopyAnswer}
 use Rattle.amseokbin.specs.declared.HeadAnswer.{HeadAnswer}
 use Rattle.amseokbin.specs.Records as Records
-use Rattle.amseokbin.specs.Records.{headIf}
+use Rattle.amseokbin.specs.Records.{headSaid, noHead, headIf}
 use Rattle.amseokbin.specs.Room as Room
 use Rattle.amseokbin.specs.Plans.{storeAnswer, updateOf, updateFrom, updateAnswer, sideFrom, rewriteTold, mendFrom, mendAnswer}
 use Rattle.amseokbin.specs.Demand.{Told, foundList, blockList, Telling, Saying, Zeroing, Rereading, Planning}
@@ -168,6 +172,11 @@ unfolding zeros
 allocation-told (Allocation.Placed k m) = (refl, refl, le-refl _)
 allocation-told (Allocation.Refused n) = (refl, refl, zero≤)
 
+changed-told : (a : Changed) → Told (Records.changedAnswer a .refusal) (changedRefusal a) (Records.changedAnswer a .length ∷ []) (changedValues a)
+unfolding zeros
+changed-told (Changed.Length k) = (refl, refl, le-refl _)
+changed-told (Changed.Refused n) = (refl, refl, zero≤)
+
 release-told : (a : Released) → Told (Room.releasedAnswer a .refusal) (releaseRefusal a) (Room.releasedAnswer a .length ∷ []) (releaseValues a)
 unfolding zeros
 release-told (Released.Length k) = (refl, refl, le-refl _)
@@ -191,6 +200,7 @@ telling =
       runs = runs-told;
       run = run-told;
       allocation = allocation-told;
+      changed = changed-told;
       release = release-told;
     }
 
@@ -204,8 +214,8 @@ blockTold v p u = record { refusal = plain (verdictNumber v); block = blockFrom 
 abbrev blockDone : Block → BlockAnswer
 blockDone k = record { refusal = plain 0; block = k }
 
-abbrev headFor : Bool → Refusal → ℕ → ℕ → HeadAnswer
-headFor b q s k = cond b (record { refusal = plain 0; size = s; segments = k }) (record { refusal = q; size = 0; segments = 0 })
+abbrev headFor : Bool → Refusal → Head → ℕ → HeadAnswer
+headFor b q h k = cond b (headSaid h k) (noHead q)
 
 pub saying : Saying
 saying =
@@ -213,7 +223,7 @@ saying =
       block = λ r x e. (ap (λ (v : Verdict). blockFrom v (r .pool) (r .blockdev) .pool) e, ap (λ (v : Verdict). blockFrom v (r .pool) (r .blockdev) .blockdev) e);
       copy = λ r x e. ap (copyTold r) e ∙ ap (copyWith r) (sym (ap (λ (v : Verdict). blockFrom v (r .block .pool) (r .block .blockdev)) e));
       step = λ f b e. ap (λ (s : Bool). stepOf s (inStep f b)) e;
-      head = λ d s e. ap (λ (n : ℕ). headIf n s (blockSize (headOf s)) (length (segments s))) e;
+      head = λ d s e. ap (λ (n : ℕ). headIf n s (headOf s) (length (segments s))) e;
     }
 
 pub zeroing : Zeroing
@@ -223,7 +233,7 @@ zeroing =
       copy = λ r n e. ap (copyTold r) e;
       found = λ n f b. refl;
       step = λ f b e. ap (λ (s : Bool). stepOf s (inStep f b)) e;
-      head = λ d s z. ap (λ (b : Bool). headFor b (named (first (recordTests d s)) s) (blockSize (headOf s)) (length (segments s))) (ne-eqb (first (recordTests d s)) 0 z);
+      head = λ d s z. ap (λ (b : Bool). headFor b (named (first (recordTests d s)) s) (headOf s) (length (segments s))) (ne-eqb (first (recordTests d s)) 0 z);
       store = λ n flush. refl;
       update = λ n. refl;
       mend = λ n. refl;

@@ -15,7 +15,7 @@ use Rattle.block.specs.Block.{reading}
 use Rattle.block.specs.Writing.{writeTests}
 use Rattle.copy.specs.Copy.{copyReading}
 use Rattle.discovery.specs.Discovery.{discovery, readAnswer}
-use Rattle.items.specs.declared.Head.the-variants.{Plain}
+use Rattle.items.specs.declared.Head.the-variants.{Plain, Marked}
 use Rattle.items.specs.Making as Making
 use Rattle.items.specs.Making.{beginTests}
 use Rattle.sectors.specs.Apply.{applyTests}
@@ -55,6 +55,7 @@ pub record Bare : Type 0 where
   pub apply : (d : Device) (content f b : List ℕ) → NoClash (plain (first (applyTests d content f b)))
   pub lay : (c r : List ℕ) → NoClash (plain (first (layTests c r)))
   pub record-begin : (out : List ℕ) (size : ℕ) → NoClash (plain (first (beginTests out (Plain size))))
+  pub record-begin-marked : (out : List ℕ) (size mark : ℕ) → NoClash (plain (first (beginTests out (Marked size mark))))
   pub record-put : (out : List ℕ) (i : ℕ) → NoClash (putAnswer (Making.putAnswer out i) .refusal)
   pub update-store : (p : UpdatePlan) (f b r : List ℕ) (i : ℕ) (out : List ℕ)
       → NoClash (storeAnswer (Update.storeAnswer (updateFrom p) f b r i out) (Update.flushAfter (updateFrom p) i) .refusal)

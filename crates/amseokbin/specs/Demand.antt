@@ -35,7 +35,7 @@ use Rattle.discovery.specs.declared.Answer.the-variants.{Found, Refused}
 use Rattle.discovery.specs.Discovery.{sized, discovery, inStep, copyOn}
 use Rattle.discovery.specs.Answers.{answerNumber, answerValues}
 use Rattle.items.specs.declared.Put.{Put}
-use Rattle.items.specs.Head.{headOf, blockSize}
+use Rattle.items.specs.Head.{headOf, headKind, blockSize, lowWater}
 use Rattle.items.specs.Items.{segments}
 use Rattle.record.specs.Accept.{recordTests, named}
 use Rattle.items.specs.Making.{putNumber, putValues}
@@ -49,6 +49,8 @@ use Rattle.allocation.specs.declared.Allocation.{Allocation}
 use Rattle.allocation.specs.declared.Released.{Released}
 use Rattle.allocation.specs.Answers.{totalRefusal, totalValues, runsRefusal, runsValues, runRefusal, runValues}
 use Rattle.allocation.specs.Change.{allocationRefusal, allocationValues, releaseRefusal, releaseValues}
+use Rattle.heads.specs.declared.Changed.{Changed}
+use Rattle.heads.specs.Changing.{changedRefusal, changedValues}
 use Rattle.crash.specs.Crash.{Sectors, Groups, stores, storeIn, groupStart}
 use Rattle.stores.specs.declared.Given.{Given}
 use Rattle.stores.specs.declared.Given.the-variants as Given
@@ -122,6 +124,7 @@ pub record Telling : Type 0 where
   pub run : (a : RunFound) → Told (Room.runAnswer a .refusal) (runRefusal a) (Room.runAnswer a .run .start ∷ Room.runAnswer a .run .sectors ∷ []) (runValues a)
   pub allocation : (a : Allocation)
       → Told (Room.allocationAnswer a .refusal) (allocationRefusal a) (Room.allocationAnswer a .start ∷ Room.allocationAnswer a .length ∷ []) (allocationValues a)
+  pub changed : (a : Changed) → Told (Records.changedAnswer a .refusal) (changedRefusal a) (Records.changedAnswer a .length ∷ []) (changedValues a)
   pub release : (a : Released) → Told (Room.releasedAnswer a .refusal) (releaseRefusal a) (Room.releasedAnswer a .length ∷ []) (releaseValues a)
 
 -- What is in an answer beside those: the UUIDs of a block, what a copy says of its areas, whether two copies are in step, what a head says.
@@ -132,7 +135,8 @@ pub record Saying : Type 0 where
       ≡ record { refusal = plain 0; block = blockAnswer (r .block) .block; a = r .a; b = r .b; present = presentNumber (r .present) }
   pub step : (f b : List ℕ) → sized f b ≡ true → stepAnswer f b ≡ record { refusal = plain 0; step = inStep f b }
   pub head : (d : Device) (s : List ℕ) → first (recordTests d s) ≡ 0
-      → Records.headAnswer d s ≡ record { refusal = plain 0; size = blockSize (headOf s); segments = length (segments s) }
+      → Records.headAnswer d s
+      ≡ record { refusal = plain 0; kind = headKind (headOf s); size = blockSize (headOf s); mark = lowWater (headOf s); segments = length (segments s) }
 
 -- A refusal has zero in every other field, to the letter. What stands beside its number is `Telling` (the library's) and, by meaning, `Pairs`.
 pub record Zeroing : Type 0 where
@@ -144,7 +148,7 @@ pub record Zeroing : Type 0 where
       ≡ record { refusal = plain n; side = 0; area = 0; other = 0; bytes = 0; time = record { seconds = 0; nanoseconds = 0 }; block = noBlock }
   pub step : (f b : List ℕ) → sized f b ≡ false → stepAnswer f b ≡ record { refusal = plain 1; step = false }
   pub head : (d : Device) (s : List ℕ) → (first (recordTests d s) ≡ 0 → ⊥)
-      → Records.headAnswer d s ≡ record { refusal = named (first (recordTests d s)) s; size = 0; segments = 0 }
+      → Records.headAnswer d s ≡ record { refusal = named (first (recordTests d s)) s; kind = 0; size = 0; mark = 0; segments = 0 }
   pub store : (n : ℕ) (flush : Bool) → storeAnswer (Given.Refused n) flush ≡ record { refusal = plain n; sector = 0; flush = false }
   pub update : (q : Refusal) → updateAnswer (Planned.Refused q) ≡ record { refusal = q; plan = record { entry = noEntry; front = 0; back = 0 } }
   pub mend : (n : ℕ) → mendAnswer (Mended.Refused n) ≡ record { refusal = plain n; plan = record { bytes = 0; needed = 0; kept = 0; area = 0; last = 0 } }

@@ -12,7 +12,9 @@ use Rattle.items.specs.Items as Items
 use Rattle.record.specs.Accept.{recordTests, named}
 use Rattle.record.specs.Answers as Record
 use Rattle.allocation.specs.Answers as Runs
-use Rattle.allocation.specs.Change as Change
+use Rattle.allocation.specs.Change as Allocation
+use Rattle.heads.specs.declared.Change.{Change}
+use Rattle.heads.specs.Changing.{changeAnswer}
 use Rattle.update.specs.Update.{updateNumber}
 use Rattle.update.specs.Plan as Update
 use Rattle.format.specs.Format.{formatNumber}
@@ -36,8 +38,9 @@ pub record Pairs (d : Device) (s : List ℕ) : Type 0 where
   pub run-count : PairOf (Room.runsAnswer (Runs.runsAnswer d s) .refusal) s
   pub run-at : (k : ℕ) → PairOf (Room.runAnswer (Runs.runAnswer d s k) .refusal) s
   pub first-fit : (m : ℕ) → PairOf (Room.runAnswer (Runs.fitAnswer d s m) .refusal) s
-  pub allocate : (k m w : ℕ) → PairOf (Room.allocationAnswer (Change.allocateAnswer d s k m w) .refusal) s
-  pub release : (p w : ℕ) → PairOf (Room.releasedAnswer (Change.releaseAnswer d s p w) .refusal) s
+  pub allocate : (k m w : ℕ) → PairOf (Room.allocationAnswer (Allocation.allocateAnswer d s k m w) .refusal) s
+  pub release : (p w : ℕ) → PairOf (Room.releasedAnswer (Allocation.releaseAnswer d s p w) .refusal) s
+  pub head-change : (c : Change) (w : ℕ) → PairOf (Records.changedAnswer (changeAnswer d s c w) .refusal) s
   pub update-check : (f b : List ℕ) (t : Time) → PairOf (named (updateNumber f b t s) s) s
   pub update-plan : (f b : List ℕ) (t : Time) → PairOf (updateAnswer (Update.planned f b t s) .refusal) s
   pub format : (f b p u : List ℕ) (t : Time) → PairOf (named (formatNumber f b d p u t s) s) s

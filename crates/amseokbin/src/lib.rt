@@ -4,6 +4,7 @@ mod blocks;
 mod copies;
 mod formats;
 mod mends;
+mod moves;
 mod records;
 mod room;
 mod storing;
@@ -120,11 +121,13 @@ pub struct MendAnswer {
     pub plan: MendPlan,
 }
 
-// A record's data block size, and its number of segments.
+// The kind of a record's head, its data block size and low water mark, and the record's number of segments.
 #[repr(C)]
 pub struct HeadAnswer {
     pub refusal: Refusal,
+    pub kind: u16,
     pub size: u32,
+    pub mark: u32,
     pub segments: u64,
 }
 
@@ -171,9 +174,9 @@ pub struct AllocationAnswer {
 // The version, as the header's AMSEOKBIN_VERSION has it: the major number times 65,536, and the minor number.
 #[no_mangle]
 pub extern "C" fn amseokbin_version() -> u32
-    ensures { λ r. ⌜ r ≡ 2 ⌝ }
+    ensures { λ r. ⌜ r ≡ 3 ⌝ }
 {
-    2
+    3
 }
 
 // What a refusal number says.

@@ -3,7 +3,7 @@ ghost use mathlib.Core.Path.{_≡_};
 ghost use lib.ListN.{length};
 ghost use Rattle.refusal.specs.Tests.{first};
 ghost use Rattle.refusal.specs.Refusals.{plain};
-ghost use Rattle.items.specs.declared.Head.the-variants.{Plain};
+ghost use Rattle.items.specs.declared.Head.the-variants.{Plain, Marked};
 ghost use Rattle.items.specs.Making.{beginTests, begun, putAnswer, putLeft};
 ghost use Rattle.record.specs.Accept.{recordTests, named};
 ghost use Rattle.record.specs.Answers.{segmentAnswer, segmentsAnswer, segmentsLeft};
@@ -28,7 +28,7 @@ pub extern "C" fn amseokbin_record_check(device: Device, content: &[u8]) -> Refu
     record::check(device, content)
 }
 
-// What an accepted record says: its data block size, its number of segments.
+// What an accepted record says: the kind of its head, its data block size and low water mark, its number of segments.
 #[no_mangle]
 pub extern "C" fn amseokbin_record_head(device: Device, content: &[u8]) -> HeadAnswer
     ensures { λ r. ⌜ r ≡ Told.headAnswer device (now (content .entry)) ⌝ }
@@ -37,13 +37,18 @@ pub extern "C" fn amseokbin_record_head(device: Device, content: &[u8]) -> HeadA
     if refusal.number != 0 {
         return HeadAnswer {
             refusal,
+            kind: 0,
             size: 0,
+            mark: 0,
             segments: 0,
         };
     }
+    let h = items::head_of(content);
     HeadAnswer {
         refusal: refusal::plain(0),
-        size: items::block_size(items::head_of(content)),
+        kind: items::head_kind(h),
+        size: items::block_size(h),
+        mark: items::low_water(h),
         segments: items::count_of(content) as u64,
     }
 }
@@ -95,13 +100,22 @@ pub extern "C" fn amseokbin_record_segments(
     }
 }
 
-// Begins a record with its data block size.
+// Begins a record with its data block size: a head of kind 16.
 #[no_mangle]
 pub extern "C" fn amseokbin_record_begin(content: &mut [u8], size: u32) -> Refusal
     ensures { λ r. ⌜ r ≡ plain (first (beginTests (now (content .entry)) (Plain size))) ⌝ }
     ensures { λ _. ⌜ now (content .exit) ≡ begun (now (content .entry)) (Plain size) ⌝ }
 {
     refusal::plain(items::begin(content, Head::Plain(size)))
+}
+
+// Begins a record with its data block size and a low water mark: a head of kind 17.
+#[no_mangle]
+pub extern "C" fn amseokbin_record_begin_marked(content: &mut [u8], size: u32, mark: u32) -> Refusal
+    ensures { λ r. ⌜ r ≡ plain (first (beginTests (now (content .entry)) (Marked size mark))) ⌝ }
+    ensures { λ _. ⌜ now (content .exit) ≡ begun (now (content .entry)) (Marked size mark) ⌝ }
+{
+    refusal::plain(items::begin(content, Head::Marked(size, mark)))
 }
 
 // Puts a segment at a position of a record that was begun in a buffer.

@@ -2,3 +2,4 @@
 pub mod Chain
 pub mod Unread
 pub mod InMemory
+pub mod Heads

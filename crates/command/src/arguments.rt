@@ -13,6 +13,8 @@ pub(crate) enum Word {
     Mend,
     Allocate,
     Release,
+    Head,
+    Mark,
     Update,
     Record,
     Dump,
@@ -40,12 +42,14 @@ pub(crate) const RESERVED: usize = 6;
 
 pub(crate) const BLOCK: usize = 7;
 
-pub(crate) const WIDTH: usize = 8;
+pub(crate) const LOW_WATER: usize = 8;
 
-const PLACES: usize = 9;
+pub(crate) const WIDTH: usize = 9;
+
+const PLACES: usize = 10;
 
 // No place: no option waits for its value.
-const NOWHERE: usize = 9;
+const NOWHERE: usize = 10;
 
 // What may follow a word: how many arguments have to, whether it writes to the image and so takes --dry-run, which last words it
 // takes, and whether it has the options of `format` or of `show`.
@@ -67,7 +71,7 @@ pub(crate) struct Request {
     pub plain: bool,
     pub replace: bool,
     pub unreadable: bool,
-    pub at: [usize; 9],
+    pub at: [usize; 10],
     pub given: usize,
     // The place of the option whose value comes next.
     pub next: usize,
@@ -96,14 +100,20 @@ pub(crate) fn word_of(s: &[u8]) -> Word {
     if endian::same(s, b"release") {
         return Word::Release;
     }
-    if endian::same(s, b"update") {
-        return Word::Update;
-    }
     word_after(s)
 }
 
 // The same, of the other words.
 fn word_after(s: &[u8]) -> Word {
+    if endian::same(s, b"head") {
+        return Word::Head;
+    }
+    if endian::same(s, b"mark") {
+        return Word::Mark;
+    }
+    if endian::same(s, b"update") {
+        return Word::Update;
+    }
     if endian::same(s, b"record") {
         return Word::Record;
     }
@@ -166,6 +176,8 @@ pub(crate) fn rules_of(w: Word) -> Rules {
         Word::Mend => writing(1, false, true, false),
         Word::Allocate => writing(3, false, false, false),
         Word::Release => writing(2, false, false, false),
+        Word::Head => writing(2, false, false, false),
+        Word::Mark => writing(2, false, false, false),
         Word::Update => writing(2, false, false, false),
         Word::Record => reading(1),
         Word::Dump => reading(1),
@@ -187,7 +199,7 @@ fn begun(word: Word) -> Request {
         plain: false,
         replace: false,
         unreadable: false,
-        at: [0usize; 9],
+        at: [0usize; 10],
         given: 0,
         next: NOWHERE,
     }
@@ -281,6 +293,9 @@ fn place_of(r: Rules, s: &[u8]) -> usize {
     }
     if endian::same(s, b"--block") {
         return BLOCK;
+    }
+    if endian::same(s, b"--low-water") {
+        return LOW_WATER;
     }
     NOWHERE
 }

@@ -1,5 +1,5 @@
-// The words `update`, `allocate` and `release`: a new record in place of the present one, by an update that survives a power cut.
-// Assumes what `libc` and `os` do.
+// The words `update`, `allocate`, `release`, `head` and `mark`: a new record in place of the present one, by an update that survives
+// a power cut. Assumes what `libc` and `os` do.
 use crate::after;
 use crate::after::Expected;
 use crate::copies;
@@ -16,6 +16,9 @@ use allocation::Allocation;
 use allocation::Released;
 use block::Time;
 use discovery::Answer;
+use heads::Change;
+use heads::Changed;
+use refusal::Refusal;
 use segments::Segment;
 use text::Text;
 use update::Planned;
@@ -56,6 +59,12 @@ pub(crate) fn sure(path: &[u8], look: Look) -> bool {
     look.sure
 }
 
+// The update that puts a record in place of the present one, or its refusal.
+fn planned(now: Time, front: &[u8], back: &[u8], r: &[u8]) -> Planned {
+    let t = new_time(now, facts::found_time(front, back));
+    update::work_out(front, back, t, r)
+}
+
 // Puts a record in place of the present one, or lists the stores that would.
 fn apply(
     path: &[u8],
@@ -67,10 +76,9 @@ fn apply(
     back: &[u8],
     r: &[u8],
 ) -> u8 {
-    let t = new_time(now, facts::found_time(front, back));
-    let planned = update::work_out(front, back, t, r);
-    let Planned::Plan(p) = planned else {
-        return refused(path, look, planned, r);
+    let a = planned(now, front, back, r);
+    let Planned::Plan(p) = a else {
+        return refused(path, look, a, r);
     };
     let w = Work::Change(p);
     let mut list = [0u8; storing::LIST];
@@ -85,9 +93,10 @@ fn apply(
     if !(ok & all) {
         return facts::nothing_stored(path);
     }
+    let h = p.entry;
     let e = Expected {
         given: true,
-        time: t,
+        time: facts::time_of(h),
     };
     after::carried_out(path, look.fd, w, &list, b"updated: ", e)
 }
@@ -224,14 +233,71 @@ fn release_in(
     }
 }
 
-// What is asked of the segments: a new one of a kind and so many sectors, or the one at a position given back.
+// The words `head` and `mark`, of a record that was found.
+fn head_in(
+    path: &[u8],
+    look: Look,
+    now: Time,
+    dry: bool,
+    change: Change,
+    front: &[u8],
+    back: &[u8],
+    r: &[u8],
+) -> u8 {
+    let mut out = [0u8; copies::RECORD];
+    let a = heads::rewrite(look.device, r, change, &mut out);
+    match a {
+        Changed::Refused(n) => refused_head(path, look, n, r),
+        Changed::Length(len) => {
+            let s = endian::window(&out, 0, len);
+            let t = sentences::head_line(s);
+            if endian::same(r, s) {
+                return unchanged(path, look, now, t, front, back, s);
+            }
+            apply(path, look, now, dry, t, front, back, s)
+        }
+    }
+}
+
+// Says that the record stays as it is, where an update could put another in its place.
+fn unchanged(
+    path: &[u8],
+    look: Look,
+    now: Time,
+    before: Text,
+    front: &[u8],
+    back: &[u8],
+    r: &[u8],
+) -> u8 {
+    let a = planned(now, front, back, r);
+    let Planned::Plan(_) = a else {
+        return refused(path, look, a, r);
+    };
+    let ok = print(true, before.add(b"the same record: nothing to store\n"));
+    facts::unless(ok, facts::FAILED)
+}
+
+// The refusal of another head for the record r. An accepted one is refused with 17 where its head has no low water mark.
+fn refused_head(path: &[u8], look: Look, n: Refusal, r: &[u8]) -> u8 {
+    let accepted = record::check(look.device, r).number == 0;
+    if accepted & (n.number == refusal::RECORD_FORM) {
+        note(path, sentences::no_mark());
+        return facts::REFUSED;
+    }
+    facts::refuse_record(path, n, r)
+}
+
+// What is asked of the record: a new segment of a kind and so many sectors, the one at a position given back, another head, or
+// nothing that is known.
 pub(crate) enum Wish {
     Allocate(u16, u64),
     Release(u64),
+    Head(Change),
+    Nothing,
 }
 
-// The words `allocate` and `release`.
-pub(crate) fn segment_word(
+// The words `allocate`, `release`, `head` and `mark`.
+pub(crate) fn wish_word(
     path: &[u8],
     look: Look,
     now: Time,
@@ -254,6 +320,8 @@ pub(crate) fn segment_word(
             allocate_in(path, look, now, dry, kind, sectors, front, back, s)
         }
         Wish::Release(position) => release_in(path, look, now, dry, position, front, back, s),
+        Wish::Head(change) => head_in(path, look, now, dry, change, front, back, s),
+        Wish::Nothing => facts::USAGE,
     }
 }
 

@@ -113,7 +113,7 @@ fn print_side(ok: bool, side: Side, c: &[u8], marks: &[u8], p: When) -> bool {
     print_unknown(a, side)
 }
 
-// Prints whether the found record r is accepted, with its refusal n, and how many segments it has.
+// Prints whether the found record r is accepted, with its refusal n, and how many segments and which head it has.
 fn print_record(ok: bool, n: Refusal, look: Look, r: &[u8]) -> bool {
     if n.number != 0 {
         return print(
@@ -122,13 +122,14 @@ fn print_record(ok: bool, n: Refusal, look: Look, r: &[u8]) -> bool {
         );
     }
     let k = facts::segments(look, r);
-    print(
+    let a = print(
         ok,
         Text::new()
             .add(b"record accepted, ")
             .decimal(k)
             .add(b" segments\n"),
-    )
+    );
+    print(a, sentences::head_line(r))
 }
 
 // What is wrong with the copies, on standard error.

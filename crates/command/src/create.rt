@@ -23,6 +23,8 @@ pub(crate) struct Wanted {
     pub metadata: u64,
     pub reserved: u64,
     pub block: u64,
+    pub marked: bool,
+    pub mark: u32,
     pub replace: bool,
     pub dry: bool,
     pub now: Time,
@@ -201,10 +203,18 @@ fn write(fd: i32, path: &[u8], d: Device, w: Wanted, front: &[u8], back: &[u8]) 
     )
 }
 
-// Formats an open image.
-fn make(fd: i32, path: &[u8], d: Device, block: u32, w: Wanted) -> u8 {
-    let mut r = [0u8; 8];
-    let begun = items::begin(&mut r, Head::Plain(block));
+// The head of the new record: of kind 17 where a low water mark is asked for.
+fn head_for(block: u32, w: Wanted) -> Head {
+    if w.marked {
+        return Head::Marked(block, w.mark);
+    }
+    Head::Plain(block)
+}
+
+// Formats an open image, with a record that has this head and no segments.
+fn make(fd: i32, path: &[u8], d: Device, h: Head, w: Wanted) -> u8 {
+    let mut bytes = [0u8; items::MARKED_HEAD_BYTES];
+    let begun = items::begin(&mut bytes, h);
     if begun != 0 {
         let t = Text::new().add(b"refused ").decimal(begun as u64);
         note(
@@ -213,14 +223,15 @@ fn make(fd: i32, path: &[u8], d: Device, block: u32, w: Wanted) -> u8 {
         );
         return facts::REFUSED;
     }
+    let r = endian::window(&bytes, 0, items::head_size(h));
     let pool = w.pool;
     let uuid = w.device;
     let mut front = [0u8; copies::BYTES];
     let mut back = [0u8; copies::BYTES];
     let now = w.now;
-    let n = format::format_copies(&mut front, &mut back, d, &pool, &uuid, now, &r);
+    let n = format::format_copies(&mut front, &mut back, d, &pool, &uuid, now, r);
     if n.number != 0 {
-        return facts::refuse_record(path, n, &r);
+        return facts::refuse_record(path, n, r);
     }
     let status = if w.replace {
         facts::WELL
@@ -247,5 +258,5 @@ pub(crate) fn run(path: &[u8], fd: i32, w: Wanted) -> u8 {
         metadata: (w.metadata % 4294967296) as u32,
         reserved: (w.reserved % 4294967296) as u32,
     };
-    make(fd, path, d, (block % 4294967296) as u32, w)
+    make(fd, path, d, head_for((block % 4294967296) as u32, w), w)
 }

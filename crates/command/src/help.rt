@@ -5,31 +5,33 @@ use crate::facts;
 use crate::say::complain;
 use crate::say::put;
 
-// The page for all words.
+// The page for all words. Blanks at the start of a line stand before the end of the one above: after it they are left out.
 fn overview(ok: bool) -> bool {
     let a = put(
         ok,
         b"usage: amseokbin WORD IMAGE ..   IMAGE is a drive image or a block device\n\
 \n\
 Finds, checks, updates and repairs the pool metadata of a drive in the Stratis 0.6 layout.\n\
-\n\
-  find IMAGE                 the newest whole record, and whose pool it is\n\
-  check IMAGE                both copies, all four areas, and what mend would do; only reads\n\
-  show IMAGE                 the pool for people: segments, free room, a picture\n\
-  format IMAGE               a new pool with an empty record\n\
-  mend IMAGE                 brings the two copies in step\n\
-  allocate IMAGE KIND SIZE   a new segment, in the first free run that is long enough\n\
-  release IMAGE POSITION     gives a segment's room back\n",
+\n  \
+find IMAGE                 the newest whole record, and whose pool it is\n  \
+check IMAGE                both copies, all four areas, and what mend would do; only reads\n  \
+show IMAGE                 the pool for people: segments, free room, a picture\n  \
+format IMAGE               a new pool with an empty record\n  \
+mend IMAGE                 brings the two copies in step\n  \
+allocate IMAGE KIND SIZE   a new segment, in the first free run that is long enough\n  \
+release IMAGE POSITION     gives a segment's room back\n",
     );
     let b = put(
         a,
-        b"  update IMAGE RECORD        puts the record in a file in place of the present one\n\
-  record IMAGE               the present record's bytes\n\
-  dump IMAGE                 both copies' bytes, as the program dump reads them\n\
-  backup IMAGE FILE          keeps both copies in a file\n\
-  restore IMAGE FILE         puts them back\n\
-  help [WORD]                this page, or a word's\n\
-  version\n\
+        b"  head IMAGE up|back         moves the record's head to kind 17, or back to kind 16\n  \
+mark IMAGE BLOCKS          sets the low water mark, which a head of kind 17 has\n  \
+update IMAGE RECORD        puts the record in a file in place of the present one\n  \
+record IMAGE               the present record's bytes\n  \
+dump IMAGE                 both copies' bytes, as the program dump reads them\n  \
+backup IMAGE FILE          keeps both copies in a file\n  \
+restore IMAGE FILE         puts them back\n  \
+help [WORD]                this page, or a word's\n  \
+version\n\
 \n",
     );
     put(
@@ -46,11 +48,13 @@ fn usage_of(w: Word) -> bool {
         Word::Check => put_error(b"check IMAGE\n"),
         Word::Show => put_error(b"show IMAGE [--plain] [--width N]\n"),
         Word::Format => put_error(
-            b"format IMAGE [--pool UUID] [--device UUID] [--metadata SIZE] [--reserved SIZE] [--block SIZE] [--dry-run] [replace]\n",
+            b"format IMAGE [--pool UUID] [--device UUID] [--metadata SIZE] [--reserved SIZE] [--block SIZE] [--low-water BLOCKS] [--dry-run] [replace]\n",
         ),
         Word::Mend => put_error(b"mend IMAGE [--dry-run] [unreadable]\n"),
         Word::Allocate => put_error(b"allocate IMAGE KIND SIZE [--dry-run]\n"),
         Word::Release => put_error(b"release IMAGE POSITION [--dry-run]\n"),
+        Word::Head => put_error(b"head IMAGE up|back [--dry-run]\n"),
+        Word::Mark => put_error(b"mark IMAGE BLOCKS [--dry-run]\n"),
         Word::Update => put_error(b"update IMAGE RECORD [--dry-run]\n"),
         Word::Record => put_error(b"record IMAGE\n"),
         Word::Dump => put_error(b"dump IMAGE\n"),
@@ -86,14 +90,14 @@ a newer record that is torn, a record that is no segment record.\n",
             b"usage: amseokbin check IMAGE\n\
 \n\
 Reads both copies and prints for each its block and its two areas: whole, torn, unused, unread or unknown, the bytes\n\
-and the time of each; what is found; whether the record is accepted; whether the copies are in step; what mend would do. Status 0\n\
-only where all is well.\n",
+and the time of each; what is found; whether the record is accepted, and its head; whether the copies are in step; what\n\
+mend would do. Status 0 only where all is well.\n",
         ),
         Word::Show => put(
             true,
             b"usage: amseokbin show IMAGE [--plain] [--width N]\n\
 \n\
-Shows the pool for people: identity, time, every segment, what is free, and a picture of the drive, as wide as the\n\
+Shows the pool for people: identity, time, head, every segment, what is free, and a picture of the drive, as wide as the\n\
 terminal or N characters, 20 to 240. --plain prints one key=value a line instead, for scripts.\n",
         ),
         Word::Format => format_page(),
@@ -112,13 +116,14 @@ all that matters of the copy that is kept has to be readable.\n",
 fn format_page() -> bool {
     put(
         true,
-        b"usage: amseokbin format IMAGE [--pool UUID] [--device UUID] [--metadata SIZE] [--reserved SIZE] [--block SIZE]\n\
-                        [--dry-run] [replace]\n\
+        b"usage: amseokbin format IMAGE [--pool UUID] [--device UUID] [--metadata SIZE] [--reserved SIZE] [--block SIZE]\n                        \
+[--low-water BLOCKS] [--dry-run] [replace]\n\
 \n\
 Makes a new pool with a record that has no segments. Where the two ends of the drive are not readable and zero, nothing\n\
 is written, unless the word replace is given. A UUID is 32 hex digits, with or without dashes; where none is given it is\n\
 made at random. The metadata size is 2040 sectors, the reserved size 0 and the block size 128 where they are not given.\n\
-A SIZE is in sectors, or has K, M, G or T behind it.\n",
+A SIZE is in sectors, or has K, M, G or T behind it. With --low-water the record's head is of kind 17, with that low water\n\
+mark, 0 to 4294967295; without it of kind 16, which has none.\n",
     )
 }
 
@@ -136,6 +141,21 @@ thin-metadata, thin-data, spare or metadata-volume, or 1 to 4; SIZE is in sector
             b"usage: amseokbin release IMAGE POSITION [--dry-run]\n\
 \n\
 Removes the segment at a position, counted from 0 as show lists them, by an update that survives a power cut.\n",
+        ),
+        Word::Head => put(
+            true,
+            b"usage: amseokbin head IMAGE up|back [--dry-run]\n\
+\n\
+Moves the record's head, by an update that survives a power cut: up to kind 17, with the low water mark 0, or back to kind\n\
+16, which has no mark. A mark other than 0 is not lost: amseokbin mark IMAGE 0 comes first. Segments and block size stay.\n\
+Where the head is of that kind already, nothing is stored.\n",
+        ),
+        Word::Mark => put(
+            true,
+            b"usage: amseokbin mark IMAGE BLOCKS [--dry-run]\n\
+\n\
+Sets the low water mark, 0 to 4294967295 blocks, by an update that survives a power cut. Only a head of kind 17 has one:\n\
+amseokbin head IMAGE up makes it. Where the mark is that already, nothing is stored.\n",
         ),
         Word::Update => put(
             true,
@@ -189,7 +209,7 @@ pub(crate) fn run(i: usize) -> u8 {
 // The version.
 pub(crate) fn version() -> u8 {
     facts::unless(
-        put(true, b"amseokbin 0.2, for the Stratis 0.6 layout\n"),
+        put(true, b"amseokbin 0.3, for the Stratis 0.6 layout\n"),
         facts::FAILED,
     )
 }

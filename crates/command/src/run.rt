@@ -17,6 +17,7 @@ use crate::repair;
 use crate::say::complain;
 use crate::show;
 use block::Time;
+use heads::Change;
 use text::Text;
 use words::Number;
 
@@ -105,6 +106,45 @@ fn kind_of(i: usize) -> u16 {
     k
 }
 
+// Reads an argument as a low water mark in blocks, 0 where it is not given. It is said where it is none.
+fn blocks_of(i: usize) -> Size {
+    let n = number_of(i, 0);
+    if n.value <= 4294967295 {
+        return n;
+    }
+    complain(b"amseokbin: a low water mark is 0 to 4294967295 blocks\n");
+    Size {
+        good: false,
+        value: 0,
+    }
+}
+
+fn mark_of(i: usize) -> u32 {
+    (blocks_of(i).value % 4294967296) as u32
+}
+
+// Reads an argument as the way that a head is moved: what it asks for. It is said where it is none.
+fn move_of(i: usize) -> Wish {
+    let mut buffer = io::buffer();
+    let n = argument(i, &mut buffer);
+    let s = endian::window(&buffer, 0, n);
+    if endian::same(s, b"up") {
+        return Wish::Head(Change::Up);
+    }
+    if endian::same(s, b"back") {
+        return Wish::Head(Change::Back);
+    }
+    arguments::bad_value(s, Text::new().add(b" is neither up nor back"));
+    Wish::Nothing
+}
+
+fn asks(wish: Wish) -> bool {
+    match wish {
+        Wish::Nothing => false,
+        _ => true,
+    }
+}
+
 // 32 random digits; whether there are any.
 struct Name {
     good: bool,
@@ -161,15 +201,18 @@ pub(crate) fn values_good(p: Request) -> bool {
     let w = p.word;
     let sizes = size_of(at(p, arguments::METADATA), 0).good
         & (size_of(at(p, arguments::RESERVED), 0).good & size_of(at(p, arguments::BLOCK), 0).good);
+    let mark = blocks_of(at(p, arguments::LOW_WATER)).good;
     let names = name_good(at(p, arguments::POOL)) & name_good(at(p, arguments::DEVICE));
     let width = width_good(at(p, arguments::WIDTH));
     let own = match w {
         Word::Allocate => (kind_of(at(p, arguments::SECOND)) != 0)
             & size_of(at(p, arguments::THIRD), 0).good,
         Word::Release => number_of(at(p, arguments::SECOND), 0).good,
+        Word::Head => asks(move_of(at(p, arguments::SECOND))),
+        Word::Mark => blocks_of(at(p, arguments::SECOND)).good,
         _ => true,
     };
-    (sizes & names) & (width & own)
+    ((sizes & mark) & names) & (width & own)
 }
 
 fn width_good(i: usize) -> bool {
@@ -204,6 +247,8 @@ fn format_word(path: &[u8], p: Request, g: Given) -> u8 {
         metadata: size_of(at(p, arguments::METADATA), 2040).value,
         reserved: size_of(at(p, arguments::RESERVED), 0).value,
         block: size_of(at(p, arguments::BLOCK), 128).value,
+        marked: at(p, arguments::LOW_WATER) != 0,
+        mark: mark_of(at(p, arguments::LOW_WATER)),
         replace: p.replace,
         dry: p.dry,
         now: now,
@@ -270,11 +315,19 @@ fn with_copies(
                 kind_of(at(p, arguments::SECOND)),
                 size_of(at(p, arguments::THIRD), 0).value,
             );
-            change::segment_word(path, look, now, p.dry, wish, front, back)
+            change::wish_word(path, look, now, p.dry, wish, front, back)
         }
         Word::Release => {
             let wish = Wish::Release(number_of(at(p, arguments::SECOND), 0).value);
-            change::segment_word(path, look, now, p.dry, wish, front, back)
+            change::wish_word(path, look, now, p.dry, wish, front, back)
+        }
+        Word::Head => {
+            let wish = move_of(at(p, arguments::SECOND));
+            change::wish_word(path, look, now, p.dry, wish, front, back)
+        }
+        Word::Mark => {
+            let wish = Wish::Head(Change::Mark(mark_of(at(p, arguments::SECOND))));
+            change::wish_word(path, look, now, p.dry, wish, front, back)
         }
         Word::Record => keep::record_word(path, look, front, back),
         Word::Dump => keep::dump_word(path, look, front, back),

@@ -1,4 +1,6 @@
-// What is said of a segment, and of a refusal: its number, its words, and what to do then.
+// What is said of a segment, of a head, and of a refusal: its number, its words, and what to do then.
+use crate::facts;
+use items::Head;
 use refusal::Refusal;
 use segments::Segment;
 use text::Text;
@@ -20,21 +22,59 @@ pub(crate) fn add_segment(t: Text, g: Segment) -> Text {
     u.add(b" sectors ").decimal(g.sectors)
 }
 
+// A text with a number of blocks.
+fn add_blocks(t: Text, n: u32) -> Text {
+    facts::add_count(t, n as u64, b"block")
+}
+
+// A text with the kind of the head of the record r, and its low water mark where it has one.
+pub(crate) fn add_head(t: Text, r: &[u8]) -> Text {
+    let h = items::head_of(r);
+    let u = t.add(b"kind ").decimal(items::head_kind(h) as u64);
+    match h {
+        Head::Marked(_, mark) => add_blocks(u.add(b", low water mark "), mark),
+        _ => u,
+    }
+}
+
+// The line of the head of the record r.
+pub(crate) fn head_line(r: &[u8]) -> Text {
+    add_head(Text::new().add(b"head "), r).add(b"\n")
+}
+
 // A text with the number of a refusal.
 fn numbered(t: Text, n: u8) -> Text {
     t.add(b"refused ").decimal(n as u64).add(b": ")
 }
 
-// A text with the number of a refusal, its words and its advice.
-pub(crate) fn refused(t: Text, n: u8) -> Text {
+// The same with its words.
+fn worded(t: Text, n: u8) -> Text {
     let w = refusal::words_of(n);
     let bytes = w.bytes;
-    advice(numbered(t, n).add(endian::window(&bytes, 0, w.used)), n)
+    numbered(t, n).add(endian::window(&bytes, 0, w.used))
 }
 
-// A text with the refusal of the record r: where two segments share a sector, their positions, and both as r has them. With the longest
-// first words, kinds and numbers the line has 256 bytes, all that a text has room for.
+// The same with its words and its advice.
+pub(crate) fn refused(t: Text, n: u8) -> Text {
+    advice(worded(t, n), n)
+}
+
+// The refusal of a low water mark for a head that has none.
+pub(crate) fn no_mark() -> Text {
+    numbered(Text::new(), refusal::RECORD_FORM).add(
+        b"the head has no low water mark; amseokbin head IMAGE up gives it one",
+    )
+}
+
+// A text with the refusal of the record r: where its low water mark would be lost, that mark; where two segments share a sector, their
+// positions, and both as r has them. With the longest first words, kinds and numbers that line has 256 bytes, all that a text has room
+// for.
 pub(crate) fn refused_record(t: Text, n: Refusal, r: &[u8]) -> Text {
+    if n.number == refusal::HEAD_MOVE {
+        let mark = items::low_water(items::head_of(r));
+        let u = add_blocks(worded(t, n.number).add(b", "), mark);
+        return advice(u, n.number);
+    }
     if n.number != refusal::SEGMENT_CLASH {
         return refused(t, n.number);
     }
@@ -77,6 +117,7 @@ fn later_advice(t: Text, n: u8) -> Text {
             .decimal(items::MOST_SEGMENTS as u64)
             .add(b"; release one first"),
         22 => t.add(b"; show lists them, counted from 0"),
+        24 => t.add(b"; amseokbin mark IMAGE 0 comes first"),
         _ => t,
     }
 }

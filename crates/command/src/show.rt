@@ -12,6 +12,7 @@ use block::Reading;
 use discovery::Answer;
 use discovery::Finding;
 use discovery::Other;
+use items::Head;
 use refusal::Refusal;
 use runs::Run;
 use segments::Segment;
@@ -188,7 +189,7 @@ fn uuids(ok: bool, first: &[u8], second: &[u8], q: Reading) -> bool {
 }
 
 // The first lines of the plain form: identity, place and time.
-fn plain_head(look: Look, s: Shown, q: Reading) -> bool {
+fn plain_first(look: Look, s: Shown, q: Reading) -> bool {
     let d = look.device;
     let f = s.found;
     let side = f.side;
@@ -239,13 +240,19 @@ fn plain_clash(ok: bool, n: Refusal) -> bool {
     )
 }
 
+// The lines of the head of an accepted record.
+fn plain_head(ok: bool, h: Head) -> bool {
+    let a = pair(ok, b"head", items::head_kind(h) as u64);
+    let b = pair(a, b"block-size", items::block_size(h) as u64);
+    match h {
+        Head::Marked(_, mark) => pair(b, b"low-water", mark as u64),
+        _ => b,
+    }
+}
+
 // The lines of an accepted record.
 fn plain_record(ok: bool, look: Look, r: &[u8]) -> bool {
-    let a = pair(
-        ok,
-        b"block-size",
-        items::block_size(items::head_of(r)) as u64,
-    );
+    let a = plain_head(ok, items::head_of(r));
     let b = pair(a, b"segments", items::count_of(r) as u64);
     let c = segments(b, true, r);
     let d = pair(c, b"allocated", allocated(look, r));
@@ -255,7 +262,7 @@ fn plain_record(ok: bool, look: Look, r: &[u8]) -> bool {
 }
 
 fn plain(look: Look, s: Shown, q: Reading, r: &[u8]) -> bool {
-    let a = plain_head(look, s, q);
+    let a = plain_first(look, s, q);
     let b = plain_state(a, look, s);
     let n = s.refusal;
     if n.number != 0 {
@@ -265,7 +272,7 @@ fn plain(look: Look, s: Shown, q: Reading, r: &[u8]) -> bool {
 }
 
 // The first lines for people.
-fn people_head(look: Look, s: Shown, q: Reading) -> bool {
+fn people_first(look: Look, s: Shown, q: Reading) -> bool {
     let d = look.device;
     let u = uuids(true, b"pool      ", b"device    ", q);
     let n = amount(u, Text::new().add(b"drive     "), d.sectors);
@@ -308,8 +315,12 @@ fn amount(ok: bool, t: Text, sectors: u64) -> bool {
 
 // The lines of an accepted record, and the picture.
 fn people_content(ok: bool, look: Look, columns: u64, r: &[u8]) -> bool {
-    let a = amount(
+    let e = print(
         ok,
+        sentences::add_head(Text::new().add(b"head      "), r).add(b"\n"),
+    );
+    let a = amount(
+        e,
         Text::new().add(b"block     "),
         items::block_size(items::head_of(r)) as u64,
     );
@@ -371,7 +382,7 @@ fn add_shared(t: Text, g: Segment, h: Segment) -> Text {
 }
 
 fn people(look: Look, s: Shown, q: Reading, r: &[u8]) -> bool {
-    let a = people_head(look, s, q);
+    let a = people_first(look, s, q);
     let n = s.refusal;
     if n.number != 0 {
         return people_refused(a, n, r);

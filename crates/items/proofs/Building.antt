@@ -1,44 +1,35 @@
 -- A record made step by step.
-use Prim.Native.Nat.{ℕ, _+_, _*_, _%_, _≤_, _<_}
-use mathlib.Core.Path.{_≡_, refl, sym, ap, ap₂, subst, _∙_}
-use mathlib.Core.Bool.{Bool, true, _&&_, true≢false}
+use Prim.Native.Nat.{ℕ, _+_, _*_, _≤_, _<_}
+use mathlib.Core.Path.{_≡_, refl, sym, ap, ap₂, _∙_}
+use mathlib.Core.Bool.{true, false, _&&_}
 use mathlib.Core.List.{List, [], _∷_, _++_, append-assoc, append-nil}
 use native.Mathlib.Omega.{arith}
 use borrow.Author.Tests.{eq-eqb, le-leb, leb-true}
 use lib.Dec.{eqb, leb, lit<}
 use lib.ListN.{length, take, drop, length-append, take-append-drop}
-use lib.Seq.{take-at}
+use lib.Seq.{take-at, drop-at}
 use Rattle.endian.specs.Bytes.{le, window, splice, fits}
 use Rattle.endian.proofs.Parts.{splice-fits, write-fits}
-use Rattle.endian.proofs.Tests.{and-both, and-right}
+use Rattle.endian.proofs.Tests.{and-both}
 use Rattle.refusal.specs.Tests.{first, AllHold}
-use Rattle.refusal.proofs.Order.{first-holds, answer-yes}
+use Rattle.refusal.proofs.Order.{first-holds, answer-no, answer-yes}
 use Rattle.segments.specs.declared.Segment.{Segment}
 use Rattle.items.specs.declared.Head.{Head}
-use Rattle.items.specs.declared.Head.the-variants.{Plain, Unknown}
 use Rattle.items.specs.declared.Put.{Put}
 use Rattle.items.specs.declared.Put.the-variants as Put
 use Rattle.items.specs.Head.{headOf, headBytes, headSize, headAllowed, itemBytes}
 use Rattle.items.specs.Making.{segmentBytes, allBytes, recordOf, place, begins, beginTests, begun, putAnswer, putLeft}
-use Rattle.items.specs.Demand.{Holds, Beginning, Building}
-use Rattle.items.proofs.Heads.{length-head, HeadFits, head-made, size-made}
-use Rattle.items.proofs.Making.{length-segment, length-record, all-append, all-one}
+use Rattle.items.specs.Demand.{Holds, Beginning, Starting, Building}
+use Rattle.items.proofs.Heads.{length-head, allowed-fits, head-made, size-made}
+use Rattle.items.proofs.Making.{length-segment, length-record, all-append, all-one, begin-short, begin-form, begin-written}
 use Rattle.items.proofs.Putting.{put-done}
 
 -- a record and one segment more
-one-more : (h : Head) (gs : List Segment) (g : Segment) → recordOf h gs ++ segmentBytes g ≡ recordOf h (gs ++ (g ∷ []))
+pub one-more : (h : Head) (gs : List Segment) (g : Segment) → recordOf h gs ++ segmentBytes g ≡ recordOf h (gs ++ (g ∷ []))
 unfolding recordOf
 one-more h gs g =
     append-assoc (headBytes h) (allBytes gs) (segmentBytes g)
     ∙ ap (λ (z : List ℕ). headBytes h ++ z) (sym (all-append gs (g ∷ []) ∙ ap (λ (z : List ℕ). allBytes gs ++ z) (all-one g)))
-
--- a head within its limits is known, and its numbers have room
-allowed-fits : (h : Head) → headAllowed h ≡ true → HeadFits h
-unfolding headAllowed
-allowed-fits (Plain b) e =
-    let l : b ≤ 2097152 = leb-true b 2097152 (and-right (leb 128 b) (leb b 2097152) (and-right (eqb (b % 128) 0) (leb 128 b && leb b 2097152) e)) in
-    (let k : b < 4294967296 = omega arith in k)
-allowed-fits Unknown e = absurd (true≢false (sym e))
 
 -- no segments
 none-yet : (h : Head) → recordOf h [] ≡ headBytes h
@@ -57,6 +48,24 @@ beginning out h e =
     let made : splice out 0 (headBytes h) ≡ headBytes h ++ drop (0 + length (headBytes h)) out = splice-fits out 0 (headBytes h) (omega arith) in
     ap₂ (λ (n : ℕ) (z : List ℕ). take n z) (ap length (none-yet h)) (sym (answer-yes (splice out 0 (headBytes h)) (λ (n : ℕ). out) 0 (first (beginTests out h)) (sym e) refl) ∙ made)
     ∙ (take-at (headBytes h) (drop (0 + length (headBytes h)) out) (length (headBytes h)) refl ∙ sym (none-yet h))
+
+pub starting : Starting
+starting out h =
+    record {
+      short = λ l. sym (begin-short out h l .0);
+      wrong = λ l e. sym (begin-form out h false l (sym e) refl .0);
+      done = λ l e. sym (begin-written out _ h true 0 l (sym e) refl (sym (write-fits out 0 (headSize h) (omega arith))) refl .0);
+      refused = λ l. sym (answer-no (splice out 0 (headBytes h)) (λ (n : ℕ). out) (first (beginTests out h)) (first (beginTests out h)) refl (λ z. omega arith));
+      past = λ e. past e;
+    }
+  where
+    past : first (beginTests out h) ≡ 0 → drop (headSize h) (begun out h) ≡ drop (headSize h) out
+    past e =
+        let k : length (headBytes h) ≡ headSize h = length-head h in
+        let t : AllHold (beginTests out h) = first-holds (beginTests out h) (lit< tt, (lit< tt, tt)) e in
+        let l : headSize h ≤ length out = room-there out (headSize h) (t .0) in
+        ap (drop (headSize h)) (sym (answer-yes (splice out 0 (headBytes h)) (λ (n : ℕ). out) 0 (first (beginTests out h)) (sym e) refl) ∙ splice-fits out 0 (headBytes h) (omega arith))
+        ∙ (drop-at (headBytes h) (drop (0 + length (headBytes h)) out) (headSize h) k ∙ ap (λ (n : ℕ). drop n out) (let q : 0 + length (headBytes h) ≡ headSize h = omega arith in q))
 
 module _ (out : List ℕ) (h : Head) (gs : List Segment) (g : Segment) (ok : headAllowed h ≡ true) (holds : Holds out h gs)
     (room : length (recordOf h gs) + 20 ≤ length out) where

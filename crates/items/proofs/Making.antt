@@ -1,50 +1,88 @@
 -- Laws of making a record: parts written one after the other, reading what was made, and making what was read.
-use Prim.Native.Nat.{ℕ, zero, suc, _+_, _-_, _*_, _/_, _%_, _^_, _≤_, _<_, min}
+use Prim.Native.Nat.{ℕ, zero, suc, _+_, _-_, _*_, _/_, _^_, _≤_, _<_}
 use mathlib.Core.Path.{_≡_, refl, sym, ap, _∙_}
-use mathlib.Core.Bool.{Bool, true, false, cond, not, true≢false}
+use mathlib.Core.Bool.{Bool, true, false, not, true≢false}
 use mathlib.Core.List.{List, [], _∷_, _++_, append-assoc, append-nil}
 use native.Mathlib.Nat.{not-suc-le-zero, le-of-suc-le-suc}
-use native.Mathlib.Decide.{ℕ-discrete}
 use native.Mathlib.Omega.{arith}
-use borrow.Author.Tests.{le-leb, lt-leb, ne-eqb}
-use borrow.Author.Needs.{zero≤}
-use lib.Dec.{lit<, eqb}
-use lib.ListN.{length, getD, take, drop, length-append, length-drop, take-append-drop}
+use borrow.Author.Tests.{le-leb, lt-leb}
+use lib.Dec.{lit<, lit≤}
+use lib.ListN.{length, take, drop, length-append, length-drop, take-append-drop}
 use lib.Seq.{length-take-le, take-at, drop-at, getD-drop, split-at}
 use Rattle.refusal.specs.Numbers.{sliceSize, recordForm}
 use Rattle.refusal.specs.Tests.{_elseRefuse_, first}
 use Rattle.refusal.proofs.Order.{refused, passed, first-pass, first-fail, first-nil}
 use Rattle.endian.specs.Bytes.{le, toLe, window, splice, fits, writeNumber, Bytes}
 use Rattle.endian.proofs.Numbers.{length-toLe, le-toLe, toLe-le}
-use Rattle.endian.proofs.Parts.{length-window-fits, window-append, bytes-window, window-window, splice-next, splice-short, write-fits, write-short}
+use Rattle.endian.proofs.Parts.{length-window-fits, window-append, bytes-window, window-window, splice-next, splice-short, splice-fits, write-fits, write-short}
 use Rattle.layout.specs.declared.Device.{Device}
 use Rattle.segments.specs.declared.Segment.{Segment}
 use Rattle.segments.specs.Segments.{none, nth}
 use Rattle.items.specs.declared.Item.{Item}
 use Rattle.items.specs.declared.Item.the-variants as Item
 use Rattle.items.specs.declared.Head.{Head}
-use Rattle.items.specs.declared.Head.the-variants.{Plain, Unknown}
-use Rattle.items.specs.Head.{itemOf, headAs, headOf, headBytes, headSize, headAllowed, headRight, allows, itemBytes}
+use Rattle.items.specs.declared.Head.the-variants.{Plain, Marked, Unknown}
+use Rattle.items.specs.Head.{plainKind, markedKind, itemOf, headAs, headOf, headBytes, headSize, headAllowed, headRight, allows, itemBytes}
 use Rattle.items.specs.Items.{itemsOf, segmentOf, readItems, segmentsIn, segments, sizeIn, wellFormed}
 use Rattle.items.specs.Making.{segmentBytes, allBytes, recordOf, place, appended, removed, unless, beginTests, begun}
-use Rattle.items.proofs.Heads.{length-head, HeadFits, field, head-made, size-made, head-fits}
-use Rattle.items.proofs.Items.{window-drop, length-read, length-segments, nth-segments, Fit, fit-of, items-are, length-items, Formed, formed, formed-back}
+use Rattle.items.proofs.Heads.{length-head, HeadFits, field, kind-is, head-made, size-made}
+use Rattle.items.proofs.Items.{window-drop, length-segments, Fit, items-are, length-items, Formed, formed, formed-back}
 
 pub length-segment : (g : Segment) → length (segmentBytes g) ≡ itemBytes
 unfolding segmentBytes
 length-segment g = rw (length-append, length-append, length-append, length-toLe, length-toLe, length-toLe, length-toLe)
 
+-- what writing a head answers and leaves where it does not fit
+pub head-short : (s : List ℕ) (h : Head) → length s < headSize h → (1 ≡ writeNumber s 0 (headSize h)) × (s ≡ splice s 0 (headBytes h))
+head-short s h l =
+    let n : length (headBytes h) ≡ headSize h = length-head h in
+    (sym (write-short s 0 (headSize h) (omega arith)), sym (splice-short s 0 (headBytes h) (omega arith)))
+
 -- three writes make a head
-pub head-written : (s : List ℕ) (b : ℕ) → 8 ≤ length s
-    → splice (splice (splice s 0 (toLe 2 8)) 2 (toLe 2 16)) 4 (toLe 4 b) ≡ splice s 0 (headBytes (Plain b))
+pub plain-written : (s : List ℕ) (z : ℕ) (a b c : List ℕ) → 8 ≤ length s → a ≡ splice s 0 (toLe 2 8) → b ≡ splice a 2 (toLe 2 plainKind) → c ≡ splice b 4 (toLe 4 z)
+    → (0 ≡ writeNumber s 0 (headSize (Plain z))) × (c ≡ splice s 0 (headBytes (Plain z)))
 unfolding headBytes headSize
-head-written s b h =
-    let a : length (toLe 2 8) ≡ 2 = length-toLe 2 8 in
-    let d : length (toLe 2 16) ≡ 2 = length-toLe 2 16 in
-    let f : length (toLe 4 b) ≡ 4 = length-toLe 4 b in
-    ap (λ (z : List ℕ). splice z 4 (toLe 4 b)) (splice-next s 0 (toLe 2 8) (toLe 2 16) 2 (omega arith) (omega arith))
-    ∙ (splice-next s 0 (toLe 2 8 ++ toLe 2 16) (toLe 4 b) 4 (rw length-append (omega arith)) (omega arith)
-    ∙ ap (splice s 0) (append-assoc (toLe 2 8) (toLe 2 16) (toLe 4 b)))
+plain-written s z a b c h i j k =
+    let d : length (toLe 2 8) ≡ 2 = length-toLe 2 8 in
+    let e : length (toLe 2 plainKind) ≡ 2 = length-toLe 2 plainKind in
+    let f : length (toLe 4 z) ≡ 4 = length-toLe 4 z in (
+      sym (write-fits s 0 8 h),
+      rw (k, j, i)
+          (ap (λ (x : List ℕ). splice x 4 (toLe 4 z)) (splice-next s 0 (toLe 2 8) (toLe 2 plainKind) 2 (omega arith) (omega arith))
+          ∙ (splice-next s 0 (toLe 2 8 ++ toLe 2 plainKind) (toLe 4 z) 4 (rw length-append (omega arith)) (omega arith)
+          ∙ ap (splice s 0) (append-assoc (toLe 2 8) (toLe 2 plainKind) (toLe 4 z)))),
+    )
+
+-- four make one with a mark
+pub marked-written : (s : List ℕ) (z m : ℕ) (a b c w : List ℕ) → 12 ≤ length s → a ≡ splice s 0 (toLe 2 12) → b ≡ splice a 2 (toLe 2 markedKind)
+    → c ≡ splice b 4 (toLe 4 z) → w ≡ splice c 8 (toLe 4 m) → (0 ≡ writeNumber s 0 (headSize (Marked z m))) × (w ≡ splice s 0 (headBytes (Marked z m)))
+unfolding headBytes headSize
+marked-written s z m a b c w h i j k l =
+    let d : length (toLe 2 12) ≡ 2 = length-toLe 2 12 in
+    let e : length (toLe 2 markedKind) ≡ 2 = length-toLe 2 markedKind in
+    let f : length (toLe 4 z) ≡ 4 = length-toLe 4 z in
+    let g : length (toLe 4 m) ≡ 4 = length-toLe 4 m in (
+      sym (write-fits s 0 12 h),
+      rw (l, k, j, i)
+          (ap (λ (x : List ℕ). splice (splice x 4 (toLe 4 z)) 8 (toLe 4 m)) (splice-next s 0 (toLe 2 12) (toLe 2 markedKind) 2 (omega arith) (omega arith))
+          ∙ (ap (λ (x : List ℕ). splice x 8 (toLe 4 m)) (splice-next s 0 (toLe 2 12 ++ toLe 2 markedKind) (toLe 4 z) 4 (rw length-append (omega arith)) (omega arith))
+          ∙ (splice-next s 0 ((toLe 2 12 ++ toLe 2 markedKind) ++ toLe 4 z) (toLe 4 m) 8 (rw (length-append, length-append) (omega arith)) (omega arith)
+          ∙ ap (splice s 0) (simp append-assoc)))),
+    )
+
+-- one that is not known has no bytes
+pub unknown-written : (s : List ℕ) (h : Head) → h ≡ Unknown → (0 ≡ writeNumber s 0 (headSize h)) × (s ≡ splice s 0 (headBytes h))
+unfolding headSize headBytes
+unknown-written s h e = rw e (sym (write-fits s 0 0 (omega arith)), sym (splice-fits s 0 [] (omega arith)))
+
+-- a size that the code tests by number
+pub plain-size : (z : ℕ) → headSize (Plain z) ≡ 8
+unfolding headSize
+plain-size z = refl
+
+pub marked-size : (z m : ℕ) → headSize (Marked z m) ≡ 12
+unfolding headSize
+marked-size z m = refl
 
 -- four writes make a segment
 segment-written : (s : List ℕ) (at : ℕ) (g : Segment) → at + 20 ≤ length s
@@ -92,19 +130,16 @@ begin-form s h r l e t =
     let q : 17 ≡ first (beginTests s h) = room-there s h 17 l (refused r (headAllowed h) 17 [] e t) in
     (q, ap (λ (z : ℕ). unless z (splice s 0 (headBytes h)) s) q)
 
-pub begin-unknown : (s : List ℕ) (h : Head) → headSize h ≤ length s → h ≡ Unknown → (17 ≡ first (beginTests s h)) × (s ≡ begun s h)
-unfolding headAllowed
-begin-unknown s h l e = begin-form s h false l (rw e) refl
+pub begin-written : (s w : List ℕ) (h : Head) (r : Bool) (n : ℕ) → headSize h ≤ length s → r ≡ headAllowed h → not r ≡ false
+    → n ≡ writeNumber s 0 (headSize h) → w ≡ splice s 0 (headBytes h) → (n ≡ first (beginTests s h)) × (w ≡ begun s h)
+begin-written s w h r n l e t k i =
+    let z : n ≡ 0 = k ∙ write-fits s 0 (headSize h) (omega arith) in
+    let q : n ≡ first (beginTests s h) = z ∙ room-there s h 0 l (passed r (headAllowed h) 17 [] e t 0 (sym first-nil)) in
+    (q, i ∙ (ap (λ (y : ℕ). unless y (splice s 0 (headBytes h)) s) (sym z) ∙ ap (λ (y : ℕ). unless y (splice s 0 (headBytes h)) s) q))
 
-pub begin-written : (s w : List ℕ) (h : Head) (b : ℕ) (r : Bool) → headSize h ≤ length s → r ≡ headAllowed h → not r ≡ false → h ≡ Plain b
-    → w ≡ splice s 0 (headBytes (Plain b)) → (0 ≡ first (beginTests s h)) × (w ≡ begun s h)
-begin-written s w h b r l e t k i =
-    let q : 0 ≡ first (beginTests s h) = room-there s h 0 l (passed r (headAllowed h) 17 [] e t 0 (sym first-nil)) in
-    (q, (i ∙ ap (λ (z : Head). splice s 0 (headBytes z)) (sym k)) ∙ ap (λ (z : ℕ). unless z (splice s 0 (headBytes h)) s) q)
-
-pub plain-size : (h : Head) (b : ℕ) → h ≡ Plain b → headSize h ≡ 8
-unfolding headSize
-plain-size h b e = rw e
+-- a record begun with a head that is within its limits and has room
+pub begun-is : (s : List ℕ) (h : Head) → headAllowed h ≡ true → headSize h ≤ length s → begun s h ≡ splice s 0 (headBytes h)
+begun-is s h r l = sym (begin-written s (splice s 0 (headBytes h)) h true 0 l (sym r) refl (sym (write-fits s 0 (headSize h) (omega arith))) refl .1)
 
 -- READ WHAT WAS MADE: an item
 module _ (g : Segment) where
@@ -178,7 +213,7 @@ pub head-record : (h : Head) (gs : List Segment) → HeadFits h → headOf (reco
 unfolding recordOf
 head-record h gs f = head-made h (allBytes gs) f
 
-items-record : (h : Head) (gs : List Segment) → HeadFits h → itemsOf (recordOf h gs) ≡ allBytes gs
+pub items-record : (h : Head) (gs : List Segment) → HeadFits h → itemsOf (recordOf h gs) ≡ allBytes gs
 unfolding recordOf
 items-record h gs f =
     items-are (headBytes h ++ allBytes gs)
@@ -270,25 +305,6 @@ all-again (suc n) t h e b =
     )
     (rejoin t itemBytes)
 
--- the kind that bytes have whose first item is a head
-head-kind : (k : ℕ) → itemOf k ≡ Item.Head → k ≡ 16
-unfolding itemOf
-head-kind k h =
-    elim (ℕ-discrete k 16) [
-      | yes e ↦ e
-      | no e ↦ absurd (four (rw (ne-eqb k 16 e) at h))
-    ]
-  where
-    go : (a b c d : Bool) → cond a Item.ThinMetadata (cond b Item.ThinData (cond c Item.Spare (cond d Item.MetadataVolume Item.Unknown))) ≡ Item.Head → ⊥
-    go true b c d h = let z : _≡_ {A = ℕ} 0 1 = cc in omega arith
-    go false true c d h = let z : _≡_ {A = ℕ} 0 1 = cc in omega arith
-    go false false true d h = let z : _≡_ {A = ℕ} 0 1 = cc in omega arith
-    go false false false true h = let z : _≡_ {A = ℕ} 0 1 = cc in omega arith
-    go false false false false h = let z : _≡_ {A = ℕ} 0 1 = cc in omega arith
-
-    four : cond (eqb k 1) Item.ThinMetadata (cond (eqb k 2) Item.ThinData (cond (eqb k 3) Item.Spare (cond (eqb k 4) Item.MetadataVolume Item.Unknown))) ≡ Item.Head → ⊥
-    four = go (eqb k 1) (eqb k 2) (eqb k 3) (eqb k 4)
-
 front : (s : List ℕ) (n : ℕ) → window s 0 n ≡ take n s
 unfolding window
 front s n = refl
@@ -307,13 +323,24 @@ head-again d s r e l b = go (itemOf (le (window s 2 2))) refl r e l
         let w : toLe 4 (le (window s 4 4)) ≡ window s 4 4 = again s 4 4 (omega arith) b in
         rw (u, v, w) (sym (window-append s 0 2 6 ∙ ap (λ (z : List ℕ). window s 0 2 ++ z) (window-append s 2 2 4)) ∙ front s 8)
 
+    twelve : (s : List ℕ) → Bytes s → le (window s 0 2) ≡ 12 → le (window s 2 2) ≡ 17 → 12 ≤ length s
+        → toLe 2 12 ++ (toLe 2 17 ++ (toLe 4 (le (window s 4 4)) ++ toLe 4 (le (window s 8 4)))) ≡ take 12 s
+    twelve s b e f h =
+        let u : toLe 2 12 ≡ window s 0 2 = ap (toLe 2) (sym e) ∙ again s 0 2 (omega arith) b in
+        let v : toLe 2 17 ≡ window s 2 2 = ap (toLe 2) (sym f) ∙ again s 2 2 (omega arith) b in
+        let w : toLe 4 (le (window s 4 4)) ≡ window s 4 4 = again s 4 4 (omega arith) b in
+        let x : toLe 4 (le (window s 8 4)) ≡ window s 8 4 = again s 8 4 (omega arith) b in
+        rw (u, v, w, x)
+        (sym (window-append s 0 2 10 ∙ ap (λ (z : List ℕ). window s 0 2 ++ z) (window-append s 2 2 8 ∙ ap (λ (z : List ℕ). window s 2 2 ++ z) (window-append s 4 4 4))) ∙ front s 12)
+
     go : (i : Item) → itemOf (le (window s 2 2)) ≡ i → headRight d (headAs i s) ≡ true → le (window s 0 2) ≡ headSize (headAs i s) → headSize (headAs i s) ≤ length s
         → headBytes (headAs i s) ≡ take (headSize (headAs i s)) s
     go Item.ThinMetadata k r e l = absurd (true≢false (sym r))
     go Item.ThinData k r e l = absurd (true≢false (sym r))
     go Item.Spare k r e l = absurd (true≢false (sym r))
     go Item.MetadataVolume k r e l = absurd (true≢false (sym r))
-    go Item.Head k r e l = eight s b e (head-kind (le (window s 2 2)) k) l
+    go Item.Head k r e l = eight s b e (kind-is (le (window s 2 2)) Item.Head (lit≤ tt) k) l
+    go Item.MarkedHead k r e l = twelve s b e (kind-is (le (window s 2 2)) Item.MarkedHead (lit≤ tt) k) l
     go Item.Unknown k r e l = absurd (true≢false (sym r))
 
 -- MAKE WHAT WAS READ: a well-formed record of bytes is what is made of its head and its segments

@@ -1,5 +1,5 @@
 // The items of a segment record: a head, then segments, each with its length first, then its kind. Read and made; what depends on
-// the head's kind is here and nowhere else.
+// the head's kind is here, and what changes it in `heads`.
 use layout::Device;
 use segments::Range;
 use segments::Segment;
@@ -10,8 +10,8 @@ ghost use Rattle.refusal.specs.Tests.{first};
 ghost use Rattle.endian.specs.Bytes.{le, window, writeNumber, splice};
 ghost use Rattle.search.specs.Search.{every};
 ghost use Rattle.segments.specs.Segments.{nth};
-ghost use Rattle.items.specs.declared.Head.the-variants.{Plain};
-ghost use Rattle.items.specs.Head.{itemOf, isSegment, headOf, headSize, headBytes, blockSize, blockSizeAllowed, headAllowed, headRight, allows, rangeFor, itemBytes, mostSegments};
+ghost use Rattle.items.specs.declared.Head.the-variants.{Plain, Marked};
+ghost use Rattle.items.specs.Head.{itemOf, isSegment, headOf, headKind, headSize, headBytes, blockSize, lowWater, blockSizeAllowed, markAllowed, headAllowed, headRight, allows, dataRange, rangeFor, itemBytes, mostSegments};
 ghost use Rattle.items.specs.Items.{itemsOf, segmentOf, segmentsIn, segments, itemRight, framed, wellFormed};
 ghost use Rattle.items.specs.Making.{segmentBytes, place, beginTests, begun, begins, putAnswer, putLeft};
 
@@ -20,6 +20,14 @@ pub const ITEM_BYTES: usize = 20;
 
 // Bytes of a head of kind 16, the smallest head.
 pub const HEAD_BYTES: usize = 8;
+
+// Bytes of a head of kind 17.
+pub const MARKED_HEAD_BYTES: usize = 12;
+
+// The kinds of heads.
+pub const PLAIN_KIND: u16 = 16;
+
+pub const MARKED_KIND: u16 = 17;
 
 // The most segments that any record has.
 pub const MOST_SEGMENTS: usize = (layout::RECORD_LIMIT as usize - HEAD_BYTES) / ITEM_BYTES;
@@ -31,12 +39,15 @@ pub enum Item {
     Spare,
     MetadataVolume,
     Head,
+    MarkedHead,
     Unknown,
 }
 
-// The head of a record: of kind 16, with the data block size in sectors; or none that is known.
+// The head of a record: of kind 16, with the data block size in sectors; of kind 17, with that and the low water mark in blocks; or none that is
+// known.
 pub enum Head {
     Plain(u32),
+    Marked(u32, u32),
     Unknown,
 }
 
@@ -58,7 +69,8 @@ fn item_of(kind: u16) -> Item
         4 => Item::MetadataVolume,
         5..=15 => Item::Unknown,
         16 => Item::Head,
-        17..=65535 => Item::Unknown,
+        17 => Item::MarkedHead,
+        18..=65535 => Item::Unknown,
     }
 }
 
@@ -72,6 +84,7 @@ fn is_segment(i: Item) -> bool
         Item::Spare => true,
         Item::MetadataVolume => true,
         Item::Head => false,
+        Item::MarkedHead => false,
         Item::Unknown => false,
     }
 }
@@ -81,6 +94,7 @@ pub fn head_of(s: &[u8]) -> Head
     ensures { λ r. ⌜ r ≡ headOf (now (s .entry)) ⌝ }
 {
     let size = endian::read_u32(s, 4);
+    let mark = endian::read_u32(s, 8);
     let i = item_of(endian::read_u16(s, 2));
     match i {
         Item::ThinMetadata => Head::Unknown,
@@ -88,16 +102,29 @@ pub fn head_of(s: &[u8]) -> Head
         Item::Spare => Head::Unknown,
         Item::MetadataVolume => Head::Unknown,
         Item::Head => Head::Plain(size),
+        Item::MarkedHead => Head::Marked(size, mark),
         Item::Unknown => Head::Unknown,
     }
 }
 
-// The bytes of a head.
-fn head_size(h: Head) -> usize
+// The bytes of a head; 0 where it is not known.
+pub fn head_size(h: Head) -> usize
     ensures { λ r. ⌜ r ≡ headSize h ⌝ }
 {
     match h {
         Head::Plain(_) => HEAD_BYTES,
+        Head::Marked(_, _) => MARKED_HEAD_BYTES,
+        Head::Unknown => 0,
+    }
+}
+
+// The kind of a head; 0 where it is not known.
+pub fn head_kind(h: Head) -> u16
+    ensures { λ r. ⌜ r ≡ headKind h ⌝ }
+{
+    match h {
+        Head::Plain(_) => PLAIN_KIND,
+        Head::Marked(_, _) => MARKED_KIND,
         Head::Unknown => 0,
     }
 }
@@ -108,6 +135,18 @@ pub fn block_size(h: Head) -> u32
 {
     match h {
         Head::Plain(size) => size,
+        Head::Marked(size, _) => size,
+        Head::Unknown => 0,
+    }
+}
+
+// The low water mark in blocks; 0 where the head has none.
+pub fn low_water(h: Head) -> u32
+    ensures { λ r. ⌜ r ≡ lowWater h ⌝ }
+{
+    match h {
+        Head::Plain(_) => 0,
+        Head::Marked(_, mark) => mark,
         Head::Unknown => 0,
     }
 }
@@ -119,12 +158,20 @@ fn block_size_allowed(b: u32) -> bool
     (b % 128 == 0) & ((128 <= b) & (b <= 2097152))
 }
 
+// Whether a low water mark is allowed: any is that four bytes have room for.
+fn mark_allowed(m: u32) -> bool
+    ensures { λ r. ⌜ r ≡ markAllowed m ⌝ }
+{
+    true
+}
+
 // Whether what a head says is within its limits, whatever the device.
 fn head_allowed(h: Head) -> bool
     ensures { λ r. ⌜ r ≡ headAllowed h ⌝ }
 {
     match h {
         Head::Plain(size) => block_size_allowed(size),
+        Head::Marked(size, mark) => block_size_allowed(size) & mark_allowed(mark),
         Head::Unknown => false,
     }
 }
@@ -135,6 +182,7 @@ fn head_right(d: Device, h: Head) -> bool
 {
     match h {
         Head::Plain(_) => head_allowed(h),
+        Head::Marked(_, _) => head_allowed(h),
         Head::Unknown => false,
     }
 }
@@ -145,7 +193,18 @@ pub fn allowed(h: Head, kind: u16) -> bool
 {
     match h {
         Head::Plain(_) => is_segment(item_of(kind)),
+        Head::Marked(_, _) => is_segment(item_of(kind)),
         Head::Unknown => false,
+    }
+}
+
+// The data range.
+pub fn data_range(d: Device) -> Range
+    ensures { λ r. ⌜ r ≡ dataRange d ⌝ }
+{
+    Range {
+        start: layout::data_start(d),
+        end: layout::data_end(d),
     }
 }
 
@@ -154,10 +213,8 @@ pub fn range_for(d: Device, h: Head, kind: u16) -> Range
     ensures { λ r. ⌜ r ≡ rangeFor d h kind ⌝ }
 {
     match h {
-        Head::Plain(_) => Range {
-            start: layout::data_start(d),
-            end: layout::data_end(d),
-        },
+        Head::Plain(_) => data_range(d),
+        Head::Marked(_, _) => data_range(d),
         Head::Unknown => Range { start: 0, end: 0 },
     }
 }
@@ -293,14 +350,46 @@ pub fn place_in(s: &[u8], i: usize) -> usize
     h + ITEM_BYTES * i
 }
 
-// Writes a head of kind 16 to the start of out, where there is room for it.
-fn put_plain(out: &mut [u8], size: u32)
-    requires { ⌜ 8 ≤ length (now out) ⌝ }
+// Writes a head of kind 16 to the start of out and answers 0; where it does not fit, writes nothing and answers 1.
+fn put_plain(out: &mut [u8], size: u32) -> u8
+    ensures { λ r. ⌜ r ≡ writeNumber (now (out .entry)) 0 (headSize (Plain size)) ⌝ }
     ensures { λ _. ⌜ now (out .exit) ≡ splice (now (out .entry)) 0 (headBytes (Plain size)) ⌝ }
 {
-    endian::write_u16(out, 0, 8);
-    endian::write_u16(out, 2, 16);
+    if out.len() < HEAD_BYTES {
+        return refusal::SLICE_SIZE;
+    }
+    endian::write_u16(out, 0, HEAD_BYTES as u16);
+    endian::write_u16(out, 2, PLAIN_KIND);
     endian::write_u32(out, 4, size);
+    refusal::NONE
+}
+
+// The same of a head of kind 17.
+fn put_marked(out: &mut [u8], size: u32, mark: u32) -> u8
+    ensures { λ r. ⌜ r ≡ writeNumber (now (out .entry)) 0 (headSize (Marked size mark)) ⌝ }
+    ensures { λ _. ⌜ now (out .exit) ≡ splice (now (out .entry)) 0 (headBytes (Marked size mark)) ⌝ }
+{
+    if out.len() < MARKED_HEAD_BYTES {
+        return refusal::SLICE_SIZE;
+    }
+    endian::write_u16(out, 0, MARKED_HEAD_BYTES as u16);
+    endian::write_u16(out, 2, MARKED_KIND);
+    endian::write_u32(out, 4, size);
+    endian::write_u32(out, 8, mark);
+    refusal::NONE
+}
+
+// Writes a head, within its limits or not, to the start of out and answers 0; where it does not fit, writes nothing and answers 1. One that is
+// not known has no bytes.
+pub fn put_head(out: &mut [u8], h: Head) -> u8
+    ensures { λ r. ⌜ r ≡ writeNumber (now (out .entry)) 0 (headSize h) ⌝ }
+    ensures { λ _. ⌜ now (out .exit) ≡ splice (now (out .entry)) 0 (headBytes h) ⌝ }
+{
+    match h {
+        Head::Plain(size) => put_plain(out, size),
+        Head::Marked(size, mark) => put_marked(out, size, mark),
+        Head::Unknown => refusal::NONE,
+    }
 }
 
 // Begins a record: writes its head to the start of out. 1 where there is no room, 17 for a head that is not within its limits.
@@ -314,11 +403,7 @@ pub fn begin(out: &mut [u8], h: Head) -> u8
     if !head_allowed(h) {
         return refusal::RECORD_FORM;
     }
-    let Head::Plain(size) = h else {
-        return refusal::RECORD_FORM;
-    };
-    put_plain(out, size);
-    refusal::NONE
+    put_head(out, h)
 }
 
 // Writes a segment's item to out from byte `at` on and answers 0; where it does not fit there, writes nothing and answers 1.

@@ -1,6 +1,6 @@
 -- Demand 2's second half and what a record is, proved: the names of specs/Demand.antt.
-use Prim.Native.Nat.{ℕ, zero, suc, _+_, _-_, _*_, _/_, _%_, _^_, _≤_, _<_, min}
-use mathlib.Core.Path.{_≡_, refl, sym, ap, _∙_, subst}
+use Prim.Native.Nat.{ℕ, zero, suc, _+_, _-_, _*_, _/_, _%_, _≤_, _<_, min}
+use mathlib.Core.Path.{_≡_, refl, sym, ap, ap₂, _∙_, subst}
 use mathlib.Core.Bool.{Bool, true, false, cond, _&&_}
 use mathlib.Core.Logic.{_⊎_, inl, inr}
 use mathlib.Core.List.{List, [], _∷_, _++_}
@@ -12,13 +12,13 @@ use borrow.Author.Tests.{le-leb, leb-true, eqb-true, eq-eqb, ne-eqb}
 use lib.Dec.{leb, eqb, lit<, lit≤}
 use lib.ListN.{length, take, drop, length-take, length-drop}
 use lib.Seq.{take-at, drop-at, getD-take, getD-drop}
-use Rattle.endian.specs.Bytes.{toLe, zeros}
+use Rattle.endian.specs.Bytes.{window, toLe, zeros}
 use Rattle.endian.proofs.Tests.{and-left, and-right, and-both}
 use Rattle.refusal.specs.Numbers.{deviceSize, metadataSize, reservedSize, recordLength, recordForm, segmentPlace, segmentClash}
 use Rattle.refusal.specs.declared.Refusal.{Refusal}
 use Rattle.refusal.specs.Refusals.{plain}
 use Rattle.refusal.specs.Tests.{Test, _elseRefuse_, first, AllHold, Fails, Ascending}
-use Rattle.refusal.proofs.Order.{first-fail, first-lowest, first-zero, first-after, first-all, hold-before}
+use Rattle.refusal.proofs.Order.{first-pass, first-fail, first-lowest, first-zero, first-after, first-all, hold-before}
 use Rattle.layout.specs.declared.Device.{Device}
 use Rattle.layout.specs.Limits.{sizeAllowed, metadataAllowed, reservedAllowed, deviceTests, lengthAllowed, recordLimit}
 use Rattle.layout.specs.Places.{dataStart, dataEnd}
@@ -26,7 +26,7 @@ use Rattle.search.specs.Search.{every, within, one}
 use Rattle.search.proofs.Search.{in-within, below-within, past-within, not-true-false, both, every-zero, every-more}
 use Rattle.segments.specs.declared.Segment.{Segment}
 use Rattle.segments.specs.declared.Range.{Range}
-use Rattle.segments.specs.Segments.{none, nth, holds, InRange}
+use Rattle.segments.specs.Segments.{none, nth, InRange}
 use Rattle.segments.specs.Clash.{laterOf, earlierOf, apart}
 use Rattle.segments.specs.Sectors.{heldBy, isFree, allocated, freeSectors, Holder}
 use Rattle.segments.specs.Order.{orderOf, Placed}
@@ -38,12 +38,14 @@ use Rattle.segments.proofs.Sectors.{Laid}
 use Rattle.segments.proofs.Sectors as Sectors
 use Rattle.segments.proofs.Order.{order-length, in-order}
 use Rattle.items.specs.declared.Head.{Head}
-use Rattle.items.specs.declared.Head.the-variants.{Plain}
-use Rattle.items.specs.Head.{headOf, headBytes, headSize, headRight, allows, dataRange, rangeFor, mostOfAny}
+use Rattle.items.specs.declared.Head.the-variants.{Plain, Marked}
+use Rattle.items.specs.Head.{headOf, headBytes, headSize, blockSizeAllowed, headRight, dataRange, rangeFor, mostOfAny, headKind, lowWater, itemBytes, blockSize}
 use Rattle.items.specs.Items.{itemsOf, segments, wellFormed}
+use Rattle.items.proofs.Items.{length-segments, nth-segments, Fit, fit-of, Formed, formed}
 use Rattle.items.specs.Making.{segmentBytes, allBytes, recordOf}
-use Rattle.items.proofs.Heads.{kind-small, head-small, right-fits, one-range, plain-right, right-plain, unknown-wrong, kinds-plain, plain-kinds, most-room, room-most}
+use Rattle.items.proofs.Heads.{kind-small, head-small, right-fits, right-allowed, allowed-right, one-range, plain-right, right-plain, marked-right, right-marked, unknown-wrong, kinds-allowed, allows-kinds, most-room, room-most, most-plain, most-marked, marked-full}
 use Rattle.items.proofs.Making.{formed-record, record-again}
+use Rattle.items.proofs.Building.{one-more}
 use Rattle.order.specs.declared.Order.{Order}
 use Rattle.order.specs.declared.Clash.the-variants.{Nothing}
 use Rattle.order.specs.Ordering.{noOrder, order}
@@ -53,8 +55,8 @@ use Rattle.record.specs.declared.Counted.the-variants as Counted
 use Rattle.record.specs.declared.Heading.the-variants as Heading
 use Rattle.record.specs.Accept.{rangeAt, allInRange, contentTests, recordTests, named, checked}
 use Rattle.record.specs.Sectors.{parts}
-use Rattle.record.specs.Answers.{positionTests, foundRefusal, countedRefusal, headingRefusal, handedOn, allValues, someRoom, segmentsLeft}
-use Rattle.record.specs.Demand.{Right, Exactly, ReadAfterMake, Heads, Full, Printed, Means, Meaning, Lowest, Partition, Cases, Sums, ClashBy, ClashExactly, EachRight, Clashing, Content, Naming, Ordered, Handed, NotHanded, Handing, Numbered, Valued}
+use Rattle.record.specs.Answers.{positionTests, foundRefusal, countedRefusal, headingRefusal, handedOn, allValues, someRoom}
+use Rattle.record.specs.Demand.{Right, Exactly, ReadAfterMake, BlockSize, Heads, HeadSays, fourBytes, twoBytes, eightBytes, ItemBytes, HeadBytes, Full, Most, printedSegment, printedDevice, printedItem, Printed, Means, Meaning, Malformed, Lowest, Partition, Cases, Sums, ClashBy, ClashExactly, EachRight, Clashing, Content, Naming, Ordered, Handed, NotHanded, Handing, Numbered, Valued}
 use Rattle.record.proofs.Testing.{device-ascending, content-ascending, record-ascending, fails-at}
 use Rattle.record.proofs.Naming.{named-number, named-other, named-pair, named-none, refuse-yes}
 use Rattle.record.proofs.Accepted.{Accepted, accepted, ends, laid, ordered, fewer}
@@ -185,43 +187,95 @@ ordered-all d s h = (
 )
 
 -- heads and kinds in the format's numbers
-plain-block : (d : Device) (b : ℕ) → headRight d (Plain b) ≡ true → (128 ≤ b) × ((b ≤ 2097152) × (b % 128 ≡ 0))
-plain-block d b r =
-    let q : eqb (b % 128) 0 && (leb 128 b && leb b 2097152) ≡ true = right-plain d b r in
+block-size : (b : ℕ) → blockSizeAllowed b ≡ true → BlockSize b
+block-size b q =
     let w : leb 128 b && leb b 2097152 ≡ true = and-right (eqb (b % 128) 0) (leb 128 b && leb b 2097152) q in (
       leb-true 128 b (and-left (leb 128 b) (leb b 2097152) w),
       (leb-true b 2097152 (and-right (leb 128 b) (leb b 2097152) w), eqb-true (b % 128) 0 (and-left (eqb (b % 128) 0) (leb 128 b && leb b 2097152) q)),
     )
 
+size-block : (b : ℕ) → BlockSize b → blockSizeAllowed b ≡ true
+size-block b h = rw (eq-eqb (b % 128) 0 (h .1 .1), le-leb 128 b (h .0), le-leb b 2097152 (h .1 .0))
+
 pub heads : Heads
-heads d b k = (
-  (plain-block d b, λ h. plain-right d b (rw (eq-eqb (b % 128) 0 (h .1 .1), le-leb 128 b (h .0), le-leb b 2097152 (h .1 .0)))),
-  ((plain-kinds b k, λ h. kinds-plain b k (h .0) (h .1)), unknown-wrong d),
+heads d =
+    record {
+      plain = λ b. (λ r. block-size b (right-plain d b r), λ h. plain-right d b (size-block b h));
+      marked = λ b m. (λ r. (block-size b (right-marked d b m r .0), right-marked d b m r .1), λ h. marked-right d b m (size-block b (h .0)) (h .1));
+      kinds = λ h k r. (allows-kinds h k, λ l. kinds-allowed d h k r (l .0) (l .1));
+      ranges = λ h k r. one-range d h k r;
+      begun = λ h. (allowed-right d h, right-allowed d h);
+      unknown = unknown-wrong d;
+    }
+
+pub head-says : HeadSays
+unfolding headKind headSize blockSize lowWater
+head-says b m = ((refl, (refl, (refl, refl))), (refl, (refl, (refl, refl))))
+
+-- four bytes of a number
+pub four : (v : ℕ) → toLe 4 v ≡ fourBytes v
+unfolding toLe
+four v =
+    let a : v / 256 / 256 ≡ v / 65536 = omega arith in
+    let b : v / 256 / 256 / 256 ≡ v / 16777216 = omega arith in
+    ap₂ (λ (x y : ℕ). v % 256 ∷ v / 256 % 256 ∷ x % 256 ∷ y % 256 ∷ []) a b
+
+two : (v : ℕ) → toLe 2 v ≡ twoBytes v
+unfolding toLe
+two v = refl
+
+eight : (v : ℕ) → toLe 8 v ≡ eightBytes v
+unfolding toLe
+eight v =
+    let a : v / 256 / 256 / 256 / 256 ≡ v / 4294967296 = omega arith in
+    ap₂ (λ (x y : List ℕ). x ++ y) (four v) (ap (toLe 4) a ∙ four (v / 4294967296))
+
+pub item-bytes : ItemBytes
+unfolding segmentBytes
+item-bytes h gs g =
+    sym (one-more h gs g)
+    ∙ ap (λ (z : List ℕ). recordOf h gs ++ z)
+    (ap₂ (λ (x y : List ℕ). toLe 2 itemBytes ++ (x ++ y)) (two (g .kind)) (ap₂ (λ (x y : List ℕ). x ++ y) (eight (g .start)) (eight (g .sectors))) ∙ ap (λ (z : List ℕ). z ++ (twoBytes (g .kind) ++ (eightBytes (g .start) ++ eightBytes (g .sectors)))) (two itemBytes))
+
+pub head-bytes : HeadBytes
+unfolding recordOf headBytes headSize allBytes toLe
+head-bytes b m = (
+  ap (λ (z : List ℕ). (8 ∷ 0 ∷ 16 ∷ 0 ∷ []) ++ (z ++ [])) (four b),
+  ap₂ (λ (y z : List ℕ). (12 ∷ 0 ∷ 17 ∷ 0 ∷ []) ++ ((y ++ z) ++ [])) (four b) (four m),
 )
 
 pub full : Full
 full h n = (most-room h n, room-most h n)
 
--- the format's printed record
-printed-bytes : recordOf (Plain 128) (record { kind = 2; start = 2048; sectors = 100 } ∷ []) ≡ 8 ∷ 0 ∷ 16 ∷ 0 ∷ 128 ∷ 0 ∷ 0 ∷ 0 ∷ 20 ∷ 0 ∷ 2 ∷ 0 ∷ 0 ∷ 8 ∷ 0 ∷ 0 ∷ 0 ∷ 0 ∷ 0 ∷ 0 ∷ 100 ∷ 0 ∷ 0 ∷ 0 ∷ 0 ∷ 0 ∷ 0 ∷ 0 ∷ []
-unfolding recordOf headBytes headSize allBytes segmentBytes toLe
-printed-bytes = refl
+pub most : Most
+most b m = (most-plain b, (most-marked b m, marked-full b m))
 
-printed-right : Right (record { sectors = 2097152; metadata = 2040; reserved = 0 }) (Plain 128) (record { kind = 2; start = 2048; sectors = 100 } ∷ [])
-printed-right =
-    let d : Device = record { sectors = 2097152; metadata = 2040; reserved = 0 } in
-    let g : Segment = record { kind = 2; start = 2048; sectors = 100 } in
-    right-append d (Plain 128) [] g (right-empty d (Plain 128) device-right (plain-right d 128 refl)) (room-most (Plain 128) 0 (head-small (Plain 128))) (kinds-plain 128 2 (lit≤ tt) (lit≤ tt))
-    (subst (λ (r : Range). InRange r g) (sym (one-range d (Plain 128) 2 (plain-right d 128 refl))) (record { low = lit≤ tt; some = lit≤ tt; high = lit≤ tt }))
-    (λ i x l e f. not-suc-le-zero l)
+-- the format's printed record, with either head
+printed-plain : recordOf (Plain 128) (printedSegment ∷ []) ≡ 8 ∷ 0 ∷ 16 ∷ 0 ∷ 128 ∷ 0 ∷ 0 ∷ 0 ∷ printedItem
+unfolding recordOf headBytes headSize allBytes segmentBytes toLe
+printed-plain = refl
+
+printed-marked : recordOf (Marked 128 1000) (printedSegment ∷ []) ≡ 12 ∷ 0 ∷ 17 ∷ 0 ∷ 128 ∷ 0 ∷ 0 ∷ 0 ∷ 232 ∷ 3 ∷ 0 ∷ 0 ∷ printedItem
+unfolding recordOf headBytes headSize allBytes segmentBytes toLe
+printed-marked = refl
+
+printed-accepted : (h : Head) → headRight printedDevice h ≡ true → first (recordTests printedDevice (recordOf h (printedSegment ∷ []))) ≡ 0
+printed-accepted h r =
+    accepted-made printedDevice h (printedSegment ∷ []) (lit< tt)
+    (right-append printedDevice h [] printedSegment (right-empty printedDevice h device-right r) (room-most h 0 (head-small h)) (kinds-allowed printedDevice h 2 r (lit≤ tt) (lit≤ tt))
+    (subst (λ (z : Range). InRange z printedSegment) (sym (one-range printedDevice h 2 r)) (record { low = lit≤ tt; some = lit≤ tt; high = lit≤ tt }))
+    (λ i x l e f. not-suc-le-zero l))
   where
-    device-right : first (deviceTests (record { sectors = 2097152; metadata = 2040; reserved = 0 })) ≡ 0
-    device-right = first-all (deviceTests (record { sectors = 2097152; metadata = 2040; reserved = 0 })) (refl, (refl, (refl, tt)))
+    device-right : first (deviceTests printedDevice) ≡ 0
+    device-right = first-all (deviceTests printedDevice) (refl, (refl, (refl, tt)))
 
 pub printed : Printed
 printed = (
-  printed-bytes,
-  accepted-made (record { sectors = 2097152; metadata = 2040; reserved = 0 }) (Plain 128) (record { kind = 2; start = 2048; sectors = 100 } ∷ []) (lit< tt) printed-right,
+  printed-plain,
+  (
+    printed-accepted (Plain 128) (plain-right printedDevice 128 refl),
+    (printed-marked, printed-accepted (Marked 128 1000) (marked-right printedDevice 128 1000 refl (lit< tt))),
+  ),
 )
 
 -- What a refusal number says: its own test fails.
@@ -297,6 +351,26 @@ module _ (d : Device) (s : List ℕ) where
 
 pub meaning : Meaning
 meaning = means
+
+pub malformed : Malformed
+unfolding lengthAllowed
+malformed d s b device low high none = go (wellFormed d s) refl
+  where
+    fit : (i : ℕ) → i < length (segments s) → Fit (nth (segments s) i)
+    fit i l =
+        let k : i < length (itemsOf s) / 20 = (let e : length (segments s) ≡ length (itemsOf s) / 20 = length-segments (itemsOf s) in omega arith) in
+        subst Fit (sym (nth-segments (itemsOf s) i k)) (fit-of (window (itemsOf s) (itemBytes * i) itemBytes))
+
+    long : lengthAllowed (length s) ≡ true
+    long = and-both (leb 1 (length s)) (leb (length s) recordLimit) (le-leb 1 (length s) low) (le-leb (length s) recordLimit high)
+
+    go : (w : Bool) → wellFormed d s ≡ w → first (recordTests d s) ≡ 17
+    go true w =
+        let f : Formed d s = formed d s w in
+        absurd (none (headOf s) (segments s) (f .head) (λ i l. (f .kinds i l, (fit i l .start, fit i l .sectors))) (record-again d s b w))
+    go false w =
+        first-after (deviceTests d) (contentTests d s) (first-zero 0 (deviceTests d) (device-ascending d) device)
+        ∙ (first-pass (lengthAllowed (length s)) recordLength _ long ∙ first-fail (wellFormed d s) recordForm _ w)
 
 -- 19, and no lower number: by tests whose numbers ascend, of which the one of the clash has 19
 clash-by : (ts : List Test) (s : List ℕ) → Ascending 0 ts → (first ts ≡ 19 → apart (segments s) ≡ false) → (apart (segments s) ≡ false → Fails ts 19)

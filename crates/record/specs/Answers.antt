@@ -12,7 +12,7 @@ use Rattle.layout.specs.declared.Device.{Device}
 use Rattle.segments.specs.declared.Segment.{Segment}
 use Rattle.segments.specs.Segments.{nth}
 use Rattle.items.specs.declared.Head.{Head}
-use Rattle.items.specs.Head.{headOf, blockSize}
+use Rattle.items.specs.Head.{headOf}
 use Rattle.items.specs.Items.{segments}
 use Rattle.items.specs.Making.{unless}
 use Rattle.record.specs.declared.Found.{Found}
@@ -70,10 +70,6 @@ headAnswer d s = heading (first (recordTests d s)) s (headOf s)
 abbrev pub headingRefusal : Heading → Refusal
 headingRefusal (Heading.Of h) = plain 0
 headingRefusal (Heading.Refused r) = r
-
-abbrev pub headingValues : Heading → List ℕ
-headingValues (Heading.Of h) = blockSize h ∷ []
-headingValues (Heading.Refused r) = []
 
 -- The segments from position p on, as many as a table of w numbers has room for, three for each. None where there is none left; 1,
 -- last, where there are some and there is room for none.

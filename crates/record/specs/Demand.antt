@@ -1,6 +1,6 @@
 -- Demand 2, second half, and what a record is, in other words than the tests. A device's size below 2^64 and elements below 256
 -- (`Bytes`) are what the machine's types have. `proofs/Demand.antt` proves all of it.
-use Prim.Native.Nat.{ℕ, _+_, _*_, _%_, _^_, _≤_, _<_}
+use Prim.Native.Nat.{ℕ, _+_, _*_, _/_, _%_, _^_, _≤_, _<_}
 use mathlib.Core.Path.{_≡_}
 use mathlib.Core.Bool.{true, false}
 use mathlib.Core.Logic.{_⊎_}
@@ -12,13 +12,13 @@ use Rattle.layout.specs.declared.Device.{Device}
 use Rattle.layout.specs.Limits.{sizeAllowed, metadataAllowed, reservedAllowed, deviceTests, recordLimit}
 use Rattle.layout.specs.Places.{dataStart, dataEnd}
 use Rattle.segments.specs.declared.Segment.{Segment}
-use Rattle.segments.specs.Segments.{nth, holds, InRange}
+use Rattle.segments.specs.Segments.{nth, InRange}
 use Rattle.segments.specs.Sectors.{isFree, allocated, freeSectors, Holder}
 use Rattle.segments.specs.Order.{Placed}
 use Rattle.segments.specs.Demand.{Share, FirstPair}
 use Rattle.items.specs.declared.Head.{Head}
-use Rattle.items.specs.declared.Head.the-variants.{Plain, Unknown}
-use Rattle.items.specs.Head.{headOf, headSize, headRight, allows, dataRange, rangeFor, itemBytes, mostSegments}
+use Rattle.items.specs.declared.Head.the-variants.{Plain, Marked, Unknown}
+use Rattle.items.specs.Head.{headOf, headKind, headSize, blockSize, lowWater, headAllowed, headRight, allows, dataRange, rangeFor, itemBytes, mostSegments}
 use Rattle.items.specs.Items.{segments}
 use Rattle.items.specs.Making.{recordOf}
 use Rattle.order.specs.Ordering.{noOrder}
@@ -68,15 +68,57 @@ ReadAfterMake =
     (d : Device) (h : Head) (gs : List Segment) → d .sectors < 2 ^ 64 → Right d h gs
     → (headOf (recordOf h gs) ≡ h) × ((segments (recordOf h gs) ≡ gs) × (first (recordTests d (recordOf h gs)) ≡ 0))
 
--- The heads and kinds that are allowed, in the format's numbers: a head of kind 16 is right on a device exactly when its block size is
--- from 128 to 2,097,152 and a multiple of 128, and allows the kinds 1 to 4; one that is not known is never right.
+-- A block size that the format allows, in its numbers: from 128 to 2,097,152 and a multiple of 128.
+abbrev pub BlockSize : ℕ → Type 0
+BlockSize b = (128 ≤ b) × ((b ≤ 2097152) × (b % 128 ≡ 0))
+
+-- The heads and kinds that are allowed, in the format's numbers. A head of kind 16, or of kind 17 with any mark of four bytes, is right on a
+-- device exactly when its block size is allowed; both allow the kinds 1 to 4 of segments and no others, so that there is no second head; one
+-- that is not known is never right.
+pub record RightHeads (d : Device) : Type 0 where
+  pub plain : (b : ℕ) → (headRight d (Plain b) ≡ true → BlockSize b) × (BlockSize b → headRight d (Plain b) ≡ true)
+  pub marked : (b m : ℕ) → (headRight d (Marked b m) ≡ true → BlockSize b × (m < 2 ^ 32)) × (BlockSize b × (m < 2 ^ 32) → headRight d (Marked b m) ≡ true)
+  pub kinds : (h : Head) (k : ℕ) → headRight d h ≡ true
+      → (allows h k ≡ true → (1 ≤ k) × (k ≤ 4)) × ((1 ≤ k) × (k ≤ 4) → allows h k ≡ true)
+  -- each kind may lie in the whole data range
+  pub ranges : (h : Head) (k : ℕ) → headRight d h ≡ true → rangeFor d h k ≡ dataRange d
+  -- a record may be begun with just these
+  pub begun : (h : Head) → (headAllowed h ≡ true → headRight d h ≡ true) × (headRight d h ≡ true → headAllowed h ≡ true)
+  pub unknown : headRight d Unknown ≡ false
+
 abbrev pub Heads : Type 0
-Heads =
-    (d : Device) (b k : ℕ)
-    → ((headRight d (Plain b) ≡ true → (128 ≤ b) × ((b ≤ 2097152) × (b % 128 ≡ 0)))
-    × ((128 ≤ b) × ((b ≤ 2097152) × (b % 128 ≡ 0)) → headRight d (Plain b) ≡ true))
-    × (((allows (Plain b) k ≡ true → (1 ≤ k) × (k ≤ 4)) × ((1 ≤ k) × (k ≤ 4) → allows (Plain b) k ≡ true))
-    × (headRight d Unknown ≡ false))
+Heads = (d : Device) → RightHeads d
+
+-- What a head says: its kind, length, block size and mark, 0 where it has none.
+abbrev pub HeadSays : Type 0
+HeadSays =
+    (b m : ℕ)
+    → ((headKind (Plain b) ≡ 16) × ((headSize (Plain b) ≡ 8) × ((blockSize (Plain b) ≡ b) × (lowWater (Plain b) ≡ 0))))
+    × ((headKind (Marked b m) ≡ 17) × ((headSize (Marked b m) ≡ 12) × ((blockSize (Marked b m) ≡ b) × (lowWater (Marked b m) ≡ m))))
+
+-- the four bytes of a number, the lowest first; the two, and the eight
+abbrev pub fourBytes : ℕ → List ℕ
+fourBytes v = v % 256 ∷ v / 256 % 256 ∷ v / 65536 % 256 ∷ v / 16777216 % 256 ∷ []
+
+abbrev pub twoBytes : ℕ → List ℕ
+twoBytes v = v % 256 ∷ v / 256 % 256 ∷ []
+
+abbrev pub eightBytes : ℕ → List ℕ
+eightBytes v = fourBytes v ++ fourBytes (v / 4294967296)
+
+-- The bytes of a record with one segment more: those that it had, then length 20, the kind, the first sector and the length in sectors.
+abbrev pub ItemBytes : Type 0
+ItemBytes =
+    (h : Head) (gs : List Segment) (g : Segment)
+    → recordOf h (gs ++ (g ∷ []))
+    ≡ recordOf h gs ++ ((20 ∷ 0 ∷ twoBytes (g .kind)) ++ (eightBytes (g .start) ++ eightBytes (g .sectors)))
+
+-- The bytes of both heads, which a record with no segments has: length, kind and block size, and with kind 17 the mark.
+abbrev pub HeadBytes : Type 0
+HeadBytes =
+    (b m : ℕ)
+    → (recordOf (Plain b) [] ≡ (8 ∷ 0 ∷ 16 ∷ 0 ∷ []) ++ fourBytes b)
+    × (recordOf (Marked b m) [] ≡ (12 ∷ 0 ∷ 17 ∷ 0 ∷ []) ++ (fourBytes b ++ fourBytes m))
 
 -- A record has room for one more segment exactly when it would not be longer than the limit.
 abbrev pub Full : Type 0
@@ -85,13 +127,29 @@ Full =
     → (n < mostSegments h → headSize h + itemBytes * (n + 1) ≤ recordLimit)
     × (headSize h + itemBytes * (n + 1) ≤ recordLimit → n < mostSegments h)
 
--- The format's printed record, block size 128 and a data segment of 100 sectors at 2,048, byte for byte; it is accepted on the
--- examples' device.
+-- The most segments by number: 409 with either head, the record of kind 17 then having exactly as many bytes as the limit.
+abbrev pub Most : Type 0
+Most = (b m : ℕ) → (mostSegments (Plain b) ≡ 409) × ((mostSegments (Marked b m) ≡ 409) × (headSize (Marked b m) + itemBytes * 409 ≡ recordLimit))
+
+-- A data segment of 100 sectors at 2,048, and the examples' device.
+abbrev pub printedSegment : Segment
+printedSegment = record { kind = 2; start = 2048; sectors = 100 }
+
+abbrev pub printedDevice : Device
+printedDevice = record { sectors = 2097152; metadata = 2040; reserved = 0 }
+
+-- its bytes
+abbrev pub printedItem : List ℕ
+printedItem = 20 ∷ 0 ∷ 2 ∷ 0 ∷ 0 ∷ 8 ∷ 0 ∷ 0 ∷ 0 ∷ 0 ∷ 0 ∷ 0 ∷ 100 ∷ 0 ∷ 0 ∷ 0 ∷ 0 ∷ 0 ∷ 0 ∷ 0 ∷ []
+
+-- The format's printed record, block size 128 and that segment, byte for byte; and the same with a head of kind 17 and the mark 1,000. Both are
+-- accepted on that device.
 abbrev pub Printed : Type 0
 Printed =
-    (recordOf (Plain 128) (record { kind = 2; start = 2048; sectors = 100 } ∷ [])
-    ≡ 8 ∷ 0 ∷ 16 ∷ 0 ∷ 128 ∷ 0 ∷ 0 ∷ 0 ∷ 20 ∷ 0 ∷ 2 ∷ 0 ∷ 0 ∷ 8 ∷ 0 ∷ 0 ∷ 0 ∷ 0 ∷ 0 ∷ 0 ∷ 100 ∷ 0 ∷ 0 ∷ 0 ∷ 0 ∷ 0 ∷ 0 ∷ 0 ∷ [])
-    × (first (recordTests (record { sectors = 2097152; metadata = 2040; reserved = 0 }) (recordOf (Plain 128) (record { kind = 2; start = 2048; sectors = 100 } ∷ []))) ≡ 0)
+    (recordOf (Plain 128) (printedSegment ∷ []) ≡ 8 ∷ 0 ∷ 16 ∷ 0 ∷ 128 ∷ 0 ∷ 0 ∷ 0 ∷ printedItem)
+    × ((first (recordTests printedDevice (recordOf (Plain 128) (printedSegment ∷ []))) ≡ 0)
+    × ((recordOf (Marked 128 1000) (printedSegment ∷ []) ≡ 12 ∷ 0 ∷ 17 ∷ 0 ∷ 128 ∷ 0 ∷ 0 ∷ 0 ∷ 232 ∷ 3 ∷ 0 ∷ 0 ∷ printedItem)
+    × (first (recordTests printedDevice (recordOf (Marked 128 1000) (printedSegment ∷ []))) ≡ 0)))
 
 -- What each refusal number says of the device numbers d and the record s.
 pub record Means (d : Device) (s : List ℕ) : Type 0 where
@@ -112,6 +170,16 @@ pub record Means (d : Device) (s : List ℕ) : Type 0 where
 
 abbrev pub Meaning : Type 0
 Meaning = (d : Device) (s : List ℕ) → Means d s
+
+-- Malformed is 17, and nothing else: bytes of an allowed length that are not those of a right head and of segments of its kinds, so with no head or a
+-- second one, on a device whose numbers are allowed.
+abbrev pub Malformed : Type 0
+Malformed =
+    (d : Device) (s : List ℕ) → Bytes s → first (deviceTests d) ≡ 0 → 1 ≤ length s → length s ≤ recordLimit
+    → ((h : Head) (gs : List Segment) → headRight d h ≡ true
+    → ((i : ℕ) → i < length gs → (allows h (nth gs i .kind) ≡ true) × ((nth gs i .start < 2 ^ 64) × (nth gs i .sectors < 2 ^ 64)))
+    → recordOf h gs ≡ s → ⊥)
+    → first (recordTests d s) ≡ 17
 
 -- A refusal is the lowest number whose condition holds.
 abbrev pub Lowest : Type 0

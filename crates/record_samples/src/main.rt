@@ -489,7 +489,8 @@ fn changed(what: &[u8], at: usize, v: u16) {
 fn forms() {
     changed(b"a head of 7 bytes", 0, 7);
     changed(b"a head of 9 bytes", 0, 9);
-    changed(b"a head of kind 17", 2, 17);
+    changed(b"kind 17 in 8 bytes", 2, 17);
+    changed(b"a head of kind 18", 2, 18);
     changed(b"block size 0", 4, 0);
     changed(b"block size 64", 4, 64);
     changed(b"block size 129", 4, 129);

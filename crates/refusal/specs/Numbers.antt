@@ -92,3 +92,7 @@ noSegment = 22
 -- no store has that number
 abbrev pub noStore : ℕ
 noStore = 23
+
+-- moving the head would lose its low water mark
+abbrev pub headMove : ℕ
+headMove = 24

@@ -1,4 +1,4 @@
--- A refusal as a call answers it: document 01's number, and what stands beside it.
+-- A refusal as a call answers it: its number, and what stands beside it.
 use Prim.Native.Nat.{ℕ}
 use mathlib.Core.Bool.{cond}
 use lib.Dec.{eqb}

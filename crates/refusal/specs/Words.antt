@@ -34,6 +34,7 @@ table =
     ∷ "the record already holds the most segments"
     ∷ "no segment has that position"
     ∷ "no store has that number"
+    ∷ "moving the head would lose its low water mark"
     ∷ []
 
 -- how many numbers the table has: those below are known

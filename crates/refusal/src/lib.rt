@@ -52,6 +52,8 @@ pub const NO_SEGMENT: u8 = 22;
 
 pub const NO_STORE: u8 = 23;
 
+pub const HEAD_MOVE: u8 = 24;
+
 // A refusal: its number, 0 for none, and what stands beside it. Beside 19 these are the positions, counted from 0, of the two segments that clash;
 // beside every other number both are zero.
 #[repr(C)]
@@ -123,6 +125,7 @@ pub fn words_of(n: u8) -> Words
         21 => lay(b"the record already holds the most segments"),
         22 => lay(b"no segment has that position"),
         23 => lay(b"no store has that number"),
-        24..=255 => lay(b"a number that is not known"),
+        24 => lay(b"moving the head would lose its low water mark"),
+        25..=255 => lay(b"a number that is not known"),
     }
 }

@@ -14,19 +14,14 @@ use Rattle.items.specs.declared.Head.the-variants.{Plain}
 use Rattle.items.specs.Head.{headOf, headSize, headBytes, headAllowed, itemBytes}
 use Rattle.items.specs.Making.{segmentBytes, allBytes, recordOf, place, begun}
 use Rattle.items.proofs.Heads.{HeadFits, head-made}
-use Rattle.items.proofs.Making.{length-segment, length-record, all-append, all-one, begin-written}
+use Rattle.items.proofs.Making.{length-segment, length-record, begun-is}
+use Rattle.items.proofs.Building.{one-more}
 use Rattle.sampling.specs.Laying.{segmentPut}
 
 -- what `put_segment` leaves, from what its calls answer
 pub put-is : (s w : List ℕ) (at i : ℕ) (g : Segment) → at ≡ min (place s i) (length s) → w ≡ splice s at (segmentBytes g) → w ≡ segmentPut s i g
 unfolding segmentPut
 put-is s w at i g e f = f ∙ ap (λ (z : ℕ). splice s z (segmentBytes g)) e
-
-one-more : (h : Head) (gs : List Segment) (g : Segment) → recordOf h gs ++ segmentBytes g ≡ recordOf h (gs ++ (g ∷ []))
-unfolding recordOf
-one-more h gs g =
-    append-assoc (headBytes h) (allBytes gs) (segmentBytes g)
-    ∙ ap (λ (z : List ℕ). headBytes h ++ z) (sym (all-append gs (g ∷ []) ∙ ap (λ (z : List ℕ). allBytes gs ++ z) (all-one g)))
 
 -- the head of a record that a buffer begins with
 head-there : (s : List ℕ) (h : Head) (gs : List Segment) → HeadFits h → length (recordOf h gs) ≤ length s → headOf (splice s 0 (recordOf h gs)) ≡ h
@@ -48,11 +43,9 @@ put-next s h gs g f l =
     rw (e, k, p) (splice-next s 0 (recordOf h gs) (segmentBytes g) (length (recordOf h gs)) (omega arith) (omega arith) ∙ ap (splice s 0) (one-more h gs g))
 
 -- a record begun
-begun-is : (s : List ℕ) (b : ℕ) → headAllowed (Plain b) ≡ true → headSize (Plain b) ≤ length s → begun s (Plain b) ≡ splice s 0 (recordOf (Plain b) [])
+begun-record : (s : List ℕ) (h : Head) → headAllowed h ≡ true → headSize h ≤ length s → begun s h ≡ splice s 0 (recordOf h [])
 unfolding recordOf allBytes
-begun-is s b r l =
-    sym (begin-written s (splice s 0 (headBytes (Plain b))) (Plain b) b true l (sym r) refl refl refl .1)
-    ∙ ap (splice s 0) (sym (append-nil (headBytes (Plain b))))
+begun-record s h r l = begun-is s h r l ∙ ap (splice s 0) (sym (append-nil (headBytes h)))
 
 module _ (s : List ℕ) (g : Segment) where
   small : 128 < 256 ^ 4
@@ -70,7 +63,7 @@ module _ (s : List ℕ) (g : Segment) where
   first-put l =
       let e : headSize (Plain 128) ≡ 8 = eight in
       let m : length (recordOf (Plain 128) []) ≡ headSize (Plain 128) + 20 * 0 = length-record (Plain 128) [] in
-      ap (λ (z : List ℕ). segmentPut z 0 g) (begun-is s 128 allowed (omega arith)) ∙ put-next s (Plain 128) [] g small (omega arith)
+      ap (λ (z : List ℕ). segmentPut z 0 g) (begun-record s (Plain 128) allowed (omega arith)) ∙ put-next s (Plain 128) [] g small (omega arith)
 
   pub one-made : length s ≡ 28 → (a w : List ℕ) → a ≡ begun s (Plain 128) → w ≡ segmentPut a 0 g → w ≡ recordOf (Plain 128) (g ∷ [])
   one-made l a w i j =

@@ -1,7 +1,7 @@
-//! Cuts power in updates, allocations, releases, mends, formats and restores, at every store and flush, and holds what the
-//! command then says to what was promised:
+//! Cuts power in updates, allocations, releases, changes of the head, mends, formats and restores, at every store and flush, and
+//! holds what the command then says to what was promised:
 //!
-//! - update, allocate, release: the new record exactly when the front block stands in its new version, else the old one;
+//! - update, allocate, release, head, mark: the new record exactly when the front block stands in its new version, else the old one;
 //! - mend: the record that was found before;
 //! - format of an empty drive: a refusal, or the new record;
 //! - restore over copies in step: the record before it, or the backup's.
@@ -15,8 +15,10 @@ use crate::command::{Bench, Call, Failures, Run, IMAGE};
 use crate::image::{found_line, Copies, Image, Stamped, Store, DEVICE, POOL};
 use crate::model::block::{Block, Entry, Identity};
 use crate::model::layout::{Device, BACK, FRONT};
-use crate::model::room;
-use crate::states::{half_updated, identity, in_step, spoil_block, stamped, tear, LARGE, SMALL};
+use crate::model::record::{Head, Record};
+use crate::model::refusal::Refusal;
+use crate::model::{heads, room};
+use crate::states::{half_updated, headed, identity, in_step, spoil_block, stamped, tear, LARGE, MARKED, PLAIN, SMALL};
 
 /// What discovery has to give after a cut.
 enum Promise {
@@ -126,6 +128,25 @@ impl<'a> Cuts<'a> {
         record.drain(at..at + 20);
         let new = Stamped { time: crate::image::time(30, 7), record };
         cases.push(update_case("release", device, &["release", IMAGE, "0"], &stepped, new));
+
+        let with = |head, segments| headed(head, &device, segments, 20, 0);
+        let head_case = |name, words: &[&str], found: &Stamped, new: Result<Record, Refusal>| {
+            let new = new.expect("another head");
+            let mut record = vec![0; new.length()];
+            new.put(&mut record);
+            let new = Stamped { time: crate::image::time(30, 7), record };
+            update_case(name, device, words, &in_step(device, &older, found), new)
+        };
+        let up = ["head", IMAGE, "up"];
+        // 102 segments take four sectors with a head of kind 16 and five with one of kind 17.
+        for found in [with(PLAIN, 2), with(PLAIN, 102), with(PLAIN, 409)] {
+            cases.push(head_case("head up", &up, &found, heads::up(&device, &found.record)));
+        }
+        for found in [with(Head::marked(128, 0), 2), with(Head::marked(128, 0), 102)] {
+            cases.push(head_case("head back", &["head", IMAGE, "back"], &found, heads::back(&device, &found.record)));
+        }
+        let found = with(MARKED, 2);
+        cases.push(head_case("mark", &["mark", IMAGE, "7"], &found, heads::mark(&device, &found.record, 7)));
 
         for (size, found) in [("small", &newer), ("large", &large)] {
             let stepped = in_step(device, &older, found);

@@ -23,7 +23,7 @@ enum Does {
     Find,
     /// Reads and prints something else.
     Read,
-    /// An update, an allocation, a release or a mend: a cut in it leaves the old record or the new one.
+    /// An update, an allocation, a release, a change of the head or a mend: a cut in it leaves the old record or the new one.
     Change,
     /// Formats or restores.
     Fill,
@@ -156,6 +156,7 @@ impl<'a> Faults<'a> {
             case("update", &["update", IMAGE, RECORD], &stepped, Does::Change, Some(RECORD)),
             case("allocate", &["allocate", IMAGE, "2", "100"], &stepped, Does::Change, None),
             case("release", &["release", IMAGE, "1"], &stepped, Does::Change, None),
+            case("head up", &["head", IMAGE, "up"], &stepped, Does::Change, None),
             case("mend after a cut", &["mend", IMAGE], &half, Does::Change, None),
             case("mend of torn entries", &["mend", IMAGE], &torn, Does::Change, None),
             case("mend with no front", &["mend", IMAGE], &no_front, Does::Change, None),

@@ -8,7 +8,7 @@ use std::path::Path;
 use crate::image::{time, Copies, Image, Stamped};
 use crate::model::block::{put_entry, seal, Entry, Identity, Time};
 use crate::model::layout::{Device, BLOCK_OFFSET, SECTOR};
-use crate::model::record::{head, Segment};
+use crate::model::record::{Head, Segment};
 use crate::states::{identity, SMALL};
 
 type Done = Result<(), String>;
@@ -16,7 +16,7 @@ type Done = Result<(), String>;
 /// The words that make and look at images. `None` for any other word.
 pub fn word(arguments: &[&str]) -> Option<Done> {
     Some(match arguments {
-        ["segments", file, block_size, segments @ ..] => make_record(file, block_size, segments),
+        ["segments", file, head, segments @ ..] => make_record(file, head, segments),
         ["new", image, when, record, rest @ ..] => new(image, when, record, rest),
         ["update", image, when, record] => update(image, when, record, "4"),
         ["update", image, when, record, groups] => update(image, when, record, groups),
@@ -30,7 +30,7 @@ pub fn word(arguments: &[&str]) -> Option<Done> {
 }
 
 pub const USAGE: &str = "\
-drive segments FILE BLOCK-SIZE [KIND:START:SECTORS..]         writes a record
+drive segments FILE BLOCK-SIZE[:MARK] [KIND:START:SECTORS..]  writes a record, its head with a low water mark or without
 drive new IMAGE SECONDS.NANOSECONDS RECORD [sectors=N] [metadata=N] [reserved=N] [pool=UUID] [device=UUID]
                                                               makes a sparse image and formats it
 drive update IMAGE SECONDS.NANOSECONDS RECORD [GROUPS]        lands an update, or its first groups only
@@ -69,8 +69,13 @@ fn open(image: &str) -> Result<Image, String> {
     Image::open(Path::new(image)).map_err(|error| format!("{image}: {error}"))
 }
 
-fn make_record(file: &str, block_size: &str, segments: &[&str]) -> Done {
-    let mut bytes = head(number(block_size)?).map_err(|refusal| format!("{refusal:?}"))?.to_vec();
+fn make_record(file: &str, head: &str, segments: &[&str]) -> Done {
+    let head = match head.split_once(':') {
+        Some((block_size, mark)) => Head::marked(number(block_size)?, number(mark)?),
+        None => Head::plain(number(head)?),
+    };
+    head.check().map_err(|refusal| format!("{refusal:?}"))?;
+    let mut bytes = head.item();
     for text in segments {
         let numbers: Vec<u64> = text.split(':').map(number).collect::<Result<_, _>>()?;
         let [kind, start, length] = numbers[..] else {

@@ -8,10 +8,10 @@ use crate::image::{place, time, Copies, Image, Stamped};
 use crate::model::block::{put_entry, seal, Entry, Identity, Time};
 use crate::model::discovery::is_whole;
 use crate::model::layout::{AREA_OFFSET, BACK, FRONT, SECTOR};
-use crate::model::record::check_record;
+use crate::model::record::{check_record, Head};
 use crate::model::room::free_runs;
 use crate::rng::Rng;
-use crate::states::{half_updated, identity, record, SMALL};
+use crate::states::{half_updated, identity, record, MARKED, PLAIN, SMALL};
 
 const SEED: u64 = 20_261_116;
 
@@ -244,10 +244,13 @@ fn check_lines(copies: &Copies, unread: &[u64]) -> Vec<String> {
         Ok(found) => {
             let device = copies.block(found.side).expect("a block that was accepted").identity.device;
             lines.push(copies.line());
-            lines.push(match check_record(&device, found.record([&copies.0[FRONT], &copies.0[BACK]])) {
-                Ok((record, _)) => format!("record accepted, {} segments", record.count()),
-                Err(refusal) => format!("record refused {}: *", refusal.number()),
-            });
+            match check_record(&device, found.record([&copies.0[FRONT], &copies.0[BACK]])) {
+                Ok((record, _)) => {
+                    lines.push(format!("record accepted, {} segments", record.count()));
+                    lines.push(format!("head {}", head_words(&record.head)));
+                }
+                Err(refusal) => lines.push(format!("record refused {}: *", refusal.number())),
+            }
             lines.push(format!("in step {}", if copies.pair().in_step() { "yes" } else { "no" }));
             let stores = copies.mend_stores().expect("what is found can be mended");
             let plan = mend_lines(copies, &stores, copies);
@@ -258,6 +261,15 @@ fn check_lines(copies: &Copies, unread: &[u64]) -> Vec<String> {
         }
     }
     lines
+}
+
+/// What is said of a head.
+fn head_words(head: &Head) -> String {
+    match head.low_water {
+        None => "kind 16".to_string(),
+        Some(1) => "kind 17, low water mark 1 block".to_string(),
+        Some(mark) => format!("kind 17, low water mark {mark} blocks"),
+    }
 }
 
 /// What show --plain prints of what is found.
@@ -282,7 +294,11 @@ fn show_lines(copies: &Copies) -> String {
     let record = check_record(&device, found.record([&copies.0[FRONT], &copies.0[BACK]]));
     add("record", record.as_ref().err().map_or(0, |refusal| refusal.number()).to_string());
     if let Ok((record, spans)) = record {
-        add("block-size", record.block_size().to_string());
+        add("head", record.head.kind().to_string());
+        add("block-size", record.head.block_size.to_string());
+        if let Some(mark) = record.head.low_water {
+            add("low-water", mark.to_string());
+        }
         add("segments", record.count().to_string());
         for (i, segment) in record.segments().enumerate() {
             add(&format!("segment.{i}.kind"), segment.kind.to_string());
@@ -349,6 +365,15 @@ fn any_time(rng: &mut Rng) -> Time {
     time(seconds, rng.one_of(&[0, 1, 2, 999_999_999]))
 }
 
+/// Of either kind, most often of kind 16.
+fn any_head(rng: &mut Rng) -> Head {
+    match rng.below(6) {
+        0 => MARKED,
+        1 => Head::marked(128, rng.one_of(&[0, 1, u32::MAX])),
+        _ => PLAIN,
+    }
+}
+
 /// A record of a sector or of several, or bytes that are none.
 fn any_record(rng: &mut Rng) -> Vec<u8> {
     let count = rng.one_of(&[0, 1, 2, 25, 26, 100, 409]);
@@ -357,7 +382,7 @@ fn any_record(rng: &mut Rng) -> Vec<u8> {
             let length = rng.one_of(&[1, 8, 511, 512, 513, 8191, 8192]);
             rng.bytes(length)
         }
-        _ => record(&SMALL, count),
+        _ => record(any_head(rng), &SMALL, count),
     }
 }
 
@@ -381,11 +406,12 @@ fn state(rng: &mut Rng) -> Copies {
 
 /// In step, in the middle of an update, or with any entries; then up to three damages.
 fn any_state(rng: &mut Rng) -> Copies {
-    let first = Stamped { time: any_time(rng), record: record(&SMALL, rng.within(0, 3)) };
+    let first = Stamped { time: any_time(rng), record: record(any_head(rng), &SMALL, rng.within(0, 3)) };
     let mut copies = Copies::formatted(&identity(SMALL), &first).expect("a first record");
     match rng.below(3) {
         0 => {
-            let new = Stamped { time: time(400_000_000_000, 0), record: record(&SMALL, rng.within(0, 60)) };
+            let record = record(any_head(rng), &SMALL, rng.within(0, 60));
+            let new = Stamped { time: time(400_000_000_000, 0), record };
             copies = half_updated(SMALL, &copies, &new, rng.within(0, 4) as u8);
         }
         1 => {

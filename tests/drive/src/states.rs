@@ -3,7 +3,7 @@
 use crate::image::{time, Copies, Stamped, DEVICE, POOL};
 use crate::model::block::Identity;
 use crate::model::layout::{Device, AREA_OFFSET, BLOCK_OFFSET};
-use crate::model::record::{head, Segment};
+use crate::model::record::{Head, Segment};
 
 pub const SMALL: Device = Device { sectors: 2_097_152, metadata: 2_040, reserved: 0 };
 
@@ -14,9 +14,13 @@ pub fn identity(device: Device) -> Identity {
     Identity { device, pool_uuid: *POOL, device_uuid: *DEVICE }
 }
 
-/// A record with that many segments of 4 sectors, 5 sectors apart.
-pub fn record(device: &Device, segments: u64) -> Vec<u8> {
-    let mut bytes = head(128).expect("a block size").to_vec();
+/// The head of kind 16 that most records have, and one of kind 17.
+pub const PLAIN: Head = Head::plain(128);
+pub const MARKED: Head = Head::marked(128, 500);
+
+/// A record with that head and that many segments of 4 sectors, 5 sectors apart.
+pub fn record(head: Head, device: &Device, segments: u64) -> Vec<u8> {
+    let mut bytes = head.item();
     for i in 0..segments {
         let segment = Segment { kind: 1 + (i % 4) as u16, start: device.data_start() + 5 * i, length: 4 };
         bytes.extend_from_slice(&segment.item());
@@ -25,7 +29,12 @@ pub fn record(device: &Device, segments: u64) -> Vec<u8> {
 }
 
 pub fn stamped(device: &Device, segments: u64, seconds: u64, nanoseconds: u32) -> Stamped {
-    Stamped { time: time(seconds, nanoseconds), record: record(device, segments) }
+    headed(PLAIN, device, segments, seconds, nanoseconds)
+}
+
+/// The same with another head.
+pub fn headed(head: Head, device: &Device, segments: u64, seconds: u64, nanoseconds: u32) -> Stamped {
+    Stamped { time: time(seconds, nanoseconds), record: record(head, device, segments) }
 }
 
 /// In step: area a with the older record, area b with the newer one.

@@ -134,11 +134,35 @@ extern "C" {
         table_length: usize,
     ) -> CountAnswer;
     fn amseokbin_record_begin(buffer: *mut u8, buffer_length: usize, block_size: u32) -> Refused;
+    fn amseokbin_record_begin_marked(buffer: *mut u8, buffer_length: usize, block_size: u32, low_water: u32)
+        -> Refused;
     fn amseokbin_record_put(
         buffer: *mut u8,
         buffer_length: usize,
         position: u64,
         segment: SegmentFields,
+    ) -> LengthAnswer;
+    fn amseokbin_head_up(
+        device: Device,
+        record: *const u8,
+        record_length: usize,
+        changed: *mut u8,
+        changed_length: usize,
+    ) -> LengthAnswer;
+    fn amseokbin_head_back(
+        device: Device,
+        record: *const u8,
+        record_length: usize,
+        changed: *mut u8,
+        changed_length: usize,
+    ) -> LengthAnswer;
+    fn amseokbin_head_mark(
+        device: Device,
+        record: *const u8,
+        record_length: usize,
+        low_water: u32,
+        changed: *mut u8,
+        changed_length: usize,
     ) -> LengthAnswer;
     fn amseokbin_free_total(device: Device, record: *const u8, record_length: usize) -> TotalAnswer;
     fn amseokbin_free_runs(
@@ -438,8 +462,26 @@ impl Interface for Library {
         unsafe { amseokbin_record_begin(start_mut(buffer), buffer.len(), block_size) }
     }
 
+    fn record_begin_marked(&self, buffer: &mut [u8], block_size: u32, low_water: u32) -> Refused {
+        unsafe { amseokbin_record_begin_marked(start_mut(buffer), buffer.len(), block_size, low_water) }
+    }
+
     fn record_put(&self, buffer: &mut [u8], position: u64, segment: SegmentFields) -> LengthAnswer {
         unsafe { amseokbin_record_put(start_mut(buffer), buffer.len(), position, segment) }
+    }
+
+    fn head_up(&self, device: Device, record: &[u8], changed: &mut [u8]) -> LengthAnswer {
+        unsafe { amseokbin_head_up(device, start(record), record.len(), start_mut(changed), changed.len()) }
+    }
+
+    fn head_back(&self, device: Device, record: &[u8], changed: &mut [u8]) -> LengthAnswer {
+        unsafe { amseokbin_head_back(device, start(record), record.len(), start_mut(changed), changed.len()) }
+    }
+
+    fn head_mark(&self, device: Device, record: &[u8], low_water: u32, changed: &mut [u8]) -> LengthAnswer {
+        unsafe {
+            amseokbin_head_mark(device, start(record), record.len(), low_water, start_mut(changed), changed.len())
+        }
     }
 
     fn free_total(&self, device: Device, record: &[u8]) -> TotalAnswer {

@@ -6,7 +6,9 @@ use crate::interface::*;
 use crate::model::apply::format_count;
 use crate::model::block::MAX_NANOSECONDS;
 use crate::model::layout::{AREA_OFFSET, BACK, BLOCK_OFFSET, COPY, FRONT, RECORD_LIMIT, SECTOR};
-use crate::model::record::{is_block_size, HEAD_BYTES, MAX_SEGMENTS, SEGMENT_BYTES};
+use crate::model::record::{
+    is_block_size, Head, HEAD_BYTES, MARKED_HEAD_BYTES, MARKED_KIND, MAX_SEGMENTS, PLAIN_KIND, SEGMENT_BYTES,
+};
 use crate::model::refusal::{Clash, Refusal};
 use crate::model::settled::COPY_SECTORS;
 use crate::model::Model;
@@ -51,7 +53,7 @@ structs![
     ("update_answer", UpdateAnswer, 56),
     ("mend", MendPlan, 8),
     ("mend_answer", MendAnswer, 32),
-    ("head_answer", HeadAnswer, 40),
+    ("head_answer", HeadAnswer, 48),
     ("segment_answer", SegmentAnswer, 48),
     ("count_answer", CountAnswer, 32),
     ("length_answer", LengthAnswer, 32),
@@ -177,7 +179,7 @@ fn structs_of(source: &str) -> Vec<String> {
 fn declarations_are_those_of_the_header() {
     let statements = statements();
     let header: Vec<String> = statements.iter().filter_map(|statement| function(statement)).collect();
-    assert_eq!(header.len(), 42, "the header could not be read");
+    assert_eq!(header.len(), 46, "the header could not be read");
     assert_eq!(header, functions_of(include_str!("ffi.rs")));
 }
 
@@ -274,7 +276,7 @@ fn numbers() -> Vec<(String, u64)> {
 fn numbers_are_those_of_the_header() {
     let sizes = [
         ("VERSION_MAJOR", 0),
-        ("VERSION_MINOR", 2),
+        ("VERSION_MINOR", 3),
         ("SECTOR", SECTOR),
         ("COPY", COPY),
         ("BLOCK_OFFSET", BLOCK_OFFSET),
@@ -283,6 +285,7 @@ fn numbers_are_those_of_the_header() {
         ("UUID", UUID),
         ("RECORD", RECORD_LIMIT),
         ("HEAD", HEAD_BYTES),
+        ("MARKED_HEAD", MARKED_HEAD_BYTES),
         ("SEGMENT", SEGMENT_BYTES),
         ("WORDS", WORDS),
         ("LEAST_SECTORS", Device::MIN_SECTORS as usize),
@@ -311,6 +314,8 @@ fn numbers_are_those_of_the_header() {
         ("THIN_DATA", 2),
         ("SPARE", 3),
         ("METADATA_VOLUME", 4),
+        ("HEAD_PLAIN", usize::from(PLAIN_KIND)),
+        ("HEAD_MARKED", usize::from(MARKED_KIND)),
     ];
     let refusals = [
         ("SLICE_SIZE", Refusal::SliceSize),
@@ -336,6 +341,7 @@ fn numbers_are_those_of_the_header() {
         ("RECORD_FULL", Refusal::RecordFull),
         ("NO_SEGMENT", Refusal::NoSegment),
         ("NO_STORE", Refusal::NoStore),
+        ("HEAD_MOVE", Refusal::HeadMove),
     ];
     let mut ours: Vec<(String, u64)> = sizes.map(|(name, size)| (name.to_string(), size as u64)).to_vec();
     ours.push(("OK".to_string(), 0));
@@ -344,7 +350,9 @@ fn numbers_are_those_of_the_header() {
     header.sort();
     ours.sort();
     assert_eq!(header, ours);
-    assert_eq!(Model.version(), 2);
+    assert_eq!(Model.version(), 3);
+    // The header has one number for both kinds of heads.
+    assert_eq!([Head::plain(128), Head::marked(128, 0)].map(|head| head.most_segments()), [MAX_SEGMENTS; 2]);
     assert!([128, 2_097_152].into_iter().all(is_block_size) && !is_block_size(127) && !is_block_size(2_097_280));
 }
 
@@ -363,5 +371,5 @@ fn words_are_those_of_the_header() {
         assert_eq!(comment.as_bytes(), words.text(), "words of {number}");
         lines += 1;
     }
-    assert_eq!(lines, 23);
+    assert_eq!(lines, 24);
 }

@@ -67,7 +67,12 @@ pub trait Interface {
     fn record_segment(&self, device: Device, record: &[u8], position: u64) -> SegmentAnswer;
     fn record_segments(&self, device: Device, record: &[u8], position: u64, table: &mut [u64]) -> CountAnswer;
     fn record_begin(&self, buffer: &mut [u8], block_size: u32) -> Refused;
+    fn record_begin_marked(&self, buffer: &mut [u8], block_size: u32, low_water: u32) -> Refused;
     fn record_put(&self, buffer: &mut [u8], position: u64, segment: SegmentFields) -> LengthAnswer;
+
+    fn head_up(&self, device: Device, record: &[u8], changed: &mut [u8]) -> LengthAnswer;
+    fn head_back(&self, device: Device, record: &[u8], changed: &mut [u8]) -> LengthAnswer;
+    fn head_mark(&self, device: Device, record: &[u8], low_water: u32, changed: &mut [u8]) -> LengthAnswer;
 
     fn free_total(&self, device: Device, record: &[u8]) -> TotalAnswer;
     fn free_runs(&self, device: Device, record: &[u8], table: &mut [FreeRun]) -> CountAnswer;

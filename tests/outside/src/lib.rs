@@ -8,6 +8,7 @@ mod header;
 pub mod interface;
 pub mod lent;
 pub mod model;
+pub mod moves;
 pub mod rng;
 pub mod sample;
 #[cfg(feature = "self-test")]

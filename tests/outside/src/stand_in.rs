@@ -4,7 +4,8 @@ use std::slice::{from_raw_parts, from_raw_parts_mut};
 
 use crate::interface::*;
 use crate::model::Model;
-use crate::wrong::{told, told_block};
+use crate::moves::Move;
+use crate::wrong::{told, told_allocation, told_begin, told_block, told_head, told_move, told_put};
 
 unsafe fn shared<'a, T>(items: *const T, length: usize) -> &'a [T] {
     if length == 0 {
@@ -159,11 +160,9 @@ unsafe extern "C" fn amseokbin_update_check(
     record_length: usize,
 ) -> Refused {
     let record = shared(record, record_length);
-    told(
-        "update_check",
-        record,
-        Model.update_check(shared(front, front_length), shared(back, back_length), time, record),
-    )
+    told("update_check", record, |record| {
+        Model.update_check(shared(front, front_length), shared(back, back_length), time, record)
+    })
 }
 
 #[no_mangle]
@@ -177,7 +176,9 @@ unsafe extern "C" fn amseokbin_update_plan(
     record_length: usize,
 ) -> UpdateAnswer {
     let record = shared(record, record_length);
-    told("update_plan", record, Model.update_plan(shared(front, front_length), shared(back, back_length), time, record))
+    told("update_plan", record, |record| {
+        Model.update_plan(shared(front, front_length), shared(back, back_length), time, record)
+    })
 }
 
 #[no_mangle]
@@ -229,9 +230,7 @@ unsafe extern "C" fn amseokbin_format(
     record_length: usize,
 ) -> Refused {
     let record = shared(record, record_length);
-    told(
-        "format",
-        record,
+    told("format", record, |record| {
         Model.format(
             unique(front, front_length),
             unique(back, back_length),
@@ -240,8 +239,8 @@ unsafe extern "C" fn amseokbin_format(
             shared(blockdev, blockdev_length),
             time,
             record,
-        ),
-    )
+        )
+    })
 }
 
 #[no_mangle]
@@ -311,13 +310,13 @@ unsafe extern "C" fn amseokbin_mend_store(
 #[no_mangle]
 unsafe extern "C" fn amseokbin_record_check(device: Device, record: *const u8, record_length: usize) -> Refused {
     let record = shared(record, record_length);
-    told("record_check", record, Model.record_check(device, record))
+    told("record_check", record, |record| Model.record_check(device, record))
 }
 
 #[no_mangle]
 unsafe extern "C" fn amseokbin_record_head(device: Device, record: *const u8, record_length: usize) -> HeadAnswer {
     let record = shared(record, record_length);
-    told("record_head", record, Model.record_head(device, record))
+    told("record_head", record, |record| told_head(record, Model.record_head(device, record)))
 }
 
 #[no_mangle]
@@ -328,7 +327,7 @@ unsafe extern "C" fn amseokbin_record_segment(
     position: u64,
 ) -> SegmentAnswer {
     let record = shared(record, record_length);
-    told("record_segment", record, Model.record_segment(device, record, position))
+    told("record_segment", record, |record| Model.record_segment(device, record, position))
 }
 
 #[no_mangle]
@@ -341,12 +340,24 @@ unsafe extern "C" fn amseokbin_record_segments(
     table_length: usize,
 ) -> CountAnswer {
     let record = shared(record, record_length);
-    told("record_segments", record, Model.record_segments(device, record, position, unique(table, table_length)))
+    told("record_segments", record, |record| {
+        Model.record_segments(device, record, position, unique(table, table_length))
+    })
 }
 
 #[no_mangle]
 unsafe extern "C" fn amseokbin_record_begin(buffer: *mut u8, buffer_length: usize, block_size: u32) -> Refused {
     Model.record_begin(unique(buffer, buffer_length), block_size)
+}
+
+#[no_mangle]
+unsafe extern "C" fn amseokbin_record_begin_marked(
+    buffer: *mut u8,
+    buffer_length: usize,
+    block_size: u32,
+    low_water: u32,
+) -> Refused {
+    told_begin(unique(buffer, buffer_length), block_size, low_water)
 }
 
 #[no_mangle]
@@ -356,13 +367,47 @@ unsafe extern "C" fn amseokbin_record_put(
     position: u64,
     segment: SegmentFields,
 ) -> LengthAnswer {
-    Model.record_put(unique(buffer, buffer_length), position, segment)
+    told_put(unique(buffer, buffer_length), position, segment)
+}
+
+#[no_mangle]
+unsafe extern "C" fn amseokbin_head_up(
+    device: Device,
+    record: *const u8,
+    record_length: usize,
+    changed: *mut u8,
+    changed_length: usize,
+) -> LengthAnswer {
+    told_move(Move::Up, device, shared(record, record_length), unique(changed, changed_length))
+}
+
+#[no_mangle]
+unsafe extern "C" fn amseokbin_head_back(
+    device: Device,
+    record: *const u8,
+    record_length: usize,
+    changed: *mut u8,
+    changed_length: usize,
+) -> LengthAnswer {
+    told_move(Move::Back, device, shared(record, record_length), unique(changed, changed_length))
+}
+
+#[no_mangle]
+unsafe extern "C" fn amseokbin_head_mark(
+    device: Device,
+    record: *const u8,
+    record_length: usize,
+    low_water: u32,
+    changed: *mut u8,
+    changed_length: usize,
+) -> LengthAnswer {
+    told_move(Move::Mark(low_water), device, shared(record, record_length), unique(changed, changed_length))
 }
 
 #[no_mangle]
 unsafe extern "C" fn amseokbin_free_total(device: Device, record: *const u8, record_length: usize) -> TotalAnswer {
     let record = shared(record, record_length);
-    told("free_total", record, Model.free_total(device, record))
+    told("free_total", record, |record| Model.free_total(device, record))
 }
 
 #[no_mangle]
@@ -374,13 +419,13 @@ unsafe extern "C" fn amseokbin_free_runs(
     table_length: usize,
 ) -> CountAnswer {
     let record = shared(record, record_length);
-    told("free_runs", record, Model.free_runs(device, record, unique(table, table_length)))
+    told("free_runs", record, |record| Model.free_runs(device, record, unique(table, table_length)))
 }
 
 #[no_mangle]
 unsafe extern "C" fn amseokbin_run_count(device: Device, record: *const u8, record_length: usize) -> CountAnswer {
     let record = shared(record, record_length);
-    told("run_count", record, Model.run_count(device, record))
+    told("run_count", record, |record| Model.run_count(device, record))
 }
 
 #[no_mangle]
@@ -391,7 +436,7 @@ unsafe extern "C" fn amseokbin_run_at(
     number: u64,
 ) -> RunAnswer {
     let record = shared(record, record_length);
-    told("run_at", record, Model.run_at(device, record, number))
+    told("run_at", record, |record| Model.run_at(device, record, number))
 }
 
 #[no_mangle]
@@ -402,7 +447,7 @@ unsafe extern "C" fn amseokbin_first_fit(
     sectors: u64,
 ) -> RunAnswer {
     let record = shared(record, record_length);
-    told("first_fit", record, Model.first_fit(device, record, sectors))
+    told("first_fit", record, |record| Model.first_fit(device, record, sectors))
 }
 
 #[no_mangle]
@@ -416,7 +461,9 @@ unsafe extern "C" fn amseokbin_allocate(
     changed_length: usize,
 ) -> AllocationAnswer {
     let record = shared(record, record_length);
-    told("allocate", record, Model.allocate(device, record, kind, sectors, unique(changed, changed_length)))
+    told("allocate", record, |record| {
+        told_allocation(record, || Model.allocate(device, record, kind, sectors, unique(changed, changed_length)))
+    })
 }
 
 #[no_mangle]
@@ -429,5 +476,5 @@ unsafe extern "C" fn amseokbin_release(
     changed_length: usize,
 ) -> LengthAnswer {
     let record = shared(record, record_length);
-    told("release", record, Model.release(device, record, position, unique(changed, changed_length)))
+    told("release", record, |record| Model.release(device, record, position, unique(changed, changed_length)))
 }

@@ -176,7 +176,9 @@ pub struct MendAnswer {
 #[derive(Clone, Copy, Debug, Default, PartialEq, Eq)]
 pub struct HeadAnswer {
     pub refusal: Refused,
+    pub kind: u16,
     pub block_size: u32,
+    pub low_water: u32,
     pub segments: u64,
 }
 

@@ -1,13 +1,17 @@
 //! Wrong answers in the library's place, behind the C interface: the independent implementation with something else beside a number
-//! than what has to stand there, or with another test of a block's zero fields. The comparison has to notice each of them; the program
-//! `wrong` sees to it.
+//! than what has to stand there, with another test of a block's zero fields, or with heads that are read, moved or begun otherwise. The
+//! comparison has to notice each of them; the program `wrong` sees to it.
+
+mod heads;
 
 use std::env;
 use std::sync::OnceLock;
 
 use crate::interface::{Answer, BlockAnswer, Refusable, Refused};
 use crate::model::block::{seal, u32_at, u64_at, BlockBytes, ZERO_FIELDS};
-use crate::model::record::{Span, HEAD_BYTES, SEGMENT_BYTES};
+use crate::model::record::{Span, SEGMENT_BYTES};
+use crate::sample::records::head_length;
+pub use heads::{told_allocation, told_begin, told_head, told_move, told_put};
 
 /// The variable of the environment that names the wrong answer; without it, or empty, the answers are right.
 pub const VARIABLE: &str = "AMSEOKBIN_WRONG";
@@ -63,6 +67,9 @@ const CALLS: &[&str] = &[
     "first_fit",
     "allocate",
     "release",
+    "head_up",
+    "head_back",
+    "head_mark",
 ];
 
 /// A test of a block's flags and zero fields.
@@ -128,13 +135,14 @@ pub struct Named {
     pub families: &'static [&'static str],
 }
 
-/// The families that have to notice a wrong answer about a clash, and a wrong test of zero fields.
+/// The families that have to notice a wrong answer about a clash, a wrong test of zero fields, and what is wrong about heads.
 const CLASH_FAMILIES: &[&str] = &["examples", "clashes"];
 const ZERO_FAMILIES: &[&str] = &["zeros"];
+const HEAD_FAMILIES: &[&str] = &["heads"];
 
 /// All families that have to notice a wrong answer.
 pub fn families() -> impl Iterator<Item = &'static str> {
-    CLASH_FAMILIES.iter().chain(ZERO_FAMILIES).copied()
+    CLASH_FAMILIES.iter().chain(ZERO_FAMILIES).chain(HEAD_FAMILIES).copied()
 }
 
 /// All wrong answers.
@@ -142,14 +150,18 @@ pub fn names() -> Vec<Named> {
     let by_all = CHANGES.iter().map(|(name, _)| name.to_string());
     let clashes = by_all.chain(CALLS.iter().map(|call| by(call)));
     let zeros = ZERO_TESTS.iter().map(|(name, _)| name.to_string());
+    let heads = heads::WRONG.iter().map(|(name, _)| name.to_string());
     let clashes = clashes.map(|name| Named { name, families: CLASH_FAMILIES });
-    clashes.chain(zeros.map(|name| Named { name, families: ZERO_FAMILIES })).collect()
+    let zeros = zeros.map(|name| Named { name, families: ZERO_FAMILIES });
+    clashes.chain(zeros).chain(heads.map(|name| Named { name, families: HEAD_FAMILIES })).collect()
 }
 
-/// A wrong answer: another refusal of a record by one call, or by every call where none is named; or another test of zero fields.
+/// A wrong answer: another refusal of a record by one call, or by every call where none is named; another test of zero fields; or
+/// something about heads.
 enum Wrong {
     Record { change: Change, call: Option<&'static str> },
     Zeros(ZeroTest),
+    Heads(&'static heads::Wrong),
 }
 
 fn chosen() -> Option<&'static Wrong> {
@@ -161,20 +173,25 @@ fn chosen() -> Option<&'static Wrong> {
         let by_one = CALLS.iter().find(|call| by(call) == name);
         let by_one = by_one.map(|call| Wrong::Record { change: zeros, call: Some(call) });
         let zeros = ZERO_TESTS.iter().find(|(known, _)| *known == name).map(|(_, test)| Wrong::Zeros(*test));
-        Some(by_all.or(by_one).or(zeros).unwrap_or_else(|| panic!("{VARIABLE}: no wrong answer is {name}")))
+        let heads = heads::WRONG.iter().find(|(known, _)| *known == name).map(|(_, wrong)| Wrong::Heads(wrong));
+        let any = by_all.or(by_one).or(zeros).or(heads);
+        Some(any.unwrap_or_else(|| panic!("{VARIABLE}: no wrong answer is {name}")))
     };
     CHOSEN.get_or_init(choose).as_ref()
 }
 
 /// The answer of a call for a record, as the chosen wrong answer has it.
-pub fn told<A: Refusable>(call: &'static str, record: &[u8], mut answer: A) -> A {
-    if let Some(Wrong::Record { change, call: only }) = chosen() {
-        if only.is_none_or(|only| only == call) {
+pub fn told<A: Refusable>(call: &'static str, record: &[u8], ask: impl FnOnce(&[u8]) -> A) -> A {
+    match chosen() {
+        Some(Wrong::Record { change, call: only }) if only.is_none_or(|only| only == call) => {
+            let mut answer = ask(record);
             let refusal = answer.refusal_mut();
             *refusal = change(*refusal, &spans(record));
+            answer
         }
+        Some(Wrong::Heads(heads::Wrong::Read(read))) => ask(&read(record)),
+        _ => ask(record),
     }
-    answer
 }
 
 /// The reading of a block, with the chosen test of its zero fields where one is chosen.
@@ -198,7 +215,7 @@ pub fn told_block(bytes: &[u8], read: impl Fn(&[u8]) -> BlockAnswer) -> BlockAns
 
 /// The segments of a record, whatever else is wrong with it.
 fn spans(record: &[u8]) -> Vec<Span> {
-    let items = record.get(HEAD_BYTES..).unwrap_or_default().chunks_exact(SEGMENT_BYTES);
+    let items = record.get(head_length(record)..).unwrap_or_default().chunks_exact(SEGMENT_BYTES);
     items
         .map(|item| {
             let start = u64_at(item, 4);

@@ -1,4 +1,4 @@
-//! The independent implementation of tests/outside: blocks, discovery, updates and mending, from the rules of the layout.
+//! The independent implementation of tests/outside: blocks, discovery, updates, heads and mending, from the rules of the layout.
 
 #[path = "../../../outside/src/model/block.rs"]
 pub mod block;
@@ -8,6 +8,8 @@ pub mod crc;
 pub mod discovery;
 #[path = "../../../outside/src/model/format.rs"]
 pub mod format;
+#[path = "../../../outside/src/model/heads.rs"]
+pub mod heads;
 #[path = "../../../outside/src/model/layout.rs"]
 pub mod layout;
 #[path = "../../../outside/src/model/mend.rs"]

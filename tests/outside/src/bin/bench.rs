@@ -11,8 +11,9 @@ use outside::ffi::Library;
 use outside::interface::{Answer, FreeRun, Interface, Refused};
 use outside::model::block::{Identity, Time};
 use outside::model::layout::{Device, COPY, RECORD_LIMIT, SECTOR};
-use outside::model::record::{Segment, MAX_SEGMENTS};
+use outside::model::record::{Head, Segment, MAX_SEGMENTS};
 use outside::model::{sweep, Model};
+use outside::moves::Move;
 use outside::rng::Rng;
 use outside::sample::copies::{copy, get_block, Area};
 use outside::sample::records::encode;
@@ -35,6 +36,7 @@ fn main() {
     record_check(&mut rng);
     record_segments(&mut rng);
     allocation(&mut rng);
+    heads(&mut rng);
     update(&mut rng);
     mend(&mut rng);
     record_clash(&mut rng);
@@ -116,7 +118,7 @@ fn scattered_segments(rng: &mut Rng, count: usize) -> Vec<Segment> {
 
 /// A record of scattered segments in random order.
 fn scattered(rng: &mut Rng, count: usize) -> Vec<u8> {
-    encode(128, &scattered_segments(rng, count))
+    encode(Head::plain(128), &scattered_segments(rng, count))
 }
 
 /// A record of scattered segments in which only those at these two positions share a sector.
@@ -142,7 +144,7 @@ fn clashing_alone(segments: &[Segment], clash: (usize, usize)) -> Vec<u8> {
     let shares = |a: &Segment, b: &Segment| a.start < b.start + b.length && b.start < a.start + a.length;
     let found: Vec<(usize, usize)> = pairs.filter(|&(i, j)| shares(&segments[i], &segments[j])).collect();
     assert_eq!(found, [clash]);
-    encode(128, segments)
+    encode(Head::plain(128), segments)
 }
 
 fn checksums(rng: &mut Rng) {
@@ -261,6 +263,21 @@ fn allocation(rng: &mut Rng) {
         answered(api.allocate(DEVICE, black_box(&record), 2, 20_000, &mut changed));
         black_box(&changed);
     });
+}
+
+fn heads(rng: &mut Rng) {
+    for (count, name) in [(1, "1 segment"), (MAX_SEGMENTS, "409 segments")] {
+        let segments = scattered_segments(rng, count);
+        let [plain, marked] = [Head::plain(128), Head::marked(128, 0)].map(|head| encode(head, &segments));
+        for (to, way, from, wanted) in [(Move::Up, "up", &plain, &marked), (Move::Back, "back", &marked, &plain)] {
+            let mut changed = [0; RECORD_LIMIT];
+            row(&format!("head moved {way}, {name}"), |api| {
+                answered(to.ask(api, DEVICE, black_box(from), &mut changed));
+                black_box(&changed);
+            });
+            assert!(changed.starts_with(wanted));
+        }
+    }
 }
 
 fn update(rng: &mut Rng) {

@@ -4,10 +4,10 @@ use super::block::{Block, Entry, Identity};
 use super::discovery::{self, Found, Pair, Reading};
 use super::layout::{BACK, COPY, FRONT, SECTOR};
 use super::mend::Mend;
-use super::record::{self, check, check_length, Segment, HEAD_BYTES, SEGMENT_BYTES};
+use super::record::{check, check_length, Head, Record, Segment, SEGMENT_BYTES};
 use super::refusal::{self, require, Refusal};
 use super::update::Update;
-use super::{apply, crc, format, mend, room, settled, update};
+use super::{apply, crc, format, heads, mend, room, settled, update};
 use crate::interface::*;
 
 /// The independent implementation.
@@ -218,7 +218,9 @@ fn mend_store(plan: &Mend, copies: [&[u8]; 2], number: u64, bytes: &mut [u8]) ->
 
 fn record_head(device: &Device, record: &[u8]) -> Done<HeadAnswer> {
     let (record, _) = check(device, record)?;
-    Ok(HeadAnswer { block_size: record.block_size(), segments: record.count() as u64, ..Default::default() })
+    let Head { block_size, low_water } = record.head;
+    let (kind, low_water) = (record.head.kind(), low_water.unwrap_or(0));
+    Ok(HeadAnswer { kind, block_size, low_water, segments: record.count() as u64, ..Default::default() })
 }
 
 fn record_segment(device: &Device, record: &[u8], position: u64) -> Done<SegmentAnswer> {
@@ -239,20 +241,28 @@ fn record_segments(device: &Device, record: &[u8], position: u64, table: &mut [u
     Ok(CountAnswer { count: left.min(table.len() / 3) as u64, ..Default::default() })
 }
 
-fn record_begin(buffer: &mut [u8], block_size: u32) -> Done<()> {
+fn record_begin(buffer: &mut [u8], head: Head) -> Done<()> {
     // The room needed does not depend on the answer, so the lowest number that applies is given.
-    has_room(buffer, HEAD_BYTES)?;
-    buffer[..HEAD_BYTES].copy_from_slice(&record::head(block_size)?);
+    has_room(buffer, head.length())?;
+    head.check()?;
+    head.put(buffer);
     Ok(())
 }
 
 fn record_put(buffer: &mut [u8], position: u64, segment: SegmentFields) -> Done<LengthAnswer> {
-    require(record::begins_with_head(buffer), Refusal::RecordForm)?;
-    let end = u128::from(position) * SEGMENT_BYTES as u128 + (HEAD_BYTES + SEGMENT_BYTES) as u128;
+    let head = Head::read(buffer)?;
+    let end = u128::from(position) * SEGMENT_BYTES as u128 + (head.length() + SEGMENT_BYTES) as u128;
     require(end <= buffer.len() as u128, Refusal::SliceSize)?;
     let end = end as usize;
     buffer[end - SEGMENT_BYTES..end].copy_from_slice(&Segment::from(segment).item());
     Ok(LengthAnswer { length: end as u64, ..Default::default() })
+}
+
+/// A record with its new head, written to the start of a buffer.
+fn with_head(record: Record, changed: &mut [u8]) -> Done<LengthAnswer> {
+    has_room(changed, record.length())?;
+    record.put(changed);
+    Ok(LengthAnswer { length: record.length() as u64, ..Default::default() })
 }
 
 fn free_total(device: &Device, record: &[u8]) -> Done<TotalAnswer> {
@@ -316,7 +326,7 @@ impl Interface for Model {
 
     fn version(&self) -> u32 {
         // Major and minor.
-        2
+        3
     }
 
     fn refusal_words(&self, number: u8) -> Words {
@@ -470,11 +480,27 @@ impl Interface for Model {
     }
 
     fn record_begin(&self, buffer: &mut [u8], block_size: u32) -> Refused {
-        refused(record_begin(buffer, block_size))
+        refused(record_begin(buffer, Head::plain(block_size)))
+    }
+
+    fn record_begin_marked(&self, buffer: &mut [u8], block_size: u32, low_water: u32) -> Refused {
+        refused(record_begin(buffer, Head::marked(block_size, low_water)))
     }
 
     fn record_put(&self, buffer: &mut [u8], position: u64, segment: SegmentFields) -> LengthAnswer {
         answer(record_put(buffer, position, segment))
+    }
+
+    fn head_up(&self, device: Device, record: &[u8], changed: &mut [u8]) -> LengthAnswer {
+        answer(heads::up(&device, record).and_then(|record| with_head(record, changed)))
+    }
+
+    fn head_back(&self, device: Device, record: &[u8], changed: &mut [u8]) -> LengthAnswer {
+        answer(heads::back(&device, record).and_then(|record| with_head(record, changed)))
+    }
+
+    fn head_mark(&self, device: Device, record: &[u8], low_water: u32, changed: &mut [u8]) -> LengthAnswer {
+        answer(heads::mark(&device, record, low_water).and_then(|record| with_head(record, changed)))
     }
 
     fn free_total(&self, device: Device, record: &[u8]) -> TotalAnswer {

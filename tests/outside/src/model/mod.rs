@@ -5,6 +5,7 @@ pub mod block;
 pub mod crc;
 pub mod discovery;
 pub mod format;
+pub mod heads;
 pub mod layout;
 pub mod mend;
 pub mod record;

@@ -4,10 +4,22 @@ use super::block::{u32_at, u64_at};
 use super::layout::{Device, RECORD_LIMIT};
 use super::refusal::{require, Clash, Refusal};
 
+/// The kinds of heads: without and with a low water mark.
+pub const PLAIN_KIND: u16 = 16;
+pub const MARKED_KIND: u16 = 17;
+/// Their lengths.
 pub const HEAD_BYTES: usize = 8;
-pub const HEAD_KIND: u16 = 16;
+pub const MARKED_HEAD_BYTES: usize = 12;
 pub const SEGMENT_BYTES: usize = 20;
+/// The most segments with the shorter head, and so with any.
 pub const MAX_SEGMENTS: usize = (RECORD_LIMIT - HEAD_BYTES) / SEGMENT_BYTES;
+
+/// The head of a record: of kind 17 where it has a low water mark, else of kind 16.
+#[derive(Clone, Copy, Debug, PartialEq, Eq)]
+pub struct Head {
+    pub block_size: u32,
+    pub low_water: Option<u32>,
+}
 
 #[derive(Clone, Copy, Debug, PartialEq, Eq)]
 pub struct Segment {
@@ -63,20 +75,69 @@ pub fn is_kind(kind: u16) -> bool {
     (1..=4).contains(&kind)
 }
 
-/// The head item of a new record. 17.
-pub fn head(block_size: u32) -> Result<[u8; HEAD_BYTES], Refusal> {
-    require(is_block_size(block_size), Refusal::RecordForm)?;
-    let mut item = [8, 0, 16, 0, 0, 0, 0, 0];
-    item[4..].copy_from_slice(&block_size.to_le_bytes());
-    Ok(item)
-}
+impl Head {
+    pub const fn plain(block_size: u32) -> Self {
+        Head { block_size, low_water: None }
+    }
 
-/// The bytes begin with a head item that is within its limits.
-pub fn begins_with_head(bytes: &[u8]) -> bool {
-    bytes.len() >= HEAD_BYTES
-        && usize::from(u16_at(bytes, 0)) == HEAD_BYTES
-        && u16_at(bytes, 2) == HEAD_KIND
-        && is_block_size(u32_at(bytes, 4))
+    pub const fn marked(block_size: u32, low_water: u32) -> Self {
+        Head { block_size, low_water: Some(low_water) }
+    }
+
+    pub fn kind(&self) -> u16 {
+        self.low_water.map_or(PLAIN_KIND, |_| MARKED_KIND)
+    }
+
+    /// How many bytes it takes.
+    pub fn length(&self) -> usize {
+        self.low_water.map_or(HEAD_BYTES, |_| MARKED_HEAD_BYTES)
+    }
+
+    /// It has a mark that is not 0.
+    pub fn has_mark(&self) -> bool {
+        self.low_water.is_some_and(|mark| mark != 0)
+    }
+
+    /// How many segments a record with it can have.
+    pub fn most_segments(&self) -> usize {
+        (RECORD_LIMIT - self.length()) / SEGMENT_BYTES
+    }
+
+    /// 17. Any mark is allowed.
+    pub fn check(&self) -> Result<(), Refusal> {
+        require(is_block_size(self.block_size), Refusal::RecordForm)
+    }
+
+    /// The head that the bytes begin with. 17.
+    pub fn read(bytes: &[u8]) -> Result<Self, Refusal> {
+        require(bytes.len() >= HEAD_BYTES, Refusal::RecordForm)?;
+        let block_size = u32_at(bytes, 4);
+        let head = match (usize::from(u16_at(bytes, 0)), u16_at(bytes, 2)) {
+            (HEAD_BYTES, PLAIN_KIND) => Head::plain(block_size),
+            (MARKED_HEAD_BYTES, MARKED_KIND) if bytes.len() >= MARKED_HEAD_BYTES => {
+                Head::marked(block_size, u32_at(bytes, 8))
+            }
+            _ => return Err(Refusal::RecordForm),
+        };
+        head.check()?;
+        Ok(head)
+    }
+
+    /// Writes the item to the start of a buffer that has room for it, without a test.
+    pub fn put(&self, buffer: &mut [u8]) {
+        buffer[..2].copy_from_slice(&(self.length() as u16).to_le_bytes());
+        buffer[2..4].copy_from_slice(&self.kind().to_le_bytes());
+        buffer[4..8].copy_from_slice(&self.block_size.to_le_bytes());
+        if let Some(low_water) = self.low_water {
+            buffer[8..12].copy_from_slice(&low_water.to_le_bytes());
+        }
+    }
+
+    pub fn item(&self) -> Vec<u8> {
+        let mut item = vec![0; self.length()];
+        self.put(&mut item);
+        item
+    }
 }
 
 impl Segment {
@@ -109,38 +170,41 @@ pub fn check_length(bytes: &[u8]) -> Result<(), Refusal> {
 /// A record that was checked for its form.
 #[derive(Clone, Copy)]
 pub struct Record<'a> {
-    bytes: &'a [u8],
+    pub head: Head,
+    /// The bytes after the head.
+    items: &'a [u8],
 }
 
 impl<'a> Record<'a> {
     /// 15, 17.
     pub fn parse(bytes: &'a [u8]) -> Result<Self, Refusal> {
         check_length(bytes)?;
-        let record = Record { bytes };
-        require(record.is_well_formed(), Refusal::RecordForm)?;
-        Ok(record)
-    }
-
-    fn is_well_formed(&self) -> bool {
-        let Some((_, items)) = self.bytes.split_at_checked(HEAD_BYTES) else {
-            return false;
-        };
+        let head = Head::read(bytes)?;
+        let items = &bytes[head.length()..];
         let is_segment = |item: &[u8]| usize::from(u16_at(item, 0)) == SEGMENT_BYTES && is_kind(u16_at(item, 2));
-        begins_with_head(self.bytes)
-            && items.len().is_multiple_of(SEGMENT_BYTES)
-            && items.chunks_exact(SEGMENT_BYTES).all(is_segment)
+        let segments = items.len().is_multiple_of(SEGMENT_BYTES) && items.chunks_exact(SEGMENT_BYTES).all(is_segment);
+        require(segments, Refusal::RecordForm)?;
+        Ok(Record { head, items })
     }
 
-    pub fn bytes(&self) -> &'a [u8] {
-        self.bytes
+    /// The same segments after another head.
+    pub fn with_head(self, head: Head) -> Self {
+        Record { head, ..self }
     }
 
-    pub fn block_size(&self) -> u32 {
-        u32_at(self.bytes, 4)
+    /// How many bytes it takes.
+    pub fn length(&self) -> usize {
+        self.head.length() + self.items.len()
+    }
+
+    /// Writes the record to the start of a buffer that has room for it.
+    pub fn put(&self, buffer: &mut [u8]) {
+        self.head.put(buffer);
+        buffer[self.head.length()..self.length()].copy_from_slice(self.items);
     }
 
     pub fn count(&self) -> usize {
-        (self.bytes.len() - HEAD_BYTES) / SEGMENT_BYTES
+        self.items.len() / SEGMENT_BYTES
     }
 
     pub fn segments(&self) -> impl Iterator<Item = Segment> + 'a {
@@ -149,13 +213,12 @@ impl<'a> Record<'a> {
 
     /// The segments from a position on, which is at most their number.
     pub fn segments_from(&self, position: usize) -> impl Iterator<Item = Segment> + 'a {
-        self.bytes[HEAD_BYTES + position * SEGMENT_BYTES..].chunks_exact(SEGMENT_BYTES).map(Segment::read)
+        self.items[position * SEGMENT_BYTES..].chunks_exact(SEGMENT_BYTES).map(Segment::read)
     }
 
     pub fn segment(&self, position: u64) -> Option<Segment> {
         let position = usize::try_from(position).ok().filter(|&p| p < self.count())?;
-        let start = HEAD_BYTES + position * SEGMENT_BYTES;
-        Some(Segment::read(&self.bytes[start..start + SEGMENT_BYTES]))
+        self.segments_from(position).next()
     }
 
     /// 18; otherwise the segments' spans in the order of their positions.

@@ -34,6 +34,7 @@ pub enum Refusal {
     RecordFull,
     NoSegment,
     NoStore,
+    HeadMove,
 }
 
 impl Refusal {
@@ -62,6 +63,7 @@ impl Refusal {
             Refusal::RecordFull => 21,
             Refusal::NoSegment => 22,
             Refusal::NoStore => 23,
+            Refusal::HeadMove => 24,
         }
     }
 
@@ -75,7 +77,7 @@ impl Refusal {
 }
 
 /// What each number says, from 0 on: the table's lines, without the values of limits.
-const WORDS: [&str; 24] = [
+const WORDS: [&str; 25] = [
     "nothing is refused",
     "a lent slice has the wrong size, or is too small for the answer",
     "the 16 signature bytes differ",
@@ -100,6 +102,7 @@ const WORDS: [&str; 24] = [
     "the record already holds the most segments",
     "no segment has that position",
     "no store has that number",
+    "moving the head would lose its low water mark",
 ];
 
 /// What a number says.

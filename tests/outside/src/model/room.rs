@@ -1,7 +1,7 @@
 //! Free room: runs, allocation and release.
 
 use super::layout::Device;
-use super::record::{check, is_kind, Record, Segment, Span, HEAD_BYTES, MAX_SEGMENTS, SEGMENT_BYTES};
+use super::record::{check, is_kind, Record, Segment, Span, SEGMENT_BYTES};
 use super::refusal::{require, Refusal};
 
 #[derive(Clone, Copy, Debug, PartialEq, Eq)]
@@ -30,7 +30,7 @@ pub fn allocate(device: &Device, bytes: &[u8], kind: u16, length: u64) -> Result
     let (record, spans) = check(device, bytes)?;
     require(is_kind(kind), Refusal::RecordForm)?;
     require(length > 0, Refusal::SegmentPlace)?;
-    require(record.count() < MAX_SEGMENTS, Refusal::RecordFull)?;
+    require(record.count() < record.head.most_segments(), Refusal::RecordFull)?;
     let mut runs = free_runs(device, spans.as_slice());
     let run = runs.find(|run| run.length >= length).ok_or(Refusal::NoRoom)?;
     Ok(Segment { kind, start: run.start, length })
@@ -40,5 +40,5 @@ pub fn allocate(device: &Device, bytes: &[u8], kind: u16, length: u64) -> Result
 pub fn release(device: &Device, bytes: &[u8], position: u64) -> Result<usize, Refusal> {
     let (record, _) = check(device, bytes)?;
     require(position < record.count() as u64, Refusal::NoSegment)?;
-    Ok(HEAD_BYTES + position as usize * SEGMENT_BYTES)
+    Ok(record.head.length() + position as usize * SEGMENT_BYTES)
 }

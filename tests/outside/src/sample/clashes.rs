@@ -1,6 +1,6 @@
 //! Segments that clash, in every shape.
 
-use super::records::segments;
+use super::records::{all_segments, segments};
 use crate::model::layout::Device;
 use crate::model::record::{Segment, MAX_SEGMENTS};
 use crate::rng::Rng;
@@ -74,11 +74,6 @@ fn apart(rng: &mut Rng, device: &Device, least: usize) -> Vec<Segment> {
     }
 }
 
-/// As many as a record can have.
-fn all_apart(rng: &mut Rng, device: &Device) -> Vec<Segment> {
-    apart(rng, device, MAX_SEGMENTS)
-}
-
 /// Two positions, the lower one first.
 fn two(rng: &mut Rng, count: usize) -> (usize, usize) {
     let first = rng.index(count - 1);
@@ -120,17 +115,17 @@ fn last_two(rng: &mut Rng, device: &Device) -> (Vec<Segment>, Known) {
 }
 
 fn last_two_of_all(rng: &mut Rng, device: &Device) -> (Vec<Segment>, Known) {
-    let segments = all_apart(rng, device);
+    let segments = all_segments(rng, device);
     pair(rng, segments, (MAX_SEGMENTS - 2, MAX_SEGMENTS - 1))
 }
 
 fn first_and_last(rng: &mut Rng, device: &Device) -> (Vec<Segment>, Known) {
-    let segments = all_apart(rng, device);
+    let segments = all_segments(rng, device);
     pair(rng, segments, (0, MAX_SEGMENTS - 1))
 }
 
 fn any_two_of_all(rng: &mut Rng, device: &Device) -> (Vec<Segment>, Known) {
-    let segments = all_apart(rng, device);
+    let segments = all_segments(rng, device);
     let positions = two(rng, MAX_SEGMENTS);
     pair(rng, segments, positions)
 }

@@ -3,6 +3,7 @@
 pub mod blocks;
 pub mod clashes;
 pub mod copies;
+pub mod heads;
 pub mod numbers;
 pub mod records;
 pub mod zeros;

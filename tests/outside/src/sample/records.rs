@@ -1,8 +1,9 @@
 //! Segment records.
 
+use super::heads::malformed;
 use super::numbers::spread;
 use crate::model::layout::Device;
-use crate::model::record::{Segment, HEAD_BYTES, MAX_SEGMENTS, SEGMENT_BYTES};
+use crate::model::record::{Head, Segment, HEAD_BYTES, MARKED_HEAD_BYTES, MARKED_KIND, MAX_SEGMENTS, SEGMENT_BYTES};
 use crate::rng::Rng;
 
 pub fn block_size(rng: &mut Rng) -> u32 {
@@ -14,6 +15,36 @@ pub fn break_block_size(rng: &mut Rng) -> u32 {
     let between = block_size(rng) + 64;
     let multiple = rng.within(16_385, 33_554_431) as u32 * 128;
     rng.one_of(&[0, 64, 127, 129, 192, 2_097_151, 2_097_153, 2_097_280, random, between, multiple])
+}
+
+/// A low water mark: any number, often 0; at times one of which a half is 0.
+pub fn low_water(rng: &mut Rng) -> u32 {
+    let random = rng.next() as u32;
+    let any = spread(rng, 0, u64::from(u32::MAX)) as u32;
+    rng.one_of(&[0, 0, 0, 1, u32::MAX, random >> 16, random << 16, random, any])
+}
+
+/// A head that is allowed, of kind 17 in one case of three.
+pub fn head(rng: &mut Rng) -> Head {
+    let size = block_size(rng);
+    if rng.once_in(3) {
+        Head::marked(size, low_water(rng))
+    } else {
+        Head::plain(size)
+    }
+}
+
+/// How many bytes a record's head takes, by its kind, whatever else is wrong with the record.
+pub fn head_length(record: &[u8]) -> usize {
+    match record.get(2..4) {
+        Some(kind) if kind == MARKED_KIND.to_le_bytes() => MARKED_HEAD_BYTES,
+        _ => HEAD_BYTES,
+    }
+}
+
+/// How many segments a record of that length has, by its head's kind.
+pub fn segments_in(record: &[u8]) -> usize {
+    record.len().saturating_sub(head_length(record)) / SEGMENT_BYTES
 }
 
 /// How many segments: few, the most, or any number.
@@ -47,6 +78,17 @@ pub fn segments(rng: &mut Rng, device: &Device, count: usize) -> Vec<Segment> {
         .collect();
     rng.shuffle(&mut segments);
     segments
+}
+
+/// As many segments as a record can have, in random order.
+pub fn all_segments(rng: &mut Rng, device: &Device) -> Vec<Segment> {
+    loop {
+        let segments = segments(rng, device, MAX_SEGMENTS);
+        // Segments that fell together are left out.
+        if segments.len() == MAX_SEGMENTS {
+            return segments;
+        }
+    }
 }
 
 /// Short spans with short gaps from the start of the data range.
@@ -99,9 +141,8 @@ fn close_gaps(rng: &mut Rng, spans: &mut [(u64, u64)], start: u64, end: u64) {
     }
 }
 
-pub fn encode(block_size: u32, segments: &[Segment]) -> Vec<u8> {
-    let mut record = vec![8, 0, 16, 0];
-    record.extend(block_size.to_le_bytes());
+pub fn encode(head: Head, segments: &[Segment]) -> Vec<u8> {
+    let mut record = head.item();
     for segment in segments {
         record.extend(segment.item());
     }
@@ -111,11 +152,14 @@ pub fn encode(block_size: u32, segments: &[Segment]) -> Vec<u8> {
 /// An accepted record with at most `count` segments.
 pub fn record(rng: &mut Rng, device: &Device, count: usize) -> Vec<u8> {
     let segments = segments(rng, device, count);
-    encode(block_size(rng), &segments)
+    encode(head(rng), &segments)
 }
 
 /// An accepted record, or one with faults.
 pub fn any_record(rng: &mut Rng, device: &Device) -> Vec<u8> {
+    if rng.once_in(16) {
+        return malformed(rng, device);
+    }
     let count = segment_count(rng);
     let mut record = record(rng, device, count);
     if rng.coin() {
@@ -129,7 +173,7 @@ pub fn any_record(rng: &mut Rng, device: &Device) -> Vec<u8> {
 
 /// Brings one fault into a record. Some faults need a segment.
 pub fn damage(rng: &mut Rng, device: &Device, record: &mut Vec<u8>) {
-    let segments = record.len().saturating_sub(HEAD_BYTES) / SEGMENT_BYTES;
+    let segments = segments_in(record);
     match rng.below(12) {
         0 => record.truncate(rng.index(record.len() + 1)),
         1 => damage_length(rng, record),
@@ -148,15 +192,16 @@ pub fn damage(rng: &mut Rng, device: &Device, record: &mut Vec<u8>) {
 
 fn damage_length(rng: &mut Rng, record: &mut Vec<u8>) {
     let random = rng.index(9_000);
-    let length = rng.one_of(&[0, 1, 7, 8, 9, 27, 29, 8_188, 8_192, 8_193, 8_208, 16_384, random]);
+    let lengths = [0, 1, 7, 8, 9, 11, 12, 13, 27, 29, 31, 33, 8_188, 8_192, 8_193, 8_208, 8_212, 16_384, random];
+    let length = rng.one_of(&lengths);
     record.resize(length, 0);
 }
 
 fn damage_head(rng: &mut Rng, record: &mut [u8]) {
     match rng.below(4) {
-        0 => record[0] = rng.one_of(&[0, 7, 9, 12, 20]),
+        0 => record[0] = rng.one_of(&[0, 7, 8, 9, 11, 12, 13, 20]),
         1 => record[1] = rng.one_of(&[1, 8, 0xff]),
-        2 => put_u16(record, 2, rng.one_of(&[0, 1, 15, 17, 18, 16 + 256])),
+        2 => put_u16(record, 2, rng.one_of(&[0, 1, 15, 16, 17, 18, 16 + 256, 17 + 256])),
         _ => {
             let size = break_block_size(rng);
             record[4..8].copy_from_slice(&size.to_le_bytes());
@@ -164,15 +209,16 @@ fn damage_head(rng: &mut Rng, record: &mut [u8]) {
     }
 }
 
-fn item(rng: &mut Rng, segments: usize) -> usize {
+/// Where one of the segments begins.
+fn item(rng: &mut Rng, record: &[u8], segments: usize) -> usize {
     let position = rng.index(segments);
-    HEAD_BYTES + rng.one_of(&[0, position, segments - 1]) * SEGMENT_BYTES
+    head_length(record) + rng.one_of(&[0, position, segments - 1]) * SEGMENT_BYTES
 }
 
 fn damage_item(rng: &mut Rng, record: &mut [u8], segments: usize) {
-    let at = item(rng, segments);
+    let at = item(rng, record, segments);
     if rng.coin() {
-        put_u16(record, at, rng.one_of(&[0, 8, 19, 21, 40, 20 + 256]));
+        put_u16(record, at, rng.one_of(&[0, 8, 12, 19, 21, 40, 20 + 256]));
     } else {
         put_u16(record, at + 2, rng.one_of(&[0, 5, 16, 17, 33, 36, 1 + 256, u16::MAX]));
     }
@@ -180,7 +226,7 @@ fn damage_item(rng: &mut Rng, record: &mut [u8], segments: usize) {
 
 /// Makes a segment empty, or lets it leave the data range, often by one sector.
 fn damage_place(rng: &mut Rng, device: &Device, record: &mut [u8], segments: usize) {
-    let at = item(rng, segments);
+    let at = item(rng, record, segments);
     // The record may be one of another device, or the device's numbers may not be accepted.
     let start = 8 + u64::from(device.metadata) + u64::from(device.reserved);
     let end = device.sectors.saturating_sub(start);
@@ -201,7 +247,7 @@ fn damage_place(rng: &mut Rng, device: &Device, record: &mut [u8], segments: usi
 
 /// Lets two segments share one sector, or all.
 fn damage_pair(rng: &mut Rng, record: &mut [u8], segments: usize) {
-    let (from, to) = (item(rng, segments), item(rng, segments));
+    let (from, to) = (item(rng, record, segments), item(rng, record, segments));
     if from == to {
         return;
     }
@@ -222,6 +268,6 @@ fn u64_of(record: &[u8], at: usize) -> u64 {
     crate::model::block::u64_at(record, at)
 }
 
-fn put_u16(record: &mut [u8], at: usize, number: u16) {
+pub fn put_u16(record: &mut [u8], at: usize, number: u16) {
     record[at..at + 2].copy_from_slice(&number.to_le_bytes());
 }

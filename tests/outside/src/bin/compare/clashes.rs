@@ -4,16 +4,18 @@ use outside::interface::{as_runs, Answer, Device, Refused, Time};
 use outside::lent::Lent;
 use outside::model::block::Identity;
 use outside::model::layout::{COPY, RECORD_LIMIT};
-use outside::model::record::{Segment, Span, HEAD_BYTES, MAX_SEGMENTS, SEGMENT_BYTES};
+use outside::model::record::{Head, Segment, Span, MAX_SEGMENTS, PLAIN_KIND, SEGMENT_BYTES};
 use outside::model::refusal::Clash;
 use outside::model::sweep;
+use outside::moves::Move;
 use outside::rng::Rng;
 use outside::sample::clashes::{Known, SHAPES};
 use outside::sample::copies::in_step;
 use outside::sample::numbers::{break_device, break_nanoseconds, identity, later, not_hex, time, wrong_length};
-use outside::sample::records::{block_size, break_block_size, encode, record};
+use outside::sample::records::{break_block_size, encode, head, head_length, low_water, record, segments_in};
 
 use crate::expected::CLASH;
+use crate::heads::ask_move;
 use crate::run::Run;
 
 /// A shape of segments, by every call; then with another fault beside the clash.
@@ -30,13 +32,13 @@ pub fn case(run: &mut Run, rng: &mut Rng, number: u64) {
     };
     run.require(name, as_made, &format!("made for {known:?}, but found {pair:?}"));
     run.reached(name);
-    let record = encode(block_size(rng), &segments);
+    let record = encode(head(rng), &segments);
     by_every_call(run, rng, &identity, &record, expected(pair));
     if let Some(pair) = pair {
-        let (record, number, name) = faulty(rng, &identity.device, &segments, pair);
-        by_every_call(run, rng, &identity, &record, Refused::numbered(number));
+        let (faulty, number, name) = faulty(rng, &identity.device, &segments, pair);
+        by_every_call(run, rng, &identity, &faulty, Refused::numbered(number));
         run.reached(name);
-        lower_numbers(run, rng, &identity, &encode(128, &segments));
+        lower_numbers(run, rng, &identity, &record);
     }
 }
 
@@ -67,7 +69,7 @@ pub fn overlaps(run: &mut Run, rng: &mut Rng, number: u64) {
     let segments: Vec<Segment> =
         (0..count).map(|digit| fitting[(number / FITTING.pow(digit) % FITTING) as usize]).collect();
     let pair = pair(&segments);
-    let record = encode(block_size(rng), &segments);
+    let record = encode(head(rng), &segments);
     by_every_call(run, rng, &identity, &record, expected(pair));
     run.reached(match pair {
         Some(_) => "a clash: a record of all of up to four segments in four sectors",
@@ -95,11 +97,12 @@ fn refused(run: &mut Run, call: &'static str, answer: impl Answer, expected: Ref
     run.require(call, same, &format!("answers {answer:?} for a record that is refused with {expected:?}"));
 }
 
-fn by_every_call(run: &mut Run, rng: &mut Rng, identity: &Identity, record: &[u8], expected: Refused) {
+pub fn by_every_call(run: &mut Run, rng: &mut Rng, identity: &Identity, record: &[u8], expected: Refused) {
     let record = Lent::holding(rng, record);
     readings(run, rng, identity.device, &record, expected);
     free_room(run, rng, identity.device, &record, expected);
     changes(run, rng, identity.device, &record, expected);
+    heads(run, rng, identity.device, &record, expected);
     let made = time(rng);
     format(run, rng, identity, made, &record, expected);
     let (copies, time) = copies(rng, identity);
@@ -118,14 +121,9 @@ fn copies(rng: &mut Rng, identity: &Identity) -> ([Lent<u8>; 2], Time) {
     }
 }
 
-/// How many segments a record of that length has.
-fn count(record: &[u8]) -> u64 {
-    (record.len().saturating_sub(HEAD_BYTES) / SEGMENT_BYTES) as u64
-}
-
 /// A position of the record, one past it, or any; whether it is past it.
 fn position(rng: &mut Rng, record: &[u8]) -> (u64, bool) {
-    let count = count(record);
+    let count = segments_in(record) as u64;
     let inside = rng.below(count.max(1));
     let position = rng.one_of(&[0, inside, inside, inside, count, u64::MAX]);
     (position, position >= count)
@@ -172,7 +170,7 @@ fn free_room(run: &mut Run, rng: &mut Rng, device: Device, record: &Lent<u8>, ex
     }
     let answer = run.ask("run_count", &inputs, |api| api.run_count(device, bytes)).answer;
     refused(run, "run_count", answer, expected);
-    let number = rng.one_of(&[0, 1, count(bytes), u64::MAX]);
+    let number = rng.one_of(&[0, 1, segments_in(bytes) as u64, u64::MAX]);
     let answer = run.ask("run_at", &inputs, |api| api.run_at(device, bytes, number)).answer;
     refused(run, "run_at", answer, expected);
     let sectors = rng.one_of(&[0, 1, 100, u64::MAX]);
@@ -202,7 +200,7 @@ fn changes(run: &mut Run, rng: &mut Rng, device: Device, record: &Lent<u8>, expe
             (!(1..=4).contains(&kind), "allocate, 19 before 17 for its own kind"),
             (sectors == 0, "allocate, 19 before 18 for its own count"),
             (sectors == u64::MAX, "allocate, 19 before 20"),
-            (count(bytes) == MAX_SEGMENTS as u64, "allocate, 19 before 21"),
+            (segments_in(bytes) == MAX_SEGMENTS, "allocate, 19 before 21"),
             (room < bytes.len() + SEGMENT_BYTES, "allocate, 19 before 1 for too little room"),
         ] {
             if reached {
@@ -222,6 +220,35 @@ fn changes(run: &mut Run, rng: &mut Rng, device: Device, record: &Lent<u8>, expe
     }
     if clash && !past && room == 0 {
         run.reached("release, 19 before 1 for too little room");
+    }
+}
+
+fn heads(run: &mut Run, rng: &mut Rng, device: Device, record: &Lent<u8>, expected: Refused) {
+    let bytes = record.part();
+    let head = Head::read(bytes);
+    let clash = expected.number == CLASH;
+    for to in [Move::Up, Move::Back, Move::Mark(low_water(rng))] {
+        let room = rng.one_of(&[0, bytes.len(), bytes.len() + 4, RECORD_LIMIT]);
+        let lent = [Lent::random(rng, room)];
+        let outcome = ask_move(run, device, record, to, lent);
+        refused(run, to.call(), outcome.answer, expected);
+        let Ok(head) = head else { continue };
+        if clash {
+            for (reached, name) in [
+                (to == Move::Back && head.has_mark(), "head_back, 19 before 24"),
+                (
+                    matches!(to, Move::Mark(_)) && head.kind() == PLAIN_KIND,
+                    "head_mark, 19 before 17 for a head of kind 16",
+                ),
+                (to == Move::Up && room == 0, "head_up, 19 before 1 for too little room"),
+                (to == Move::Back && room == 0, "head_back, 19 before 1 for too little room"),
+                (matches!(to, Move::Mark(_)) && room == 0, "head_mark, 19 before 1 for too little room"),
+            ] {
+                if reached {
+                    run.reached(name);
+                }
+            }
+        }
     }
 }
 
@@ -247,17 +274,17 @@ fn update(run: &mut Run, [front, back]: &[Lent<u8>; 2], time: Time, record: &Len
 
 /// The segments that clash in a record that has another fault too, its lower number, and a name for the case.
 fn faulty(rng: &mut Rng, device: &Device, segments: &[Segment], pair: Clash) -> (Vec<u8>, u8, &'static str) {
-    let size = block_size(rng);
+    let head = head(rng);
     let mut segments = segments.to_vec();
     let fault = rng.below(4);
     if fault == 0 {
-        let mut record = encode(size, &segments);
+        let mut record = encode(head, &segments);
         let length = rng.one_of(&[RECORD_LIMIT + 1, RECORD_LIMIT + 16, 2 * RECORD_LIMIT]);
         record.resize(length, 0);
         return (record, 15, "a clash beside 15");
     }
     if fault == 1 {
-        let mut record = encode(size, &segments);
+        let mut record = encode(head, &segments);
         let broken = break_block_size(rng);
         match rng.below(4) {
             0 => record[4..8].copy_from_slice(&broken.to_le_bytes()),
@@ -288,12 +315,12 @@ fn faulty(rng: &mut Rng, device: &Device, segments: &[Segment], pair: Clash) -> 
         _ => (u64::MAX, 2),
     };
     segments[other] = Segment { kind: 3, start, length };
-    let mut record = encode(size, &segments);
+    let mut record = encode(head, &segments);
     if fault == 2 {
         return (record, 18, "a clash beside 18");
     }
     // The item's length or its kind; its place is wrong as well, so that 17, 18 and 19 all apply.
-    let at = HEAD_BYTES + other * SEGMENT_BYTES;
+    let at = head_length(&record) + other * SEGMENT_BYTES;
     if rng.coin() {
         record[at] = rng.one_of(&[0, 8, 19, 21]);
     } else {
@@ -315,6 +342,7 @@ fn lower_numbers(run: &mut Run, rng: &mut Rng, identity: &Identity, record: &[u8
         readings(run, rng, broken.device, &record, refusal);
         free_room(run, rng, broken.device, &record, refusal);
         changes(run, rng, broken.device, &record, refusal);
+        heads(run, rng, broken.device, &record, refusal);
         let time = time(rng);
         format(run, rng, &broken, time, &record, refusal);
         run.reached("a clash beside 4, 7 or 8");

@@ -3,12 +3,13 @@
 use outside::ffi::Library;
 use outside::interface::{FoundAnswer, Interface, MendPlan};
 use outside::lent::Lent;
-use outside::model::layout::{COPY, RECORD_LIMIT, SECTOR};
+use outside::model::layout::{AREA_OFFSET, COPY, RECORD_LIMIT, SECTOR};
 use outside::rng::Rng;
 use outside::sample::copies::{any_pair, damage_pair, in_step, payload};
 use outside::sample::numbers::{identity, time, wrong_length};
 
 use crate::blocks::length;
+use crate::heads::note_marked;
 use crate::marks::settled;
 use crate::plans::{broken_numbers, broken_uuid, foreign_copies, made_up_mend, store_number};
 use crate::readings::readings;
@@ -102,6 +103,10 @@ fn mend(run: &mut Run, rng: &mut Rng, front: &Lent<u8>, back: &Lent<u8>) {
         mend_store(run, rng, plan, [front, back], number);
         wrong_sizes(run, rng, plan, [front, back]);
         note_mend(run, plan);
+        if plan.needed != 0 {
+            let kept = [front, back][usize::from(plan.kept)].part();
+            note_marked(run, &kept[AREA_OFFSET[usize::from(plan.area)]..], "a mend of a head of kind 17");
+        }
     }
     if front.part().len() == COPY && back.part().len() == COPY {
         for _ in 0..4 {

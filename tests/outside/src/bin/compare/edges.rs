@@ -10,12 +10,13 @@ use outside::model::block::{Block, Identity};
 use outside::model::layout::{COPY, RECORD_LIMIT, SECTOR};
 use outside::model::settled::matters;
 use outside::model::Model;
+use outside::moves::Move;
 use outside::rng::Rng;
 use outside::sample::blocks::block;
 use outside::sample::clashes::SHAPES;
 use outside::sample::copies::{any_pair, in_step, payload};
 use outside::sample::numbers::{identity, later, time};
-use outside::sample::records::{any_record, block_size, encode, record, segment_count};
+use outside::sample::records::{any_record, encode, head, head_length, low_water, record, segment_count, segments_in};
 
 use crate::expected::CLASH;
 use crate::run::Run;
@@ -54,7 +55,7 @@ pub fn clashes(run: &mut Run, rng: &mut Rng, number: u64) {
     let (_, shape) = SHAPES[number as usize % SHAPES.len()];
     let identity = identity(rng);
     let (segments, _) = shape(rng, &identity.device);
-    let record = encode(block_size(rng), &segments);
+    let record = encode(head(rng), &segments);
     ROOM.with_borrow_mut(|room| {
         let mut edge = Edge { run, end: rng.coin(), room };
         on_record(&mut edge, rng, identity.device, &record);
@@ -288,7 +289,7 @@ fn on_record(edge: &mut Edge, rng: &mut Rng, device: Device, record: &[u8]) {
     edge.bytes("run_at", slice, |api, [record]| api.run_at(device, record, position));
     edge.bytes("first_fit", slice, |api, [record]| api.first_fit(device, record, sectors));
 
-    let left = (record.len().saturating_sub(8) / 20).saturating_sub(position as usize);
+    let left = segments_in(record).saturating_sub(position as usize);
     let some = rng.index(left + 1);
     let right = 3 * rng.one_of(&[left, left, some, 0]);
     edge.numbers("record_segments", record, right, |api, record, table| {
@@ -303,15 +304,26 @@ fn on_record(edge: &mut Edge, rng: &mut Rng, device: Device, record: &[u8]) {
     });
     let changed = vec![7; record.len().saturating_sub(20)];
     edge.bytes("release", [record, &changed], |api, [record, changed]| api.release(device, record, position, changed));
+    // A buffer that is right for either head, for the record as it is or with the other.
+    for to in [Move::Up, Move::Back, Move::Mark(low_water(rng))] {
+        for length in [record.len(), record.len() + 4, record.len().saturating_sub(4)] {
+            let changed = vec![7; length];
+            edge.bytes(to.call(), [record, &changed], |api, [record, changed]| to.ask(api, device, record, changed));
+        }
+    }
+    edge.run.reached("heads in slices at the edge of forbidden memory");
     edge.bytes("record_begin", [&[7; 8]], |api, [record]| api.record_begin(record, 128));
-    let mut buffer = vec![7; 28 + 20 * position as usize];
-    Model.record_begin(&mut buffer, 128);
+    edge.bytes("record_begin_marked", [&[7; 12]], |api, [record]| api.record_begin_marked(record, 128, 5));
+    let mut buffer = head(rng).item();
+    buffer.resize(head_length(&buffer) + 20 * (position as usize + 1), 7);
     let segment = SegmentFields { kind: 2, start: rng.next(), sectors };
     edge.bytes("record_put", [&buffer], |api, [record]| api.record_put(record, position, segment));
     // Less than a head, and no more than one.
-    for length in [1, 3, 5, 7, 9] {
+    for length in [1, 3, 5, 7, 9, 11, 13] {
         edge.bytes("record_put", [&buffer[..length]], |api, [record]| api.record_put(record, 0, segment));
         edge.bytes("record_begin", [&buffer[..length]], |api, [record]| api.record_begin(record, 256));
+        edge.bytes("record_begin_marked", [&buffer[..length]], |api, [record]| api.record_begin_marked(record, 256, 9));
         edge.bytes("record_check", [&buffer[..length]], |api, [record]| api.record_check(device, record));
+        edge.bytes("record_head", [&buffer[..length]], |api, [record]| api.record_head(device, record));
     }
 }

@@ -3,10 +3,11 @@
 use outside::ffi::Library;
 use outside::interface::{Answer, Device, FreeRun, Interface, Refused, SegmentFields, Time, WORDS};
 use outside::model::layout::{COPY, SECTOR};
-use outside::model::record::{Segment, MAX_SEGMENTS};
+use outside::model::record::{Head, Segment, MAX_SEGMENTS};
 use outside::model::Model;
+use outside::moves::Move;
 use outside::rng::Rng;
-use outside::sample::records::encode;
+use outside::sample::records::encode as encode_with;
 
 use crate::run::Run;
 
@@ -15,6 +16,15 @@ const UUID: &[u8; 32] = b"0123456789abcdef0123456789abcdef";
 /// Block size 128 and a data segment of 100 sectors at 2,048.
 const RECORD: [u8; 28] =
     [0x08, 0, 0x10, 0, 0x80, 0, 0, 0, 0x14, 0, 2, 0, 0, 8, 0, 0, 0, 0, 0, 0, 0x64, 0, 0, 0, 0, 0, 0, 0];
+
+/// The same with a head of kind 17 and the mark 0.
+const UP: [u8; 32] =
+    [0x0c, 0, 0x11, 0, 0x80, 0, 0, 0, 0, 0, 0, 0, 0x14, 0, 2, 0, 0, 8, 0, 0, 0, 0, 0, 0, 0x64, 0, 0, 0, 0, 0, 0, 0];
+
+/// A record in blocks of 128 sectors, with a head of kind 16.
+fn encode(segments: &[Segment]) -> Vec<u8> {
+    encode_with(Head::plain(128), segments)
+}
 
 /// The implementations are held to the examples each for itself.
 pub fn case(run: &mut Run, _: &mut Rng, _: u64) {
@@ -26,6 +36,7 @@ pub fn case(run: &mut Run, _: &mut Rng, _: u64) {
         words(api, &mut expect);
         devices(api, &mut expect);
         heads(api, &mut expect);
+        moves(api, &mut expect);
         segments(api, &mut expect);
         free_room(api, &mut expect);
         clashes(api, &mut expect);
@@ -73,13 +84,127 @@ fn heads(api: &dyn Interface, expect: &mut Expect) {
         expect("a head in too little room", begin(0, block_size) == 1 && begin(7, block_size) == 1);
         expect("a head", begin(8, block_size) == 0 && begin(9, block_size) == 0);
     }
+    let begin = |room, block_size, low_water| {
+        let mut buffer = vec![9; room];
+        (api.record_begin_marked(&mut buffer, block_size, low_water).number, buffer)
+    };
+    for low_water in [0, 1, 0x0403_0201, u32::MAX] {
+        let mut head = [12, 0, 17, 0, 0, 1, 0, 0, 0, 0, 0, 0, 9];
+        head[8..12].copy_from_slice(&low_water.to_le_bytes());
+        expect("a head with a mark", begin(13, 256, low_water) == (0, head.to_vec()));
+        expect("a head with a mark, exact", begin(12, 256, low_water) == (0, head[..12].to_vec()));
+        for block_size in [256, 0, 127, 2_097_280] {
+            expect("a head with a mark in too little room", begin(11, block_size, low_water) == (1, vec![9; 11]));
+        }
+        expect("a head with a mark and no block size", begin(13, 192, low_water) == (17, vec![9; 13]));
+    }
+}
+
+/// The printed record moved up and back, with marks, and what is no record with either head. All worked out by hand.
+fn moves(api: &dyn Interface, expect: &mut Expect) {
+    let moved = |to: Move, record: &[u8], room| {
+        let mut changed = vec![9; room];
+        let answer = to.ask(api, DEVICE, record, &mut changed);
+        (answer.number(), answer.length, changed)
+    };
+    let up = |record: &[u8], room| moved(Move::Up, record, room);
+    let back = |record: &[u8], room| moved(Move::Back, record, room);
+    let mark = |record: &[u8], low_water, room| moved(Move::Mark(low_water), record, room);
+    let marked = |low_water: u32| {
+        let mut record = UP;
+        record[8..12].copy_from_slice(&low_water.to_le_bytes());
+        record
+    };
+    let lent = |record: &[u8], rest: usize| [record, &vec![9; rest]].concat();
+    let refused = |number, room| (number, 0, vec![9; room]);
+    expect("moved up", up(&RECORD, 32) == (0, 32, UP.to_vec()) && up(&RECORD, 35) == (0, 32, lent(&UP, 3)));
+    expect("moved up in too little room", [0, 28, 31].iter().all(|&room| up(&RECORD, room) == refused(1, room)));
+    expect("moved back", back(&UP, 28) == (0, 28, RECORD.to_vec()) && back(&UP, 35) == (0, 28, lent(&RECORD, 7)));
+    expect("moved back in too little room", [0, 27].iter().all(|&room| back(&UP, room) == refused(1, room)));
+    expect("moved back from kind 16", back(&RECORD, 29) == (0, 28, lent(&RECORD, 1)) && back(&RECORD, 27).0 == 1);
+    expect("a mark for kind 16", [0, 28, 40].iter().all(|&room| mark(&RECORD, 0, room) == refused(17, room)));
+    for low_water in [1, 255, 256, 65_535, 65_536, 1 << 24, 1 << 31, u32::MAX] {
+        let record = marked(low_water);
+        expect("24", [0, 27, 28, 32, 40].iter().all(|&room| back(&record, room) == refused(24, room)));
+        expect("moved up from kind 17", up(&record, 33) == (0, 32, lent(&record, 1)) && up(&record, 31).0 == 1);
+        expect("a mark set", mark(&UP, low_water, 33) == (0, 32, lent(&record, 1)));
+        expect("a mark set to 0", mark(&record, 0, 32) == (0, 32, UP.to_vec()) && mark(&record, 0, 31).0 == 1);
+        let head = api.record_head(DEVICE, &record);
+        let fields = (head.kind, head.block_size, head.low_water, head.segments);
+        expect("a marked head", head.number() == 0 && fields == (17, 128, low_water, 1));
+    }
+    let head = api.record_head(DEVICE, &RECORD);
+    let fields = (head.kind, head.block_size, head.low_water, head.segments);
+    expect("a plain head", head.number() == 0 && fields == (16, 128, 0, 1));
+
+    // 409 segments fill the limit with kind 17: 12 + 409 x 20 is 8,192.
+    let row: Vec<Segment> = (0..409).map(|i| Segment { kind: 2, start: 2_048 + i, length: 1 }).collect();
+    let full = [Head::plain(128), Head::marked(128, 0)].map(|head| encode_with(head, &row));
+    expect("full records", full[0].len() == 8_188 && full[1].len() == 8_192);
+    expect("a full record moved", up(&full[0], 8_192) == (0, 8_192, full[1].clone()));
+    expect("a full record moved back", back(&full[1], 8_188) == (0, 8_188, full[0].clone()));
+    for record in &full {
+        let mut changed = [0; 9_000];
+        expect("a full record", api.record_check(DEVICE, record).number == 0);
+        expect("21 with either head", api.allocate(DEVICE, record, 2, 1, &mut changed).number() == 21);
+        let one_less = &record[..record.len() - 20];
+        let answer = api.allocate(DEVICE, one_less, 2, 1, &mut changed);
+        expect("the last segment", (answer.number(), answer.start, answer.length) == (0, 2_456, record.len() as u64));
+        let more = [record, &record[record.len() - 20..]].concat();
+        expect("410 segments", api.record_check(DEVICE, &more).number == 15);
+    }
+
+    // Another kind or length in the first item, and a second head.
+    let first = |record: &[u8], length, kind| {
+        let mut record = record.to_vec();
+        (record[0], record[2]) = (length, kind);
+        record
+    };
+    let malformed = [
+        first(&RECORD, 8, 17),
+        first(&RECORD, 12, 16),
+        first(&RECORD, 12, 17),
+        first(&UP, 8, 17),
+        first(&UP, 8, 16),
+        first(&UP, 12, 16),
+        first(&UP, 12, 18),
+        first(&UP, 28, 18),
+        UP[..11].to_vec(),
+        UP[..8].to_vec(),
+        [&UP[..12], &RECORD].concat(),
+        [&RECORD[..8], &UP].concat(),
+        [&RECORD[..], &UP[..12]].concat(),
+        [&UP[..], &RECORD[..8]].concat(),
+        UP[12..].to_vec(),
+        [&UP[12..], &UP].concat(),
+    ];
+    for record in malformed {
+        let refusals = refusals(api, &record);
+        expect("a record without its one head", refusals.iter().all(|(_, refusal)| *refusal == Refused::numbered(17)));
+    }
+    // What is tested first: the length, the items, the places, the clash; each in no room, with a mark that would be lost.
+    let lossy = |places: &[(u64, u64)]| {
+        let segment = |&(start, length)| Segment { kind: 2, start, length };
+        encode_with(Head::marked(128, 5), &places.iter().map(segment).collect::<Vec<_>>())
+    };
+    let order = [
+        (vec![], 15),
+        (vec![0; 8_193], 15),
+        (lossy(&[])[..11].to_vec(), 17),
+        (lossy(&[(2_048, 0)]), 18),
+        (lossy(&[(2_048, 2), (2_049, 1)]), 19),
+        (lossy(&[(2_048, 2), (2_050, 1)]), 24),
+    ];
+    for (record, number) in order {
+        expect("the order on the way back", back(&record, 0) == refused(number, 0));
+    }
 }
 
 /// The segments of a record of three from a position on: what a table of so many numbers then holds, and the count.
 fn segments(api: &dyn Interface, expect: &mut Expect) {
     let three =
         [(2, 2_048, 100), (4, 3_000, 50), (1, 2_200, 7)].map(|(kind, start, length)| Segment { kind, start, length });
-    let record = encode(128, &three);
+    let record = encode(&three);
     let left = |room: usize, position| {
         let mut table = vec![9; room];
         let answer = api.record_segments(DEVICE, &record, position, &mut table);
@@ -117,7 +242,7 @@ fn segments(api: &dyn Interface, expect: &mut Expect) {
 
 /// The version, and what some numbers say.
 fn words(api: &dyn Interface, expect: &mut Expect) {
-    expect("version", api.version() == 2);
+    expect("version", api.version() == 3);
     let says = |number, line: &str| {
         let words = api.refusal_words(number);
         words.text() == line.as_bytes() && words.bytes[words.used..].iter().all(|&byte| byte == 0)
@@ -125,7 +250,8 @@ fn words(api: &dyn Interface, expect: &mut Expect) {
     expect("words of 0", says(0, "nothing is refused"));
     expect("words of 10", says(10, "neither copy's block is accepted"));
     expect("words of 23", says(23, "no store has that number"));
-    expect("words of 24", says(24, "a number that is not known") && says(255, "a number that is not known"));
+    expect("words of 24", says(24, "moving the head would lose its low water mark"));
+    expect("words of 25", says(25, "a number that is not known") && says(255, "a number that is not known"));
     expect("room for words", (0..=255).all(|number| api.refusal_words(number).used < WORDS));
 }
 
@@ -156,7 +282,7 @@ fn devices(api: &dyn Interface, expect: &mut Expect) {
 fn free_room(api: &dyn Interface, expect: &mut Expect) {
     let record = |spans: &[(u64, u64)]| {
         let segment = |&(start, length)| Segment { kind: 2, start, length };
-        encode(128, &spans.iter().map(segment).collect::<Vec<_>>())
+        encode(&spans.iter().map(segment).collect::<Vec<_>>())
     };
     expect("printed record", record(&[(2_048, 100)]) == RECORD);
     let two = record(&[(2_048, 100), (3_000, 50)]);
@@ -188,7 +314,7 @@ fn free_room(api: &dyn Interface, expect: &mut Expect) {
 }
 
 /// What every call that takes a record and tests it refuses it with.
-fn refusals(api: &dyn Interface, record: &[u8]) -> [(&'static str, Refused); 14] {
+fn refusals(api: &dyn Interface, record: &[u8]) -> [(&'static str, Refused); 17] {
     let time = |seconds| Time { seconds, nanoseconds: 0 };
     let (mut front, mut back) = (vec![0; COPY], vec![0; COPY]);
     api.format(&mut front, &mut back, DEVICE, UUID, UUID, time(10), &RECORD);
@@ -207,6 +333,9 @@ fn refusals(api: &dyn Interface, record: &[u8]) -> [(&'static str, Refused); 14]
         ("first_fit", api.first_fit(DEVICE, record, 1).refusal),
         ("allocate", api.allocate(DEVICE, record, 2, 1, &mut bytes).refusal),
         ("release", api.release(DEVICE, record, 0, &mut bytes).refusal),
+        ("head_up", api.head_up(DEVICE, record, &mut bytes).refusal),
+        ("head_back", api.head_back(DEVICE, record, &mut bytes).refusal),
+        ("head_mark", api.head_mark(DEVICE, record, 7, &mut bytes).refusal),
         ("update_check", check),
         ("update_plan", plan),
         ("format", api.format(&mut front, &mut back, DEVICE, UUID, UUID, time(10), record)),
@@ -216,7 +345,7 @@ fn refusals(api: &dyn Interface, record: &[u8]) -> [(&'static str, Refused); 14]
 /// The first sectors and the lengths of a record's segments.
 type Places<'a> = &'a [(u64, u64)];
 
-/// The two segments that clash: the lowest position that clashes with a later one, and the lowest such later position. The pairs were
+/// The two segments that clash, with either head: the lowest position that clashes with a later one, and the lowest such later position. The pairs were
 /// worked out by hand.
 fn clashes(api: &dyn Interface, expect: &mut Expect) {
     let pair = |first, second| Refused { number: 19, first, second };
@@ -250,11 +379,13 @@ fn clashes(api: &dyn Interface, expect: &mut Expect) {
     ];
     let segment = |&(start, length): &(u64, u64)| Segment { kind: 2, start, length };
     let mut holds = |name: &str, segments: &[Segment], refusal: Refused| {
-        for (call, answer) in refusals(api, &encode(128, segments)) {
-            // A call may have another number for a record without a clash, as an allocation has for one that is full.
-            let other = answer.number != 19 && answer == none(answer.number);
-            let same = if refusal.number == 0 { other } else { answer == refusal };
-            expect(&format!("{call} of {name}"), same);
+        for head in [Head::plain(128), Head::marked(128, 1)] {
+            for (call, answer) in refusals(api, &encode_with(head, segments)) {
+                // A call may have another number for a record without a clash, as an allocation has for one that is full.
+                let other = answer.number != 19 && answer == none(answer.number);
+                let same = if refusal.number == 0 { other } else { answer == refusal };
+                expect(&format!("{call} of {name}, kind {}", head.kind()), same);
+            }
         }
     };
     for (name, places, refusal) in few {
@@ -302,7 +433,7 @@ fn stores(api: &dyn Interface, expect: &mut Expect) {
     );
     let segments: Vec<Segment> = (0..26).map(|i| Segment { kind: 1, start: 2_048 + i, length: 1 }).collect();
     let count = |segments: &[Segment], time: Time| {
-        let record = encode(128, segments);
+        let record = encode(segments);
         let answer = api.update_plan(&front, &back, time, &record);
         let count = if answer.number() == 0 { api.update_count(answer.plan) } else { 0 };
         (answer.number(), record.len(), count)

@@ -10,6 +10,7 @@ use outside::sample::numbers::{any_device, break_device, break_nanoseconds, iden
 use outside::sample::records::{any_record, record, segment_count};
 
 use crate::blocks::{length, uuid_slice};
+use crate::heads::note_marked;
 use crate::run::Run;
 
 pub fn case(run: &mut Run, rng: &mut Rng, _: u64) {
@@ -43,6 +44,7 @@ pub fn case(run: &mut Run, rng: &mut Rng, _: u64) {
     if outcome.number() == 0 {
         let [front, back] = &outcome.library.0;
         formatted(run, rng, front, back, record.part());
+        note_marked(run, record.part(), "format, a head of kind 17");
         if rng.once_in(16) {
             stored(run, rng, device, [front, back]);
         }

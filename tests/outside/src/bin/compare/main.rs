@@ -14,6 +14,7 @@ mod edges;
 mod examples;
 mod expected;
 mod formats;
+mod heads;
 mod marks;
 mod plans;
 mod readings;
@@ -55,6 +56,7 @@ const FAMILIES: &[Family] = &[
     ("overlaps", clashes::OVERLAPS, clashes::overlaps),
     ("clash-edges", 340, edges::clashes),
     ("zeros", 9_000, zeros::case),
+    ("heads", 5_400, heads::case),
 ];
 
 fn main() {

@@ -5,12 +5,15 @@ use outside::interface::{as_runs, Device, FreeRun, Interface, SegmentFields};
 use outside::lent::Lent;
 use outside::model;
 use outside::model::layout::RECORD_LIMIT;
-use outside::model::record::{begins_with_head, is_block_size, HEAD_BYTES, MAX_SEGMENTS};
+use outside::model::record::{is_block_size, Head, HEAD_BYTES, MARKED_HEAD_BYTES, MAX_SEGMENTS, SEGMENT_BYTES};
 use outside::model::room::{free_runs, Run as ModelRun};
 use outside::rng::Rng;
 use outside::sample::numbers::{break_device, device};
-use outside::sample::records::{any_record, block_size, break_block_size, record, segment_count};
+use outside::sample::records::{
+    any_record, block_size, break_block_size, head_length, record, segment_count, segments_in,
+};
 
+use crate::heads::{begin as begin_with, note_marked};
 use crate::run::Run;
 
 pub fn case(run: &mut Run, rng: &mut Rng, _: u64) {
@@ -51,15 +54,15 @@ fn begin(run: &mut Run, rng: &mut Rng) {
     let random = rng.index(100);
     let room = rng.one_of(&[0, 1, 7, 8, 9, random]);
     let lent = [Lent::random(rng, room)];
-    run.both("record_begin", &[], lent, [], |api, [record], []| api.record_begin(record.part_mut(), size));
+    begin_with(run, Head::plain(size), lent);
     if room < HEAD_BYTES && !is_block_size(size) {
         run.reached("record_begin, 1 and 17 both apply");
     }
 }
 
 /// A segment put into a buffer: that of a record, perhaps with a head that is none, of any size.
-fn put(run: &mut Run, rng: &mut Rng, record: &[u8]) {
-    let count = record.len().saturating_sub(HEAD_BYTES) as u64 / 20;
+pub fn put(run: &mut Run, rng: &mut Rng, record: &[u8]) {
+    let count = segments_in(record) as u64;
     let inside = rng.below(count + 1);
     let random = rng.next() >> rng.below(64);
     // A position whose place is inside where a product or a sum wraps.
@@ -67,9 +70,10 @@ fn put(run: &mut Run, rng: &mut Rng, record: &[u8]) {
     let most = u64::MAX / 20;
     let position =
         rng.one_of(&[inside, inside, inside, count, count + 1, 408, 409, wraps, most - 1, most, random, u64::MAX]);
-    let needed = (u128::from(position) * 20 + 28).min(2 * RECORD_LIMIT as u128) as usize;
+    let first = (head_length(record) + SEGMENT_BYTES) as u128;
+    let needed = (u128::from(position) * 20 + first).min(2 * RECORD_LIMIT as u128) as usize;
     let any = rng.index(2 * RECORD_LIMIT);
-    let short = rng.index(HEAD_BYTES + 1);
+    let short = rng.index(MARKED_HEAD_BYTES + 1);
     let room = rng.one_of(&[needed, needed, needed - 1, needed + 1, record.len(), any, short]);
     let mut bytes = record.to_vec();
     bytes.resize(room, 0xa5);
@@ -81,12 +85,21 @@ fn put(run: &mut Run, rng: &mut Rng, record: &[u8]) {
     if room < HEAD_BYTES && outcome.number() == 17 {
         run.reached("record_put, 17 for too little room for a head");
     }
-    if begins_with_head(&bytes) && outcome.number() == 1 {
+    if (HEAD_BYTES..MARKED_HEAD_BYTES).contains(&room) && outcome.number() == 17 && Head::read(record).is_ok() {
+        run.reached("record_put, 17 for a mark that is cut off");
+    }
+    let head = Head::read(&bytes);
+    if head.is_ok() && outcome.number() == 1 {
         run.reached(if position >= most {
             "record_put, 1 where a sum would wrap"
         } else {
             "record_put, too little room"
         });
+    }
+    match head.map(|head| head.low_water) {
+        Ok(None) if outcome.number() == 0 => run.reached("record_put, after a head of kind 16"),
+        Ok(Some(_)) if outcome.number() == 0 => run.reached("record_put, after a head of kind 17"),
+        _ => {}
     }
     if outcome.number() == 0 && outcome.answer.length > RECORD_LIMIT as u64 {
         run.reached("record_put, past the most of a record");
@@ -138,7 +151,7 @@ fn sectors(run: &mut Run, device: Device, record: &[u8]) {
 
 /// A position in the record, just past it, one whose place in the record is inside it where the product wraps, or any number.
 fn position(rng: &mut Rng, record: &[u8]) -> u64 {
-    let count = record.len().saturating_sub(8) as u64 / 20;
+    let count = segments_in(record) as u64;
     let inside = rng.below(count.max(1));
     let random = rng.next() >> rng.below(64);
     let wraps = (1 << 62) + inside;
@@ -154,8 +167,10 @@ fn run_table(run: &mut Run, rng: &mut Rng, device: Device, record: &Lent<u8>, ru
     let outcome = run.both("free_runs", &[record], [], lent, |api, [], [table]| {
         api.free_runs(device, record.part(), as_runs(table.part_mut()))
     });
-    if outcome.number() == 1 {
-        run.reached("free_runs, too little room");
+    match outcome.number() {
+        0 => note_marked(run, record.part(), "free_runs, a head of kind 17"),
+        1 => run.reached("free_runs, too little room"),
+        _ => {}
     }
 }
 
@@ -194,6 +209,8 @@ fn allocate(run: &mut Run, rng: &mut Rng, device: Device, record: &Lent<u8>, run
     });
     let accepted = model::record::check(&device, bytes).is_ok();
     match outcome.number() {
+        0 => note_marked(run, bytes, "allocate, a head of kind 17"),
+        21 => note_marked(run, bytes, "allocate, 21 with a head of kind 17"),
         1 if accepted => run.reached("allocate, too little room"),
         17 if accepted => run.reached("allocate, 17 for its own kind"),
         18 if accepted => run.reached("allocate, 18 for its own count"),
@@ -222,7 +239,9 @@ fn release(run: &mut Run, rng: &mut Rng, device: Device, record: &Lent<u8>) {
     let outcome = run.both("release", &[record], changed, [], |api, [changed], []| {
         api.release(device, bytes, position, changed.part_mut())
     });
-    if outcome.number() == 1 {
-        run.reached("release, too little room");
+    match outcome.number() {
+        0 => note_marked(run, bytes, "release, a head of kind 17"),
+        1 => run.reached("release, too little room"),
+        _ => {}
     }
 }

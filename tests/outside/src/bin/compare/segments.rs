@@ -2,11 +2,12 @@
 
 use outside::interface::{Device, SegmentFields};
 use outside::lent::Lent;
-use outside::model::record::{HEAD_BYTES, MAX_SEGMENTS, SEGMENT_BYTES};
+use outside::model::record::MAX_SEGMENTS;
 use outside::rng::Rng;
 use outside::sample::numbers::{break_device, device};
-use outside::sample::records::{any_record, record, segment_count};
+use outside::sample::records::{all_segments, any_record, encode, head, record, segment_count, segments_in};
 
+use crate::heads::note_marked;
 use crate::run::Run;
 
 /// Kind, start, length.
@@ -28,17 +29,12 @@ pub fn case(run: &mut Run, rng: &mut Rng, number: u64) {
         break_device(rng, &mut device);
     }
     let record = Lent::holding(rng, &record);
-    let count = count(record.part());
+    let count = segments_in(record.part()) as u64;
     for position in positions(rng, count) {
         for room in rooms(rng, count.saturating_sub(position) as usize) {
             hand_on(run, rng, &device, &record, position, room);
         }
     }
-}
-
-/// How many segments a record of that length has.
-fn count(record: &[u8]) -> u64 {
-    (record.len().saturating_sub(HEAD_BYTES) / SEGMENT_BYTES) as u64
 }
 
 /// The first position, one in the middle, the last, those at the end and past it, and some whose place in the record is
@@ -76,7 +72,7 @@ fn hand_on(run: &mut Run, rng: &mut Rng, device: &Device, record: &Lent<u8>, pos
         }
         return Vec::new();
     }
-    let (count, handed) = (count(record.part()), outcome.answer.count);
+    let (count, handed) = (segments_in(record.part()) as u64, outcome.answer.count);
     let left = count.saturating_sub(position);
     run.require(CALL, handed == left.min((room / NUMBERS) as u64), "another count than is left and has room");
     let (numbers, rest) = table.part().split_at(room.min(NUMBERS * handed as usize));
@@ -95,12 +91,7 @@ fn hand_on(run: &mut Run, rng: &mut Rng, device: &Device, record: &Lent<u8>, pos
 
 /// All of 409 segments: by one call, by chunks, and one by one.
 fn walk(run: &mut Run, rng: &mut Rng, device: &Device) {
-    let full = HEAD_BYTES + MAX_SEGMENTS * SEGMENT_BYTES;
-    let mut bytes = record(rng, device, MAX_SEGMENTS);
-    // Segments that fell together are left out.
-    while bytes.len() != full {
-        bytes = record(rng, device, MAX_SEGMENTS);
-    }
+    let bytes = encode(head(rng), &all_segments(rng, device));
     let record = Lent::holding(rng, &bytes);
     let all = hand_on(run, rng, device, &record, 0, NUMBERS * MAX_SEGMENTS);
     run.require(CALL, all.len() == NUMBERS * MAX_SEGMENTS, "not all of 409 segments by one call");
@@ -128,4 +119,5 @@ fn walk(run: &mut Run, rng: &mut Rng, device: &Device) {
     }
     run.require(CALL, all == chunks, "one call and chunks differ");
     run.reached("record_segments, a walk over 409 by chunks");
+    note_marked(run, &bytes, "record_segments, a walk over 409 after a head of kind 17");
 }

@@ -1,14 +1,14 @@
-//! Every bit of a block, every length of a record, and every byte of a head item and of a segment.
+//! Every bit of a block, every length of a record with either head, and every byte of each head item and of a segment.
 
 use outside::interface::Device;
 use outside::lent::Lent;
 use outside::model::block::{seal, BlockBytes};
 use outside::model::layout::SECTOR;
-use outside::model::record::MAX_SEGMENTS;
+use outside::model::record::Head;
 use outside::rng::Rng;
 use outside::sample::blocks::block;
 use outside::sample::numbers::device;
-use outside::sample::records::record;
+use outside::sample::records::{all_segments, block_size, encode, low_water, segments};
 
 use crate::run::Run;
 
@@ -24,17 +24,20 @@ pub fn case(run: &mut Run, rng: &mut Rng, number: u64) {
     read(run, rng, &bytes);
 
     let device = device(rng);
-    let mut longest = record(rng, &device, MAX_SEGMENTS);
-    longest.resize(2 * CASES as usize + 200, 0);
-    for length in [2 * number as usize, 2 * number as usize + 1] {
-        check(run, rng, &device, &longest[..length]);
-    }
+    let size = block_size(rng);
+    for head in [Head::plain(size), Head::marked(size, low_water(rng))] {
+        let mut longest = encode(head, &all_segments(rng, &device));
+        longest.resize(2 * CASES as usize + 200, 0);
+        for length in [2 * number as usize, 2 * number as usize + 1] {
+            check(run, rng, &device, &longest[..length]);
+        }
 
-    // One byte of a head item with one segment, at any value.
-    let mut short = record(rng, &device, 1);
-    let at = number as usize % short.len();
-    short[at] = rng.next() as u8;
-    check(run, rng, &device, &short);
+        // One byte of a head item with one segment, at any value.
+        let mut short = encode(head, &segments(rng, &device, 1));
+        let at = number as usize % short.len();
+        short[at] = rng.next() as u8;
+        check(run, rng, &device, &short);
+    }
 }
 
 fn read(run: &mut Run, rng: &mut Rng, block: &BlockBytes) {

@@ -12,6 +12,7 @@ use outside::sample::records::{any_record, record, segment_count};
 
 use crate::blocks::length;
 use crate::copies::lend;
+use crate::heads::note_marked;
 use crate::marks::settled;
 use crate::plans::{broken_numbers, broken_uuid, foreign_copies, made_up_update, store_number};
 use crate::run::Run;
@@ -92,6 +93,7 @@ fn update(run: &mut Run, rng: &mut Rng, [front, back]: [&Lent<u8>; 2], time: Tim
         store(run, rng, plan, inputs, number);
         wrong_sizes(run, rng, plan, inputs);
         wrong_record(run, rng, plan, inputs, count);
+        note_marked(run, record.part(), "an update to a head of kind 17");
     }
     if front.part().len() == COPY && back.part().len() == COPY {
         for _ in 0..4 {

@@ -1,26 +1,33 @@
-//! One record through many allocations and releases.
+//! One record through many allocations and releases, and moves of its head.
 
 use outside::interface::Device;
 use outside::lent::Lent;
 use outside::model::layout::RECORD_LIMIT;
+use outside::model::record::{Head, MARKED_KIND};
+use outside::moves::Move;
 use outside::rng::Rng;
 use outside::sample::numbers::device;
-use outside::sample::records::block_size;
+use outside::sample::records::{head, low_water, segments_in};
 
+use crate::heads::{begin, moved};
 use crate::run::Run;
 
 const STEPS: u64 = 40;
 
 pub fn case(run: &mut Run, rng: &mut Rng, _: u64) {
     let device = device(rng);
-    let size = block_size(rng);
-    let lent = [Lent::random(rng, 8)];
-    let begun = run.both("record_begin", &[], lent, [], |api, [record], []| api.record_begin(record.part_mut(), size));
+    let head = head(rng);
+    let lent = [Lent::random(rng, head.length())];
+    let begun = begin(run, head, lent);
     let mut record = begun.model.0[0].part().to_vec();
     let share = rng.within(1, 20);
     for _ in 0..STEPS {
-        let count = (record.len() as u64 - 8) / 20;
-        let changed = if count > 0 && rng.once_in(3) {
+        let count = segments_in(&record) as u64;
+        let changed = if rng.once_in(8) {
+            let to = rng.one_of(&[Move::Up, Move::Back, Move::Mark(0)]);
+            let to = if rng.coin() { to } else { Move::Mark(low_water(rng)) };
+            moved(run, rng, device, &record, to)
+        } else if count > 0 && rng.once_in(3) {
             let position = rng.below(count);
             release(run, rng, &device, &record, position)
         } else {
@@ -45,11 +52,9 @@ fn put_again(run: &mut Run, rng: &mut Rng, device: &Device, record: &[u8]) {
     let head = run.ask("record_head", &[], |api| api.record_head(*device, record)).answer;
     let room = record.len() + rng.index(40);
     let lent = [Lent::random(rng, room)];
-    let mut buffer = run
-        .both("record_begin", &[], lent, [], |api, [buffer], []| api.record_begin(buffer.part_mut(), head.block_size))
-        .library
-        .0;
-    let mut length = 8;
+    let begun = Head { block_size: head.block_size, low_water: (head.kind == MARKED_KIND).then_some(head.low_water) };
+    let mut buffer = begin(run, begun, lent).library.0;
+    let mut length = begun.length();
     for position in 0..head.segments {
         let segment =
             run.ask("record_segment", &[], |api| api.record_segment(*device, record, position)).answer.segment;
@@ -81,7 +86,7 @@ fn allocate(run: &mut Run, rng: &mut Rng, device: &Device, record: &[u8], length
     let same = fit.refusal.number == 0 && fit.run.start == answer.start && fit.run.sectors >= length;
     run.require("first_fit", same, "not the run that was allocated from");
     let changed = outcome.library.0[0].part()[..answer.length as usize].to_vec();
-    let last = (record.len() as u64 - 8) / 20;
+    let last = segments_in(record) as u64;
     let released = release(run, rng, device, &changed, last);
     let same = released.as_deref() == Some(record);
     run.require("release", same, "releasing what was allocated gives another record");

@@ -15,6 +15,7 @@ use library::{discover, in_step, mend, update, Plan, Stamped};
 use outside::disk::{Disk, Store};
 use outside::model::block::{Block, BlockBytes};
 use outside::model::discovery::{block_of, Pair};
+use outside::model::record::Head;
 use outside::rng::Rng;
 use outside::sample::copies::{any_pair, in_step as in_step_copies, payload};
 use outside::sample::numbers::{identity, later, time};
@@ -33,6 +34,8 @@ const MOST_UPDATES: u64 = 3;
 #[derive(Default)]
 struct Counts {
     updates: u64,
+    /// To a record that has a low water mark.
+    marked_updates: u64,
     update_cuts: u64,
     update_excepted: u64,
     new_records: u64,
@@ -97,6 +100,7 @@ impl Cuts {
                 Err(error) => return self.fail(&format!("an update: {error}")),
             };
             self.counts.updates += 1;
+            self.counts.marked_updates += u64::from(Head::read(&new.record).is_ok_and(|head| head.low_water.is_some()));
             for group in 0..4 {
                 for _ in 0..UPDATE_CUTS {
                     self.cut_update(rng, &disk, &stores, group, [&old, &new]);
@@ -243,6 +247,7 @@ impl Cuts {
     fn finish(&mut self, single: bool) {
         let c = &self.counts;
         println!("updates: {}, cuts: {}", c.updates, c.update_cuts);
+        println!("  to a record with a low water mark: {}", c.marked_updates);
         println!("  the old record found: {}, the new one: {}", c.old_records, c.new_records);
         println!("  excepted (a wild block, accepted): {}", c.update_excepted);
         println!("states that discovery answers: {}, refused: {}", c.states, c.refused_states);
@@ -251,6 +256,7 @@ impl Cuts {
         println!("  mends landed whole: {}", c.landed_mends);
         let reached = [
             c.updates,
+            c.marked_updates,
             c.update_excepted,
             c.new_records,
             c.old_records,

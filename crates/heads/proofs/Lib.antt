@@ -1,0 +1,5 @@
+-- The laws that callers cite.
+pub mod Calls
+pub mod Heads
+pub mod Bytes
+pub mod Demand

@@ -1,0 +1,3 @@
+-- What the contracts of `heads` cite, and what is claimed of it.
+pub mod Changing
+pub mod Demand
