@@ -1,9 +1,9 @@
 /*
  * Amseokbin: finds, checks, updates, formats and mends the pool metadata of a drive in the Stratis 0.6 layout.
  *
- * Link with libamseokbin.a, which is for x86-64. It needs no operating system: it calls nothing but the compiler's memory functions,
- * keeps no state, and allocates nothing. Every call is proved to end, for any bytes and numbers, to stay within the memory it is lent,
- * and to answer what docs/PROMISES.md says. No call takes more than 16 KiB of stack; tests/stack.c measures that.
+ * Link with libamseokbin.a, which is for x86-64. It needs no operating system: it calls nothing but the compiler's memory functions, keeps
+ * nothing from one call to the next, and allocates nothing. Every call is proved to end, for any bytes and numbers, to stay within the memory it
+ * is lent, and to answer what docs/PROMISES.md says. No call takes more than 16 KiB of stack; tests/stack.c measures that.
  *
  * What no call can test, and the caller owes:
  * - A slice is a pointer and a length. The memory is there; a pointer is null only where its length is 0; slices that a call may change
@@ -12,15 +12,18 @@
  *   same with the plan's first stores applied, in order, up to the one that is asked for. A plan is used up when its stores are written, and
  *   when the copies have changed otherwise. Any plan is answered, also one that no call made: its stores go nowhere but to the blocks and
  *   areas of the device that the lent copy says it is of, and are of no use.
+ * - The pieces of a copy are its bytes, in order, with none left out and none twice, and each is handed over with the state that the call before
+ *   gave. Any state is answered; one that no call gave says nothing of a copy.
  * - The two copies are the front and the back of one device, read from where amseokbin_places puts them, and a device that is handed in
  *   beside them is that one.
  * Everything else is tested, and has a number.
  *
  * Answers. A call that can refuse answers a struct whose first field is the refusal, or the refusal alone: number 0 where the call did
- * what it says, else 1 to 24 (enum amseokbin_number). Then every other field is zero, and nothing that was lent is changed. 19 alone has
- * more: every call that gives it returns two segments that clash beside it (struct amseokbin_refusal). Where nothing else is said the lowest
- * number that applies is given: 1 for a slice of another size is tested first, 1 for too little room for an answer last. A copy has exactly
- * AMSEOKBIN_COPY bytes, a block and a store exactly AMSEOKBIN_SECTOR; a record is lent with its own length, a buffer with all its room.
+ * what it says, else 1 to 24 (enum amseokbin_number). Then every other field is zero, and nothing that was lent is changed. Two answers have
+ * more: every call that gives 19 returns two segments that clash beside it (struct amseokbin_refusal), and a refused piece of a copy has the
+ * state that was handed in beside it (struct amseokbin_receive_answer). Where nothing else is said the lowest number that applies is given: 1
+ * for a slice of another size is tested first, 1 for too little room for an answer last. A copy has exactly AMSEOKBIN_COPY bytes, a block and
+ * a store exactly AMSEOKBIN_SECTOR; a record is lent with its own length, a buffer with all its room.
  *
  * A worked example; the tests build and run it as it stands here. It makes a pool in two copies in memory, books 1,000 sectors, stores
  * the new record and finds it again. A device of your own takes the place of the two functions at the top.
@@ -132,7 +135,7 @@ extern "C" {
 
 /* The version of this header: major, minor. amseokbin_version gives the archive's; they have to be the same. */
 #define AMSEOKBIN_VERSION_MAJOR 0
-#define AMSEOKBIN_VERSION_MINOR 3
+#define AMSEOKBIN_VERSION_MINOR 4
 #define AMSEOKBIN_VERSION (AMSEOKBIN_VERSION_MAJOR * 65536u + AMSEOKBIN_VERSION_MINOR)
 
 /* ---- Sizes and limits ---------------------------------------------------------------------------------------------------- */
@@ -352,6 +355,57 @@ struct amseokbin_copy_answer {
 
 /* Reads one copy. 1 to 9. */
 struct amseokbin_copy_answer amseokbin_copy_read(const uint8_t *copy, size_t copy_length);
+
+/* ---- One copy in pieces -------------------------------------------------------------------------------------------------- */
+
+/*
+ * A copy that arrives in pieces, over a cable or from a file, is read as it comes; it never has to be in memory as a whole. The caller keeps a
+ * state of 528 bytes, hands it to each call by value, and goes on with the one that it is given:
+ *
+ *     struct amseokbin_received state = amseokbin_receive_begin();
+ *     // for each piece, in the copy's order:
+ *     struct amseokbin_receive_answer a = amseokbin_receive_piece(state, piece, length);
+ *     if (a.refusal.number != AMSEOKBIN_OK)
+ *         return a.refusal.number; // longer than a copy
+ *     state = a.received;
+ *     // and after the last:
+ *     struct amseokbin_copy_answer copy = amseokbin_receive_end(state);
+ *     if (copy.refusal.number != AMSEOKBIN_OK)
+ *         return copy.refusal.number; // 1: shorter than a copy; 2 to 9: its block
+ *
+ * Pieces have any lengths, 0 too, and may be cut anywhere: the end answers what amseokbin_copy_read answers of the copy at once. It may be
+ * asked at any time, and more pieces may follow it. A refused piece is not remembered: the end answers of what was taken. Where one copy
+ * follows another, hand over at most the AMSEOKBIN_COPY - state.taken bytes that this one still has, and begin again for the next. Where bytes
+ * were lost on the way, begin again with the copy's first. Discovery, updates and mends take whole copies. examples/receive.c is a program.
+ */
+
+/* The state between two pieces: how many of the copy's bytes were taken; its signature block, each byte that was taken in its place, zero where it
+ * is still to come; the checksums of what was taken of the used bytes of area a and of area b. Every state is answered, also one that no call
+ * gave: the bytes of a piece that lie in the block are laid into `block`; then with those that lie in the used bytes of an area its checksum is
+ * continued. The used bytes are as many from the area's start as its entry in `block` says, none where no record has that length. */
+struct amseokbin_received {
+    size_t taken;
+    uint8_t block[AMSEOKBIN_SECTOR];
+    uint32_t a;
+    uint32_t b;
+};
+
+/* The state before the first piece: zero in every field. */
+struct amseokbin_received amseokbin_receive_begin(void);
+
+/* The state from here on; where the piece is refused, the one that was handed in. */
+struct amseokbin_receive_answer {
+    struct amseokbin_refusal refusal;
+    struct amseokbin_received received;
+};
+
+/* Takes a piece. 1 where more than AMSEOKBIN_COPY bytes would have been taken with it: then none of it is, and a shorter one may follow. (Where a
+ * state that no call gave has more already, 1 for every piece.) */
+struct amseokbin_receive_answer amseokbin_receive_piece(struct amseokbin_received received, const uint8_t *piece, size_t piece_length);
+
+/* Reads the copy whose pieces were taken: received.block is its signature block and, where that is accepted, an area is whole whose entry there is
+ * used and has the state's checksum. 1 to 9; 1 where other than AMSEOKBIN_COPY bytes were taken. */
+struct amseokbin_copy_answer amseokbin_receive_end(struct amseokbin_received received);
 
 /* ---- Discovery ----------------------------------------------------------------------------------------------------------- */
 

@@ -70,6 +70,12 @@ static void sizes(void)
     SIZE(copy_answer, 160);
     AT(copy_answer, refusal, 0), AT(copy_answer, block, 24), AT(copy_answer, a_whole, 152);
     AT(copy_answer, b_whole, 153), AT(copy_answer, present, 154);
+    SIZE(received, 528);
+    AT(received, taken, 0), AT(received, block, 8), AT(received, a, 520), AT(received, b, 524);
+    /* The most that the state between two pieces of a copy may be. */
+    LOOK(sizeof(struct amseokbin_received) <= 1024);
+    SIZE(receive_answer, 552);
+    AT(receive_answer, refusal, 0), AT(receive_answer, received, 24);
     SIZE(found_answer, 176);
     AT(found_answer, refusal, 0), AT(found_answer, side, 24), AT(found_answer, area, 25), AT(found_answer, other, 26);
     AT(found_answer, bytes, 28), AT(found_answer, time, 32), AT(found_answer, block, 48);
@@ -428,6 +434,69 @@ static void copies(void)
     OK(step.refusal), FLAG(step.in_step, 1);
 }
 
+static int same_received(struct amseokbin_received x, struct amseokbin_received y)
+{
+    return x.taken == y.taken && memcmp(x.block, y.block, sizeof x.block) == 0 && x.a == y.a && x.b == y.b;
+}
+
+/* A copy in pieces: the state goes in and comes out, each field with another value; and the same of a state that no call made. */
+static void pieces(void)
+{
+    const struct amseokbin_time time = {1000000000, 8};
+    const uint32_t half = amseokbin_checksum(record, 20), whole = amseokbin_checksum(record, 48);
+    static const uint8_t zeros[AMSEOKBIN_SECTOR];
+    struct amseokbin_received begun = amseokbin_receive_begin(), made;
+    struct amseokbin_receive_answer kept;
+    struct amseokbin_copy_answer copy, once;
+    struct amseokbin_block block;
+
+    OK(amseokbin_format(COPIES, device, pool, 32, blockdev, 32, time, record, 48));
+    LOOK(begun.taken == 0 && begun.a == 0 && begun.b == 0 && memcmp(begun.block, zeros, sizeof begun.block) == 0);
+    kept = amseokbin_receive_piece(begun, front, 4116);
+    OK(kept.refusal), LOOK(kept.received.taken == 4116 && kept.received.a == half && kept.received.b == 0);
+    LOOK(memcmp(kept.received.block, front + AMSEOKBIN_BLOCK_OFFSET, AMSEOKBIN_SECTOR) == 0);
+    copy = amseokbin_receive_end(kept.received);
+    LOOK(copy.refusal.number == AMSEOKBIN_SLICE_SIZE && copy.block.device.sectors == 0 && copy.present == 0);
+    FLAG(copy.a_whole, 0), FLAG(copy.b_whole, 0);
+    kept = amseokbin_receive_piece(kept.received, front + 4116, AMSEOKBIN_COPY - 4116);
+    OK(kept.refusal), LOOK(kept.received.taken == AMSEOKBIN_COPY && kept.received.a == whole && kept.received.b == 0);
+    copy = amseokbin_receive_end(kept.received), once = amseokbin_copy_read(front, sizeof front);
+    OK(copy.refusal), LOOK(same_block(copy.block, once.block) && copy.block.a.bytes == 48);
+    FLAG(copy.a_whole, 1), FLAG(copy.b_whole, 0), LOOK(copy.present == AMSEOKBIN_PRESENT_A);
+
+    /* Refused: every field as it was handed in. */
+    made.taken = 0x0102030405060708, made.a = 0xa1a2a3a4, made.b = 0xb1b2b3b4;
+    for (size_t i = 0; i < sizeof made.block; i++)
+        made.block[i] = (uint8_t)(7 * i + 1);
+    kept = amseokbin_receive_piece(made, front, 1);
+    LOOK(kept.refusal.number == AMSEOKBIN_SLICE_SIZE && kept.refusal.first == 0 && kept.refusal.second == 0);
+    LOOK(same_received(kept.received, made));
+    kept = amseokbin_receive_piece(made, NULL, 0);
+    LOOK(kept.refusal.number == AMSEOKBIN_SLICE_SIZE && same_received(kept.received, made));
+
+    /* A piece of the block alone, into a state that has other bytes there; and nothing. */
+    made.taken = AMSEOKBIN_BLOCK_OFFSET + 32;
+    kept = amseokbin_receive_piece(made, pool, 32);
+    memcpy(made.block + 32, pool, 32), made.taken += 32;
+    OK(kept.refusal), LOOK(same_received(kept.received, made));
+    kept = amseokbin_receive_piece(made, NULL, 0);
+    OK(kept.refusal), LOOK(same_received(kept.received, made));
+
+    /* The end of a state that no call made: area b has its entry's checksum, area a another. */
+    memset(&block, 0, sizeof block);
+    block.device = device, memcpy(block.pool, pool, 32), memcpy(block.blockdev, blockdev, 32);
+    block.a.seconds = 11, block.a.nanoseconds = 12, block.a.bytes = 13, block.a.checksum = 0xa1a2a3a5;
+    block.b.seconds = 4, block.b.nanoseconds = 5, block.b.bytes = 6, block.b.checksum = 0xb1b2b3b4;
+    OK(amseokbin_block_write(block, made.block, sizeof made.block));
+    made.taken = AMSEOKBIN_COPY;
+    copy = amseokbin_receive_end(made);
+    OK(copy.refusal), LOOK(same_block(copy.block, block));
+    FLAG(copy.a_whole, 0), FLAG(copy.b_whole, 1), LOOK(copy.present == AMSEOKBIN_PRESENT_B);
+    made.a = 0xa1a2a3a5, made.b = 0;
+    copy = amseokbin_receive_end(made);
+    OK(copy.refusal), FLAG(copy.a_whole, 1), FLAG(copy.b_whole, 0), LOOK(copy.present == AMSEOKBIN_PRESENT_A);
+}
+
 /* Plans that no call made: each field counts. */
 static void plans(void)
 {
@@ -495,6 +564,7 @@ int main(void)
     heads();
     clashes();
     copies();
+    pieces();
     plans();
     padding();
     if (failed > 0) {

@@ -23,6 +23,7 @@ static struct amseokbin_run table[AMSEOKBIN_MOST_RUNS];
 static struct amseokbin_update update;
 static struct amseokbin_mend mend;
 static struct amseokbin_block block;
+static struct amseokbin_received received;
 static const uint8_t marks[AMSEOKBIN_COPY_SECTORS];
 static const uint8_t uuid[] = "0123456789abcdef0123456789abcdef";
 static const struct amseokbin_device device = {(uint64_t)1 << 40, AMSEOKBIN_MOST_METADATA, AMSEOKBIN_MOST_RESERVED};
@@ -109,6 +110,23 @@ static int reading_block(void) {
 static int writing_block(void) { return amseokbin_block_write(block, bytes, sizeof bytes).number; }
 static int reading_copy(void) {
     const struct amseokbin_copy_answer read = amseokbin_copy_read(front, sizeof front);
+    return read.refusal.number || read.present != AMSEOKBIN_PRESENT_A;
+}
+static int receiving(void) {
+    received = amseokbin_receive_begin();
+    return received.taken != 0;
+}
+static int taking_too_much(void) {
+    static const uint8_t long_piece[AMSEOKBIN_COPY + 1];
+    return amseokbin_receive_piece(received, long_piece, sizeof long_piece).refusal.number;
+}
+static int taking_a_piece(void) {
+    const struct amseokbin_receive_answer taken = amseokbin_receive_piece(received, front, sizeof front);
+    received = taken.received;
+    return taken.refusal.number;
+}
+static int ending(void) {
+    const struct amseokbin_copy_answer read = amseokbin_receive_end(received);
     return read.refusal.number || read.present != AMSEOKBIN_PRESENT_A;
 }
 static int discovering(void) { return amseokbin_discover(COPIES).refusal.number; }
@@ -212,6 +230,10 @@ int main(int words, char **word) {
         {"block_read", reading_block, 0},
         {"block_write", writing_block, 0},
         {"copy_read", reading_copy, 0},
+        {"receive_begin", receiving, 0},
+        {"receive_piece, 1", taking_too_much, 1},
+        {"receive_piece", taking_a_piece, 0},
+        {"receive_end", ending, 0},
         {"discover", discovering, 0},
         {"read_found", reading, 0},
         {"in_step", stepping, 0},

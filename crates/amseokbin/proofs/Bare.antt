@@ -20,7 +20,7 @@ use Rattle.layout.specs.declared.Located.the-variants as Located
 use Rattle.layout.specs.declared.BlocksLocated.{BlocksLocated}
 use Rattle.layout.specs.declared.BlocksLocated.the-variants as BlocksLocated
 use Rattle.layout.specs.Limits.{sectorBytes, sizeAllowed, deviceTests}
-use Rattle.layout.specs.Places.{blockSector, blocksLocated, located}
+use Rattle.layout.specs.Places.{blockSector, blocksLocated, located, copyBytes}
 use Rattle.block.specs.declared.Holding.{Holding}
 use Rattle.block.specs.declared.Entry.the-variants.{Unused}
 use Rattle.block.specs.declared.BlockFields.{BlockFields}
@@ -35,6 +35,9 @@ use Rattle.copy.specs.declared.Present.{Present}
 use Rattle.copy.specs.declared.Present.the-variants.{Nothing, At}
 use Rattle.copy.specs.declared.CopyReading.{CopyReading}
 use Rattle.copy.specs.Copy.{isCopy, blockIn, areaBytes, otherArea, otherSide, readingIn, sizedReading, copyReading}
+use Rattle.receive.specs.declared.Received.{Received}
+use Rattle.receive.specs.declared.Taking.{Taking}
+use Rattle.receive.specs.Receive.{fitsIn, taking, endedFor, endedWith, ending}
 use Rattle.discovery.specs.declared.Answer.{Answer}
 use Rattle.discovery.specs.declared.Answer.the-variants as Answer
 use Rattle.discovery.specs.Answers.{otherNumber}
@@ -60,7 +63,7 @@ use Rattle.mend.specs.Mend.{emptied}
 use Rattle.mend.specs.Plan as Mend
 use Rattle.format.specs.Writing as Format
 use Rattle.amseokbin.specs.Answers.{blocksAnswer, placesAnswer, fieldsFrom}
-use Rattle.amseokbin.specs.Copies.{copyTold, foundAnswer, stepOf}
+use Rattle.amseokbin.specs.Copies.{copyTold, receiveAnswer, foundAnswer, stepOf}
 use Rattle.amseokbin.specs.Records.{putAnswer}
 use Rattle.amseokbin.specs.Plans.{storeAnswer, updateFrom, mendFrom, mendAnswer}
 use Rattle.amseokbin.specs.Bare.{Other19, NoClash, Bare}
@@ -127,6 +130,22 @@ copy-law c = sized-law c
 copy-told : (r : CopyReading) (v : Verdict) → Other19 (verdictNumber v) → NoClash (copyTold r v .refusal)
 copy-told r (Verdict.Accepted x) h = zero-other
 copy-told r (Verdict.Refused n) h = h
+
+-- a copy in pieces, of any state
+taking-law : (s : Received) (p : List ℕ) → NoClash (receiveAnswer (taking s p) .refusal)
+unfolding taking
+taking-law s p = either (λ (t : Taking). NoClash (receiveAnswer t .refusal)) (fitsIn (s .taken) (length p)) _ _ zero-other size-other
+
+ended-law : (s : Received) (r : Reading) (v : Verdict) → ReadOther r → ReadOther (endedFor s r v .block)
+ended-law s r (Verdict.Accepted x) h = h
+ended-law s r (Verdict.Refused n) h = h
+
+ending-law : (s : Received) → ReadOther (ending s .block)
+unfolding ending
+ending-law s =
+    either (λ (r : CopyReading). ReadOther (r .block)) (eqb (s .taken) copyBytes) (endedWith s (reading (s .block))) (endedWith s (refusedReading sliceSize))
+    (ended-law s (reading (s .block)) (reading (s .block) .verdict) (read-law (s .block)))
+    (ended-law s (refusedReading sliceSize) (Verdict.Refused sliceSize) size-other)
 
 -- discovery: neither its number is 19 nor what it says of the other copy
 abbrev FoundOther : Answer → Type 0
@@ -277,6 +296,8 @@ bare =
       block-read = read-law;
       block-write = λ k out. first-free (writeTests out (k .pool) (k .blockdev) (fieldsFrom k)) refl;
       copy-read = λ c. copy-told (copyReading c) (copyReading c .block .verdict) (copy-law c);
+      receive-piece = taking-law;
+      receive-end = λ s. copy-told (ending s) (ending s .block .verdict) (ending-law s);
       discover = λ f b. found-told (discovery f b) f b (discovery-law f b);
       discover-other = λ f b. other-told (discovery f b) f b (discovery-law f b);
       read-found = λ f b out.

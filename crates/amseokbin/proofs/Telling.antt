@@ -3,7 +3,7 @@ use Prim.Native.Nat.{ℕ, _+_, _^_, _<_}
 use mathlib.Core.Path.{_≡_, refl, sym, ap, ap₂, subst, _∙_}
 use mathlib.Core.Bool.{Bool, true, false, cond, _&&_}
 use lib.Dec.{eqb}
-use mathlib.Core.List.{List, [], _∷_}
+use mathlib.Core.List.{List, [], _∷_, _++_}
 use native.Mathlib.Nat.{le-refl}
 use borrow.Author.Needs.{zero≤}
 use borrow.Author.Tests.{ne-eqb}
@@ -42,6 +42,12 @@ use Rattle.discovery.specs.Answers.{answerNumber, answerValues}
 use Rattle.block.specs.Answers.{verdictNumber, verdictValues}
 use Rattle.block.specs.Block.{number, deviceOf, poolOf, blockdevOf, entryAt, fieldsOf, reading, acceptedReading}
 use Rattle.copy.specs.declared.CopyReading.{CopyReading}
+use Rattle.copy.specs.Copy.{copyReading}
+use Rattle.receive.specs.declared.Received.{Received}
+use Rattle.receive.specs.Receive.{fresh, taking, ending}
+use Rattle.receive.specs.Demand.{after, unlessRefused, bytesTaken}
+use Rattle.receive.proofs.Following.{taking-past}
+use Rattle.receive.proofs.Demand.{pieces}
 use Rattle.items.specs.declared.Put.{Put}
 use Rattle.items.specs.declared.Put.the-variants as Put
 use Rattle.record.specs.declared.Found as Record
@@ -84,7 +90,7 @@ use Rattle.mend.specs.declared.Mending.the-variants.{InStep, Needed, Refused}
 use Rattle.mend.specs.Plan as Mend
 use Rattle.mend.proofs.Answering.{answering}
 use Rattle.amseokbin.specs.Answers.{blocksAnswer, placesAnswer, blockOf, blockFrom, blockAnswer, fieldsFrom}
-use Rattle.amseokbin.specs.Copies.{presentNumber, copyTold, foundAnswer, stepOf}
+use Rattle.amseokbin.specs.Copies.{presentNumber, copyTold, copyAnswer, receiveAnswer, foundAnswer, stepOf}
 use Rattle.amseokbin.specs.declared.Block.{Block}
 use Rattle.amseokbin.specs.declared.BlockAnswer.{BlockAnswer}
 use Rattle.amseokbin.specs.declared.CopyAnswer.{CopyAnswer}
@@ -93,7 +99,7 @@ use Rattle.amseokbin.specs.Records as Records
 use Rattle.amseokbin.specs.Records.{headSaid, noHead, headIf}
 use Rattle.amseokbin.specs.Room as Room
 use Rattle.amseokbin.specs.Plans.{storeAnswer, updateOf, updateFrom, updateAnswer, sideFrom, rewriteTold, mendFrom, mendAnswer}
-use Rattle.amseokbin.specs.Demand.{Told, foundList, blockList, Telling, Saying, Zeroing, Rereading, Planning}
+use Rattle.amseokbin.specs.Demand.{Told, foundList, blockList, Telling, Saying, Zeroing, Rereading, handedOn, takenIn, Receiving, Planning}
 use Rattle.amseokbin.proofs.Demand.{mend-back}
 
 blocks-told : (a : BlocksLocated) → Told (blocksAnswer a .refusal) (plain (blocksNumber a)) (blocksAnswer a .front ∷ blocksAnswer a .back ∷ []) (blocksValues a)
@@ -222,6 +228,9 @@ saying =
     record {
       block = λ r x e. (ap (λ (v : Verdict). blockFrom v (r .pool) (r .blockdev) .pool) e, ap (λ (v : Verdict). blockFrom v (r .pool) (r .blockdev) .blockdev) e);
       copy = λ r x e. ap (copyTold r) e ∙ ap (copyWith r) (sym (ap (λ (v : Verdict). blockFrom v (r .block .pool) (r .block .blockdev)) e));
+      present-none = refl;
+      present-a = λ h. refl;
+      present-b = λ h. refl;
       step = λ f b e. ap (λ (s : Bool). stepOf s (inStep f b)) e;
       head = λ d s e. ap (λ (n : ℕ). headIf n s (headOf s) (length (segments s))) e;
     }
@@ -229,6 +238,7 @@ saying =
 pub zeroing : Zeroing
 zeroing =
     record {
+      no-block = (refl, refl, refl, refl, refl);
       block = λ r n e. ap (λ (v : Verdict). blockTold v (r .pool) (r .blockdev)) e;
       copy = λ r n e. ap (copyTold r) e;
       found = λ n f b. refl;
@@ -277,6 +287,25 @@ rereading =
 mend-needed : (f b : List ℕ) (q : Finding) (o : Other) → discovery f b ≡ Answer.Found q o → inStep f b ≡ false → Mend.mending f b ≡ Needed (Mend.rewriteOf q)
 unfolding Mend.mending
 mend-needed f b q o e s = ap (λ (a : Answer). Mend.mendingAfter a f b) e ∙ ap (λ (t : Bool). cond t InStep (Needed (Mend.rewriteOf q))) s
+
+-- a copy in pieces: the states and the bytes are those of `receive`
+handed-on : (ps : List (List ℕ)) (s : Received) → handedOn s ps ≡ after s ps
+handed-on [] s = refl
+handed-on (p ∷ ps) s = handed-on ps (taking s p .received)
+
+taken-in : (ps : List (List ℕ)) (s : Received) → takenIn s ps ≡ bytesTaken s ps
+taken-in [] s = refl
+taken-in (p ∷ ps) s = ap (λ (l : List ℕ). unlessRefused (taking s p .number) p ++ l) (taken-in ps (taking s p .received))
+
+pub receiving : Receiving
+receiving =
+    record {
+      cut = λ c z ps e. ap copyAnswer (ap ending (handed-on ps fresh) ∙ pieces .cut c z ps e .1);
+      at-once = λ ps. ap copyAnswer (ap ending (handed-on ps fresh) ∙ (pieces .at-once ps .same ∙ ap copyReading (sym (taken-in ps fresh))));
+      taken = λ s p l. ap (λ (n : ℕ). receiveAnswer (record { number = n; received = taking s p .received })) (pieces .passing s p .zero .1 l);
+      refused = λ s p l. ap receiveAnswer (taking-past s p l);
+      no-copy = λ s n. ap copyAnswer (pieces .no-copy .state s n);
+    }
 
 pub planning : Planning
 planning =

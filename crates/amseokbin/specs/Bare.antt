@@ -14,6 +14,8 @@ use Rattle.layout.specs.Places.{located, blocksLocated}
 use Rattle.block.specs.Block.{reading}
 use Rattle.block.specs.Writing.{writeTests}
 use Rattle.copy.specs.Copy.{copyReading}
+use Rattle.receive.specs.declared.Received.{Received}
+use Rattle.receive.specs.Receive.{taking, ending}
 use Rattle.discovery.specs.Discovery.{discovery, readAnswer}
 use Rattle.items.specs.declared.Head.the-variants.{Plain, Marked}
 use Rattle.items.specs.Making as Making
@@ -27,7 +29,7 @@ use Rattle.amseokbin.specs.declared.Block.{Block}
 use Rattle.amseokbin.specs.declared.UpdatePlan.{UpdatePlan}
 use Rattle.amseokbin.specs.declared.MendPlan.{MendPlan}
 use Rattle.amseokbin.specs.Answers.{blocksAnswer, placesAnswer, blockAnswer, fieldsFrom}
-use Rattle.amseokbin.specs.Copies.{copyAnswer, foundAnswer, stepAnswer}
+use Rattle.amseokbin.specs.Copies.{copyAnswer, receiveAnswer, foundAnswer, stepAnswer}
 use Rattle.amseokbin.specs.Records.{putAnswer}
 use Rattle.amseokbin.specs.Plans.{storeAnswer, updateFrom, mendFrom, mendAnswer}
 
@@ -47,6 +49,8 @@ pub record Bare : Type 0 where
   pub block-read : (s : List ℕ) → NoClash (blockAnswer (reading s) .refusal)
   pub block-write : (k : Block) (out : List ℕ) → NoClash (plain (first (writeTests out (k .pool) (k .blockdev) (fieldsFrom k))))
   pub copy-read : (c : List ℕ) → NoClash (copyAnswer (copyReading c) .refusal)
+  pub receive-piece : (s : Received) (p : List ℕ) → NoClash (receiveAnswer (taking s p) .refusal)
+  pub receive-end : (s : Received) → NoClash (copyAnswer (ending s) .refusal)
   pub discover : (f b : List ℕ) → NoClash (foundAnswer (discovery f b) f b .refusal)
   pub discover-other : (f b : List ℕ) → Other19 (foundAnswer (discovery f b) f b .other)
   pub read-found : (f b out : List ℕ) → NoClash (foundAnswer (readAnswer (discovery f b) (length out)) f b .refusal)

@@ -1,4 +1,4 @@
--- What the calls on copies answer: one copy, discovery, in step.
+-- What the calls on copies answer: one copy, also in pieces, discovery, in step.
 use Prim.Native.Nat.{ℕ}
 use mathlib.Core.Bool.{Bool, true, false, cond}
 use mathlib.Core.List.{List}
@@ -17,6 +17,7 @@ use Rattle.copy.specs.declared.Present.the-variants.{Nothing, At}
 use Rattle.copy.specs.declared.CopyReading.{CopyReading}
 use Rattle.copy.specs.Copy as Copy
 use Rattle.copy.specs.Copy.{uuidFrom}
+use Rattle.receive.specs.declared.Taking.{Taking}
 use Rattle.discovery.specs.declared.Finding.{Finding}
 use Rattle.discovery.specs.declared.Other.{Other}
 use Rattle.discovery.specs.declared.Answer.{Answer}
@@ -26,6 +27,7 @@ use Rattle.discovery.specs.Discovery.{sized, inStep, copyOn}
 use Rattle.discovery.specs.Newest.{timeAt}
 use Rattle.amseokbin.specs.declared.Block.{Block}
 use Rattle.amseokbin.specs.declared.CopyAnswer.{CopyAnswer}
+use Rattle.amseokbin.specs.declared.ReceiveAnswer.{ReceiveAnswer}
 use Rattle.amseokbin.specs.declared.FoundAnswer.{FoundAnswer}
 use Rattle.amseokbin.specs.declared.StepAnswer.{StepAnswer}
 use Rattle.amseokbin.specs.Answers.{noBlock, blockOf}
@@ -44,6 +46,10 @@ copyTold r (Verdict.Refused n) = record { refusal = plain n; block = noBlock; a 
 
 abbrev pub copyAnswer : CopyReading → CopyAnswer
 copyAnswer r = copyTold r (r .block .verdict)
+
+-- a copy in pieces: the state from here on stands beside 0 and beside a refusal
+abbrev pub receiveAnswer : Taking → ReceiveAnswer
+receiveAnswer t = record { refusal = plain (t .number); received = t .received }
 
 -- an area from C's number: 0 is a, anything else b
 abbrev pub areaFrom : ℕ → Area

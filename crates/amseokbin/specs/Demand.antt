@@ -1,10 +1,10 @@
 -- What the C calls give, from the libraries' own claims: `proofs/Telling.antt` proves `Telling`, `Saying`, `Zeroing`,
--- `Rereading` and `Planning`, `proofs/Demand.antt` `Blocks`, `ReadBack`, `Giving` and `Mending`.
-use Prim.Native.Nat.{ℕ, suc, _^_, _≤_, _<_}
+-- `Rereading`, `Receiving` and `Planning`, `proofs/Demand.antt` `Blocks`, `ReadBack`, `Giving` and `Mending`.
+use Prim.Native.Nat.{ℕ, suc, _+_, _^_, _≤_, _<_}
 use mathlib.Core.Path.{_≡_}
 use mathlib.Core.Logic.{_↔_}
 use mathlib.Core.Bool.{Bool, true, false, not}
-use mathlib.Core.List.{List, [], _∷_, _++_}
+use mathlib.Core.List.{List, [], _∷_, _++_, flatten}
 use lib.ListN.{length, take}
 use Rattle.search.specs.Search.{one}
 use Rattle.endian.specs.Bytes.{Bytes, zeros}
@@ -25,9 +25,16 @@ use Rattle.block.specs.Accepted.{Accepted}
 use Rattle.block.specs.Block.{poolOf, blockdevOf, reading}
 use Rattle.block.specs.Writing.{writeTests, written}
 use Rattle.block.specs.Answers.{verdictNumber, verdictValues}
+use Rattle.block.specs.declared.Holding.{Holding}
+use Rattle.copy.specs.declared.Present.the-variants.{Nothing, At}
+use Rattle.layout.specs.declared.Area.the-variants.{A, B}
 use Rattle.copy.specs.declared.CopyReading.{CopyReading}
 use Rattle.copy.specs.Copy as Copy
-use Rattle.copy.specs.Copy.{newest, sameArea}
+use Rattle.copy.specs.Copy.{newest, sameArea, copyReading}
+use Rattle.copy.specs.Demand.{Sized}
+use Rattle.receive.specs.declared.Received.{Received}
+use Rattle.receive.specs.Receive.{fresh, taking, ending}
+use Rattle.receive.specs.Demand.{unlessRefused, size}
 use Rattle.discovery.specs.declared.Finding.{Finding}
 use Rattle.discovery.specs.declared.Other.{Other}
 use Rattle.discovery.specs.declared.Answer.{Answer}
@@ -75,7 +82,7 @@ use Rattle.amseokbin.specs.declared.FoundAnswer.{FoundAnswer}
 use Rattle.amseokbin.specs.declared.UpdatePlan.{UpdatePlan}
 use Rattle.amseokbin.specs.declared.MendPlan.{MendPlan}
 use Rattle.amseokbin.specs.Answers.{blocksAnswer, placesAnswer, noEntry, noBlock, blockAnswer, fieldsFrom}
-use Rattle.amseokbin.specs.Copies.{presentNumber, copyAnswer, foundAnswer, stepAnswer}
+use Rattle.amseokbin.specs.Copies.{presentNumber, copyAnswer, receiveAnswer, foundAnswer, stepAnswer}
 use Rattle.amseokbin.specs.Records as Records
 use Rattle.amseokbin.specs.Room as Room
 use Rattle.amseokbin.specs.Plans.{storeAnswer, updateOf, updateFrom, updateAnswer, rewriteTold, noMend, mendFrom, mendAnswer}
@@ -133,13 +140,23 @@ pub record Saying : Type 0 where
   pub copy : (r : CopyReading) (x : BlockFields) → r .block .verdict ≡ Verdict.Accepted x
       → copyAnswer r
       ≡ record { refusal = plain 0; block = blockAnswer (r .block) .block; a = r .a; b = r .b; present = presentNumber (r .present) }
+  -- a present record's number: none, area a, area b
+  pub present-none : presentNumber Nothing ≡ 0
+  pub present-a : (h : Holding) → presentNumber (At A h) ≡ 1
+  pub present-b : (h : Holding) → presentNumber (At B h) ≡ 2
   pub step : (f b : List ℕ) → sized f b ≡ true → stepAnswer f b ≡ record { refusal = plain 0; step = inStep f b }
   pub head : (d : Device) (s : List ℕ) → first (recordTests d s) ≡ 0
       → Records.headAnswer d s
       ≡ record { refusal = plain 0; kind = headKind (headOf s); size = blockSize (headOf s); mark = lowWater (headOf s); segments = length (segments s) }
 
--- A refusal has zero in every other field, to the letter. What stands beside its number is `Telling` (the library's) and, by meaning, `Pairs`.
+-- A refusal has zero in every other field, to the letter, but for a refused piece of a copy (`Receiving`). What stands beside its number is `Telling` (the library's) and, by meaning, `Pairs`.
 pub record Zeroing : Type 0 where
+  -- no block: zero in all its numbers, and zeros for its UUIDs
+  pub no-block : (noBlock .device ≡ record { sectors = 0; metadata = 0; reserved = 0 })
+      × (noBlock .a ≡ record { seconds = 0; nanoseconds = 0; bytes = 0; checksum = 0 })
+      × (noBlock .b ≡ record { seconds = 0; nanoseconds = 0; bytes = 0; checksum = 0 })
+      × (noBlock .pool ≡ zeros 32)
+      × (noBlock .blockdev ≡ zeros 32)
   pub block : (r : Reading) (n : ℕ) → r .verdict ≡ Verdict.Refused n → blockAnswer r ≡ record { refusal = plain n; block = noBlock }
   pub copy : (r : CopyReading) (n : ℕ) → r .block .verdict ≡ Verdict.Refused n
       → copyAnswer r ≡ record { refusal = plain n; block = noBlock; a = false; b = false; present = 0 }
@@ -163,6 +180,26 @@ pub record Rereading : Type 0 where
   pub read-again : (out : List ℕ) (k : Block) → k .device .sectors < 2 ^ 64 → k .a .seconds < 2 ^ 64 → k .a .checksum < 2 ^ 32 → k .b .seconds < 2 ^ 64
       → k .b .checksum < 2 ^ 32 → first (writeTests out (k .pool) (k .blockdev) (fieldsFrom k)) ≡ 0
       → blockAnswer (reading (written out (k .pool) (k .blockdev) (fieldsFrom k))) ≡ record { refusal = plain 0; block = k }
+
+-- A copy in pieces, by the answers of the calls alone: each state handed on as it was given, and the bytes of the pieces that were answered
+-- with 0. The end answers what `amseokbin_copy_read` answers of them at once.
+abbrev pub handedOn : Received → List (List ℕ) → Received
+handedOn s [] = s
+handedOn s (p ∷ ps) = handedOn (receiveAnswer (taking s p) .received) ps
+
+abbrev pub takenIn : Received → List (List ℕ) → List ℕ
+takenIn s [] = []
+takenIn s (p ∷ ps) = unlessRefused (receiveAnswer (taking s p) .refusal .number) p ++ takenIn (receiveAnswer (taking s p) .received) ps
+
+pub record Receiving : Type 0 where
+  pub cut : (c : List ℕ) → Sized c → (ps : List (List ℕ)) → flatten ps ≡ c → copyAnswer (ending (handedOn fresh ps)) ≡ copyAnswer (copyReading c)
+  pub at-once : (ps : List (List ℕ)) → copyAnswer (ending (handedOn fresh ps)) ≡ copyAnswer (copyReading (takenIn fresh ps))
+  -- a piece that is taken: 0, nothing beside it, and the next state
+  pub taken : (s : Received) (p : List ℕ) → s .taken + length p ≤ size → receiveAnswer (taking s p) ≡ record { refusal = plain 0; received = taking s p .received }
+  -- a piece that is refused: 1, and the state that was handed in
+  pub refused : (s : Received) (p : List ℕ) → size < s .taken + length p → receiveAnswer (taking s p) ≡ record { refusal = plain 1; received = s }
+  -- the end where other than a copy's bytes were taken: 1, and zero in every other field
+  pub no-copy : (s : Received) → ¬ (s .taken ≡ size) → copyAnswer (ending s) ≡ record { refusal = plain 1; block = noBlock; a = false; b = false; present = 0 }
 
 -- The fields of plans are what the header says: in each copy the area that is not present there; the found side, area and length.
 pub record Planning : Type 0 where

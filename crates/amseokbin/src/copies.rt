@@ -44,12 +44,10 @@ fn present_number(p: Present) -> u8
     }
 }
 
-// Reads one copy.
-#[no_mangle]
-pub extern "C" fn amseokbin_copy_read(copy: &[u8]) -> CopyAnswer
-    ensures { λ r. ⌜ r ≡ copyAnswer (copyReading (now (copy .entry))) ⌝ }
+// What reading a copy says, as C has it.
+pub(super) fn copy_of(r: CopyReading) -> CopyAnswer
+    ensures { λ k. ⌜ k ≡ copyAnswer r ⌝ }
 {
-    let r = copy::read(copy);
     let d = r.block;
     let v = d.verdict;
     let p = d.pool;
@@ -71,6 +69,14 @@ pub extern "C" fn amseokbin_copy_read(copy: &[u8]) -> CopyAnswer
             present: 0,
         },
     }
+}
+
+// Reads one copy.
+#[no_mangle]
+pub extern "C" fn amseokbin_copy_read(copy: &[u8]) -> CopyAnswer
+    ensures { λ r. ⌜ r ≡ copyAnswer (copyReading (now (copy .entry))) ⌝ }
+{
+    copy_of(copy::read(copy))
 }
 
 // C's number of a side.

@@ -5,6 +5,7 @@ mod copies;
 mod formats;
 mod mends;
 mod moves;
+mod pieces;
 mod records;
 mod room;
 mod storing;
@@ -18,6 +19,7 @@ use block::Holding;
 use block::Time;
 use layout::Device;
 use layout::DeviceMap;
+use receive::Received;
 use refusal::Refusal;
 use refusal::Words;
 use runs::Run;
@@ -62,6 +64,13 @@ pub struct CopyAnswer {
     pub a: bool,
     pub b: bool,
     pub present: u8,
+}
+
+// The state of a copy in pieces from here on, whether a piece was taken or refused.
+#[repr(C)]
+pub struct ReceiveAnswer {
+    pub refusal: Refusal,
+    pub received: Received,
 }
 
 // A found record, 0 or the other copy's refusal number, and the block of the copy that has it.
@@ -174,9 +183,9 @@ pub struct AllocationAnswer {
 // The version, as the header's AMSEOKBIN_VERSION has it: the major number times 65,536, and the minor number.
 #[no_mangle]
 pub extern "C" fn amseokbin_version() -> u32
-    ensures { λ r. ⌜ r ≡ 3 ⌝ }
+    ensures { λ r. ⌜ r ≡ 4 ⌝ }
 {
-    3
+    4
 }
 
 // What a refusal number says.

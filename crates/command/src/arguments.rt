@@ -18,6 +18,7 @@ pub(crate) enum Word {
     Update,
     Record,
     Dump,
+    Receive,
     Backup,
     Restore,
     Help,
@@ -58,6 +59,7 @@ pub(crate) struct Rules {
     pub writes: bool,
     pub replace: bool,
     pub unreadable: bool,
+    pub both: bool,
     pub sizes: bool,
     pub plain: bool,
 }
@@ -71,6 +73,7 @@ pub(crate) struct Request {
     pub plain: bool,
     pub replace: bool,
     pub unreadable: bool,
+    pub both: bool,
     pub at: [usize; 10],
     pub given: usize,
     // The place of the option whose value comes next.
@@ -120,6 +123,9 @@ fn word_after(s: &[u8]) -> Word {
     if endian::same(s, b"dump") {
         return Word::Dump;
     }
+    if endian::same(s, b"receive") {
+        return Word::Receive;
+    }
     if endian::same(s, b"backup") {
         return Word::Backup;
     }
@@ -142,6 +148,7 @@ fn reading(arguments: usize) -> Rules {
         writes: false,
         replace: false,
         unreadable: false,
+        both: false,
         sizes: false,
         plain: false,
     }
@@ -154,6 +161,7 @@ fn writing(arguments: usize, replace: bool, unreadable: bool, sizes: bool) -> Ru
         writes: true,
         replace,
         unreadable,
+        both: false,
         sizes,
         plain: false,
     }
@@ -169,6 +177,7 @@ pub(crate) fn rules_of(w: Word) -> Rules {
             writes: false,
             replace: false,
             unreadable: false,
+            both: false,
             sizes: false,
             plain: true,
         },
@@ -181,6 +190,15 @@ pub(crate) fn rules_of(w: Word) -> Rules {
         Word::Update => writing(2, false, false, false),
         Word::Record => reading(1),
         Word::Dump => reading(1),
+        Word::Receive => Rules {
+            arguments: 0,
+            writes: false,
+            replace: false,
+            unreadable: false,
+            both: true,
+            sizes: false,
+            plain: false,
+        },
         Word::Backup => reading(2),
         Word::Restore => writing(2, true, false, false),
         Word::Help => reading(0),
@@ -199,6 +217,7 @@ fn begun(word: Word) -> Request {
         plain: false,
         replace: false,
         unreadable: false,
+        both: false,
         at: [0usize; 10],
         given: 0,
         next: NOWHERE,
@@ -257,6 +276,10 @@ fn with_argument(p: Request, s: &[u8], i: usize) -> Request {
     }
     if r.unreadable & endian::same(s, b"unreadable") {
         q.unreadable = true;
+        return q;
+    }
+    if (r.both & !p.both) & endian::same(s, b"both") {
+        q.both = true;
         return q;
     }
     let most = if is_help(w) { 1 } else { r.arguments };

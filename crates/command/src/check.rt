@@ -3,6 +3,7 @@
 use crate::copies;
 use crate::copies::Look;
 use crate::facts;
+use crate::facts::When;
 use crate::repair;
 use crate::say::note;
 use crate::say::print;
@@ -18,12 +19,7 @@ use mend::Mending;
 use refusal::Refusal;
 use text::Text;
 
-// What discovery's answer says of times: whether a record was found, and its time.
-struct When {
-    found: bool,
-    time: Time,
-}
-
+// What discovery's answer says of times.
 fn when_found(a: Answer) -> When {
     match a {
         Answer::Refused(_) => When {
@@ -40,77 +36,37 @@ fn when_found(a: Answer) -> When {
     }
 }
 
-// The state of an area that its entry uses: whole, torn, or not read.
-fn add_state(t: Text, marks: &[u8], whole: bool, x: Area, bytes: u32) -> Text {
-    if !copies::area_read(marks, x, bytes) {
-        return t.add(b"unread ");
-    }
-    if whole {
-        return t.add(b"whole ");
-    }
-    t.add(b"torn ")
-}
-
-// The line of an area of a copy whose block is accepted.
-fn area_line(t: Text, marks: &[u8], f: BlockFields, x: Area, whole: bool, p: When) -> Text {
+// Whether the sectors that an area uses were read.
+fn used_read(marks: &[u8], f: BlockFields, x: Area) -> bool {
     let e = copy::entry_in(f, x);
     let Entry::Used(h) = e else {
-        return t.add(b"unused\n");
+        return true;
     };
-    let u = facts::add_holding(add_state(t, marks, whole, x, h.bytes), h);
-    let later = p.found & block::later(facts::time_of(h), p.time);
-    if later & !whole {
-        return u.add(b", later than what is found\n");
-    }
-    u.add(b"\n")
-}
-
-// The first words of an area's line.
-fn area_of(side: Side, x: Area) -> Text {
-    facts::add_area(facts::add_side(Text::new(), side).add(b" "), x).add(b" ")
+    copies::area_read(marks, x, h.bytes)
 }
 
 // Prints a copy whose block was read: the block, and both areas.
-fn print_copy(ok: bool, side: Side, c: &[u8], marks: &[u8], p: When) -> bool {
-    let first = facts::add_side(Text::new(), side).add(b" block ");
+fn print_copy(ok: bool, name: Text, c: &[u8], marks: &[u8], p: When) -> bool {
     let q = copy::read(c);
     let r = q.block;
     let v = r.verdict;
     match v {
-        Verdict::Refused(n) => {
-            let a = print(ok, sentences::refused(first, n).add(b"\n"));
-            print_unknown(a, side)
-        }
+        Verdict::Refused(n) => facts::print_refused(ok, name, n),
         Verdict::Accepted(f) => {
-            let a = print(ok, first.add(b"accepted\n"));
-            let b = print(
-                a,
-                area_line(area_of(side, Area::A), marks, f, Area::A, q.a, p),
-            );
-            print(
-                b,
-                area_line(area_of(side, Area::B), marks, f, Area::B, q.b, p),
-            )
+            let a = facts::print_accepted(ok, name);
+            let b = facts::print_area(a, name, f, Area::A, used_read(marks, f, Area::A), q.a, p);
+            facts::print_area(b, name, f, Area::B, used_read(marks, f, Area::B), q.b, p)
         }
     }
-}
-
-// Prints the areas of a copy whose block says nothing of them.
-fn print_unknown(ok: bool, side: Side) -> bool {
-    let a = print(ok, area_of(side, Area::A).add(b"unknown\n"));
-    print(a, area_of(side, Area::B).add(b"unknown\n"))
 }
 
 // Prints a copy.
 fn print_side(ok: bool, side: Side, c: &[u8], marks: &[u8], p: When) -> bool {
+    let name = facts::add_side(Text::new(), side);
     if copies::block_read(marks) {
-        return print_copy(ok, side, c, marks, p);
+        return print_copy(ok, name, c, marks, p);
     }
-    let a = print(
-        ok,
-        facts::add_side(Text::new(), side).add(b" block unread\n"),
-    );
-    print_unknown(a, side)
+    facts::print_unread(ok, name)
 }
 
 // Prints whether the found record r is accepted, with its refusal n, and how many segments and which head it has.

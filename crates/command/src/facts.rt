@@ -6,12 +6,14 @@ use crate::image;
 use crate::say::note;
 use crate::say::print;
 use crate::sentences;
+use block::BlockFields;
 use block::Entry;
 use block::Holding;
 use block::Reading;
 use block::Time;
 use block::Verdict;
 use calendar::Dated;
+use copy::Present;
 use discovery::Answer;
 use discovery::Finding;
 use discovery::Other;
@@ -39,6 +41,12 @@ pub(crate) fn worse(a: u8, b: u8) -> u8 {
 // The status of something that has to be so.
 pub(crate) fn unless(ok: bool, status: u8) -> u8 {
     if ok { WELL } else { status }
+}
+
+// Whether a record was found, and its time.
+pub(crate) struct When {
+    pub found: bool,
+    pub time: Time,
 }
 
 // What a copy's later entry is, where its area is not whole and its time is later than a given one.
@@ -120,6 +128,11 @@ pub(crate) fn later_torn(c: &[u8], t: Time) -> Torn {
     let Verdict::Accepted(x) = v else {
         return Torn::Nothing;
     };
+    torn_in(x, p, t)
+}
+
+// The same of a copy with an accepted block, by its fields and its present record.
+pub(crate) fn torn_in(x: BlockFields, p: Present, t: Time) -> Torn {
     let y = copy::newest(x);
     let e = copy::entry_in(x, y);
     let Entry::Used(h) = e else {
@@ -134,6 +147,12 @@ pub(crate) fn later_torn(c: &[u8], t: Time) -> Torn {
     Torn::Nothing
 }
 
+// What is said of a torn area, behind the name of its copy.
+pub(crate) fn torn_words(name: Text, y: Area, h: Holding) -> Text {
+    let a = add_area(name.add(b" "), y).add(b" is torn: a newer record of ");
+    add_holding(a, h).add(b" was stored there and is lost")
+}
+
 // Says of a side that a newer record than the one found was stored there and is torn: what a cut leaves is never so, so the drive has
 // lost it.
 fn note_torn(path: &[u8], first: Text, side: Side, c: &[u8], t: Time) {
@@ -141,13 +160,7 @@ fn note_torn(path: &[u8], first: Text, side: Side, c: &[u8], t: Time) {
     let Torn::At(y, h) = x else {
         return;
     };
-    let a = add_area(add_side(first, side).add(b" "), y);
-    note(
-        path,
-        add_holding(a.add(b" is torn: a newer record of "), h).add(
-            b" was stored there and is lost",
-        ),
-    );
+    note(path, torn_words(add_side(first, side), y, h));
 }
 
 // The same of both sides, where their areas were read.
@@ -306,13 +319,13 @@ pub(crate) fn print_answer(ok: bool, look: Look, unread: bool, front: &[u8], bac
     }
 }
 
-// Prints a UUID after a first word.
-pub(crate) fn print_uuid(ok: bool, first: &[u8], uuid: [u8; 32]) -> bool {
-    print(ok, Text::new().add(first).add(&uuid).add(b"\n"))
+// Prints a UUID after its first words.
+pub(crate) fn print_uuid(ok: bool, first: Text, uuid: [u8; 32]) -> bool {
+    print(ok, first.add(&uuid).add(b"\n"))
 }
 
-// Prints the identity that a block says, where it is accepted.
-fn print_block(ok: bool, r: Reading) -> bool {
+// Prints the identity that a block says, where it is accepted, each line after its first words.
+pub(crate) fn print_block(ok: bool, first: Text, r: Reading) -> bool {
     let v = r.verdict;
     let Verdict::Accepted(x) = v else {
         return ok;
@@ -320,9 +333,9 @@ fn print_block(ok: bool, r: Reading) -> bool {
     let d = x.device;
     let pool = r.pool;
     let uuid = r.blockdev;
-    let p = print_uuid(ok, b"pool ", pool);
-    let a = print_uuid(p, b"device ", uuid);
-    let sizes = Text::new()
+    let p = print_uuid(ok, first.add(b"pool "), pool);
+    let a = print_uuid(p, first.add(b"device "), uuid);
+    let sizes = first
         .add(b"sectors ")
         .decimal(d.sectors)
         .add(b" metadata ")
@@ -348,7 +361,75 @@ pub(crate) fn first_reading(front: &[u8], back: &[u8]) -> Reading {
 
 // Prints the identity of the pool.
 pub(crate) fn print_identity(ok: bool, front: &[u8], back: &[u8]) -> bool {
-    print_block(ok, first_reading(front, back))
+    print_block(ok, Text::new(), first_reading(front, back))
+}
+
+// The state of an area that its entry uses: whole, torn, or not read.
+fn add_state(t: Text, read: bool, whole: bool) -> Text {
+    if !read {
+        return t.add(b"unread ");
+    }
+    if whole {
+        return t.add(b"whole ");
+    }
+    t.add(b"torn ")
+}
+
+// The line of an area of a copy whose block is accepted, after its first words.
+fn area_line(t: Text, f: BlockFields, x: Area, read: bool, whole: bool, p: When) -> Text {
+    let e = copy::entry_in(f, x);
+    let Entry::Used(h) = e else {
+        return t.add(b"unused\n");
+    };
+    let u = add_holding(add_state(t, read, whole), h);
+    let later = p.found & block::later(time_of(h), p.time);
+    if later & !whole {
+        return u.add(b", later than what is found\n");
+    }
+    u.add(b"\n")
+}
+
+// The first words of an area's line, behind the name of its copy.
+fn area_of(name: Text, x: Area) -> Text {
+    add_area(name.add(b" "), x).add(b" ")
+}
+
+// Prints an area of a copy whose block is accepted: whether what it uses was read, and is whole.
+pub(crate) fn print_area(
+    ok: bool,
+    name: Text,
+    f: BlockFields,
+    x: Area,
+    read: bool,
+    whole: bool,
+    p: When,
+) -> bool {
+    print(ok, area_line(area_of(name, x), f, x, read, whole, p))
+}
+
+// Prints that a copy's block is accepted.
+pub(crate) fn print_accepted(ok: bool, name: Text) -> bool {
+    print(ok, name.add(b" block accepted\n"))
+}
+
+// Prints that a copy's block was not read, or is refused, and that nothing is known of the areas.
+pub(crate) fn print_unread(ok: bool, name: Text) -> bool {
+    print_unknown(print(ok, name.add(b" block unread\n")), name)
+}
+
+pub(crate) fn print_refused(ok: bool, name: Text, n: u8) -> bool {
+    let a = print(ok, block_refused(name, n).add(b"\n"));
+    print_unknown(a, name)
+}
+
+// What is said of a copy's block that is refused.
+pub(crate) fn block_refused(name: Text, n: u8) -> Text {
+    sentences::refused(name.add(b" block "), n)
+}
+
+fn print_unknown(ok: bool, name: Text) -> bool {
+    let a = print(ok, area_of(name, Area::A).add(b"unknown\n"));
+    print(a, area_of(name, Area::B).add(b"unknown\n"))
 }
 
 // A text with a number of sectors as a size, to a tenth of its unit.

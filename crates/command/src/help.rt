@@ -28,6 +28,7 @@ mark IMAGE BLOCKS          sets the low water mark, which a head of kind 17 has\
 update IMAGE RECORD        puts the record in a file in place of the present one\n  \
 record IMAGE               the present record's bytes\n  \
 dump IMAGE                 both copies' bytes, as the program dump reads them\n  \
+receive [both]             a copy's bytes from standard input: its block, areas and present record\n  \
 backup IMAGE FILE          keeps both copies in a file\n  \
 restore IMAGE FILE         puts them back\n  \
 help [WORD]                this page, or a word's\n  \
@@ -36,8 +37,8 @@ version\n\
     );
     put(
         b,
-        b"Status: 0 done and all is well; 1 refused, or check found something wrong; 2 wrong usage;\n\
-3 something could not be read or written. Words that write to the image take --dry-run.\n",
+        b"Status: 0 done and all is well; 1 refused, or check or receive found something wrong; 2 wrong\n\
+usage; 3 something could not be read or written. Words that write to the image take --dry-run.\n",
     )
 }
 
@@ -58,6 +59,7 @@ fn usage_of(w: Word) -> bool {
         Word::Update => put_error(b"update IMAGE RECORD [--dry-run]\n"),
         Word::Record => put_error(b"record IMAGE\n"),
         Word::Dump => put_error(b"dump IMAGE\n"),
+        Word::Receive => put_error(b"receive [both]\n"),
         Word::Backup => put_error(b"backup IMAGE FILE\n"),
         Word::Restore => put_error(b"restore IMAGE FILE [--dry-run] [replace]\n"),
         Word::Help => put_error(b"help [WORD]\n"),
@@ -172,6 +174,16 @@ power goes, the old record or the new one is found. --dry-run lists the stores.\
             true,
             b"usage: amseokbin dump IMAGE\n\nPrints both copies' bytes, front and back, as the program dump reads them.\n",
         ),
+        Word::Receive => put(
+            true,
+            b"usage: amseokbin receive [both]\n\
+\n\
+Reads a copy from standard input, in whatever pieces it comes, and keeps none of it. Prints its block, whose pool it is, its\n\
+two areas as check does, and its present record, each line behind `copy`. With the word both a front and then a back, as\n\
+dump prints them, the lines behind `front` and `back`. Status 0 only where each block is accepted and has a record, nothing\n\
+newer is torn, no byte more comes, and two copies are of one drive, with records of one time, length and checksum; whether\n\
+they are in step only check can tell. From a terminal it ends with the last byte; on one, standard error says how many came.\n",
+        ),
         Word::Backup => put(
             true,
             b"usage: amseokbin backup IMAGE FILE\n\nKeeps both copies in a new file. Do that before any repair.\n",
@@ -209,7 +221,7 @@ pub(crate) fn run(i: usize) -> u8 {
 // The version.
 pub(crate) fn version() -> u8 {
     facts::unless(
-        put(true, b"amseokbin 0.3, for the Stratis 0.6 layout\n"),
+        put(true, b"amseokbin 0.4, for the Stratis 0.6 layout\n"),
         facts::FAILED,
     )
 }

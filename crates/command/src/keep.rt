@@ -205,11 +205,7 @@ fn same_pool(r: Reading, q: Reading) -> bool {
     let Verdict::Accepted(_) = w else {
         return false;
     };
-    let a = r.pool;
-    let b = q.pool;
-    let c = r.blockdev;
-    let d = q.blockdev;
-    endian::same(&a, &b) & endian::same(&c, &d)
+    discovery::same_uuids(r, q)
 }
 
 // The reading of the first accepted block of a backup.

@@ -1,6 +1,6 @@
-// The command `amseokbin`: finds, checks, shows, formats, mends, updates and keeps the pool metadata of a drive. `entry` exports its
-// two calls to a short program in C, which asks what the command line wants, opens the image and hands it over. What is stored
-// comes from the proved libraries; that the command is safe and ends is proved, and which statuses it has. What it prints is
+// The command `amseokbin`: finds, checks, shows, formats, mends, updates, keeps and receives the pool metadata of a drive. `entry`
+// exports its two calls to a short program in C, which asks what the command line wants, opens the image and hands it over. What is
+// stored comes from the proved libraries; that the command is safe and ends is proved, and which statuses it has. What it prints is
 // tested. Assumes what `io`, `os` and `libc` do.
 mod after;
 mod arguments;
@@ -14,6 +14,7 @@ mod help;
 mod image;
 mod keep;
 mod picture;
+mod pieces;
 mod repair;
 mod run;
 mod say;
@@ -73,6 +74,7 @@ fn wanted(p: Request) -> Asked
     match w {
         Word::Help => done(help::run(arguments::at(p, arguments::IMAGE))),
         Word::Version => done(help::version()),
+        Word::Receive => done(pieces::run(p.both)),
         Word::Unknown => done(help::unknown(1)),
         _ => open(p),
     }
@@ -101,7 +103,7 @@ fn open(p: Request) -> Asked
     }
 }
 
-// Reads the command line. Help and what is wrong with it are printed.
+// Reads the command line. Help and what is wrong with it are printed, and what takes no image is done.
 pub fn read_request() -> Asked
     ensures { λ r. ⌜ (r .status ≤ 3) × (r .access ≤ 2) ⌝ }
 {

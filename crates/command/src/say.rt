@@ -121,8 +121,11 @@ pub(crate) fn print(ok: bool, t: Text) -> bool {
 pub(crate) fn reason(t: Text, e: u64) -> Text {
     match e {
         1 => t.add(b"Operation not permitted"),
+        4 => t.add(b"Interrupted system call"),
         5 => t.add(b"Input/output error"),
         9 => t.add(b"Bad file descriptor"),
+        11 => t.add(b"Resource temporarily unavailable"),
+        21 => t.add(b"Is a directory"),
         27 => t.add(b"File too large"),
         28 => t.add(b"No space left on device"),
         30 => t.add(b"Read-only file system"),

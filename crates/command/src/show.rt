@@ -185,7 +185,8 @@ fn allocated(look: Look, r: &[u8]) -> u64 {
 fn uuids(ok: bool, first: &[u8], second: &[u8], q: Reading) -> bool {
     let pool = q.pool;
     let uuid = q.blockdev;
-    facts::print_uuid(facts::print_uuid(ok, first, pool), second, uuid)
+    let a = facts::print_uuid(ok, Text::new().add(first), pool);
+    facts::print_uuid(a, Text::new().add(second), uuid)
 }
 
 // The first lines of the plain form: identity, place and time.

@@ -101,7 +101,7 @@ module _ (h k : Holding) (nh : h .nanoseconds ≤ mostNanoseconds) (nk : k .nano
   one-nanosecond e = omega arith
 
 -- entries that are used, of one time, are one
-used-same : (h k : Holding) → Used h ≡ Used k → h ≡ k
+pub used-same : (h k : Holding) → Used h ≡ Used k → h ≡ k
 used-same h k e = cc
 
 used-unused : (h : Holding) → Unused ≡ Used h → ⊥
@@ -194,7 +194,7 @@ module _ (c : List ℕ) (a : AcceptedCopy c) where
           let m : moment k ≤ moment h = l .none-later A k e in
           rw (l .used, e) (more-later k h (nanoseconds c a A k e) (nanoseconds c a B h (l .used)) (omega arith))
 
-  newest-later : (x : Area) (h : Holding) → newest (fieldsIn c) ≡ x → entryFor c x ≡ Used h → LaterEntry c x h
+  pub newest-later : (x : Area) (h : Holding) → newest (fieldsIn c) ≡ x → entryFor c x ≡ Used h → LaterEntry c x h
   unfolding newest
   newest-later x h n u = record { used = u; none-later = go x (newer (entryFor c B) (entryFor c A)) refl n u }
     where

@@ -203,7 +203,7 @@ fn whole_in(x: Area, a: bool, b: bool) -> bool
 }
 
 // The present record, where it is known which of the areas a and b are whole.
-fn present_by(f: BlockFields, a: bool, b: bool) -> Present
+pub fn present_by(f: BlockFields, a: bool, b: bool) -> Present
     ensures { λ r. ⌜ r ≡ presentBy f a b ⌝ }
 {
     let x = newest(f);

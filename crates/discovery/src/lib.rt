@@ -141,7 +141,7 @@ fn together(f: &[u8], b: &[u8], i: BlockFields, j: BlockFields, p: Present, q: P
 }
 
 // Whether S, L and R are the same.
-fn same_device(f: BlockFields, g: BlockFields) -> bool
+pub fn same_device(f: BlockFields, g: BlockFields) -> bool
     ensures { λ r. ⌜ r ≡ sameDevice f g ⌝ }
 {
     let d = f.device;
@@ -150,7 +150,7 @@ fn same_device(f: BlockFields, g: BlockFields) -> bool
 }
 
 // Whether both UUIDs are the same.
-fn same_uuids(r: Reading, q: Reading) -> bool
+pub fn same_uuids(r: Reading, q: Reading) -> bool
     ensures { λ a. ⌜ a ≡ sameUuids r q ⌝ }
 {
     let p = r.pool;

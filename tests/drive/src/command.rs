@@ -2,7 +2,7 @@
 
 use std::collections::BTreeMap;
 use std::env;
-use std::fs;
+use std::fs::{self, File};
 use std::path::{Path, PathBuf};
 use std::process::{exit, Command, Stdio};
 
@@ -73,11 +73,22 @@ impl Bench {
     /// Runs the command with these words and these settings of the shim, with IMAGE as the drive unless a setting says
     /// otherwise.
     pub fn run(&mut self, words: &[&str], settings: &[(&str, &str)]) -> Run {
+        self.run_on(Stdio::null(), words, settings)
+    }
+
+    /// The same of a file as standard input, which is then what fails.
+    pub fn run_from(&mut self, file: &str, words: &[&str], settings: &[(&str, &str)]) -> Run {
+        let input = File::open(self.folder.join(file)).expect("a file that was written");
+        let settings: Vec<(&str, &str)> = [("SHIM_IMAGE", file)].into_iter().chain(settings.iter().copied()).collect();
+        self.run_on(input.into(), words, &settings)
+    }
+
+    fn run_on(&mut self, input: Stdio, words: &[&str], settings: &[(&str, &str)]) -> Run {
         self.runs += 1;
         let log = self.folder.join("log");
         let _ = fs::remove_file(&log);
         let mut command = Command::new(&self.program);
-        command.args(words).current_dir(&self.folder).stdin(Stdio::null());
+        command.args(words).current_dir(&self.folder).stdin(input);
         command.env("LD_PRELOAD", &self.shim).env("SHIM_IMAGE", IMAGE);
         command.envs(settings.iter().copied());
         let output = command.output().unwrap_or_else(|error| {

@@ -14,7 +14,8 @@ use crate::cuts::identity_lines;
 use crate::image::{found_line, place, Copies, Image, DEVICE, POOL};
 use crate::model::block::Block;
 use crate::model::discovery::is_whole;
-use crate::model::layout::{AREA_OFFSET, BACK, BLOCK_OFFSET, FRONT, SECTOR};
+use crate::model::layout::{AREA_OFFSET, BACK, BLOCK_OFFSET, COPY, FRONT, SECTOR};
+use crate::random::COPIES;
 use crate::states::{half_updated, in_step, spoil_block, stamped, tear, SMALL};
 
 #[derive(Clone, Copy, PartialEq, Eq)]
@@ -64,6 +65,7 @@ struct Counts {
     stopped: u64,
     mended: u64,
     files: u64,
+    received: u64,
 }
 
 pub struct Faults<'a> {
@@ -110,11 +112,13 @@ impl<'a> Faults<'a> {
             self.counts.cases += 1;
             self.case(&case);
         }
+        self.receive();
         let c = &self.counts;
         println!("faults: {} cases, {} faults, {} runs of the command", c.cases, c.faults, self.bench.runs);
         println!("  said to be uncertain: {}, stopped before a store: {}", c.perhaps, c.stopped);
         println!("  mended afterwards: {}, faults of other files: {}", c.mended, c.files);
-        if [c.perhaps, c.stopped, c.mended, c.files].contains(&0) {
+        println!("  faults of standard input and output in receive: {}", c.received);
+        if [c.perhaps, c.stopped, c.mended, c.files, c.received].contains(&0) {
             self.failures.add("one of these was never reached", &[], &[], None);
         }
     }
@@ -395,6 +399,55 @@ impl<'a> Faults<'a> {
                     if restore.status == 0 && self.image.read() != case.before {
                         self.fail("a backup that failed can be restored", case, &settings, &restore);
                     }
+                }
+            }
+        }
+    }
+
+    /// `receive both` of copies that are a file: each read and each write to standard output fails, is short or is interrupted.
+    fn receive(&mut self) {
+        let words = ["receive", "both"];
+        let copies = in_step(SMALL, &stamped(&SMALL, 1, 10, 5), &stamped(&SMALL, 2, 20, 0));
+        fs::write(self.bench.folder.join(COPIES), copies.0.concat()).expect("the copies can be written");
+        let plain = self.bench.run_from(COPIES, &words, &[("SHIM_LOG", "log")]);
+        if plain.status != 0 || !plain.err.is_empty() {
+            return self.failures.add("receive without a fault", &words, &[], Some(&plain));
+        }
+        // What the reads before one have brought of the copies.
+        let brought = |number: u64| plain.log.iter().filter(|call| call.kind == "read").take(number as usize - 1);
+        for (kind, how, on) in [
+            ("read", "EIO", ""),
+            ("read", "EIO", ":on"),
+            ("read", "short", ""),
+            ("read", "short", ":on"),
+            ("read", "EINTR", ""),
+            ("out", "EIO", ""),
+            ("out", "ENOSPC", ":on"),
+            ("out", "short", ""),
+            ("out", "EINTR", ""),
+        ] {
+            for number in 1..=plain.count(kind) {
+                let setting = format!("{kind}:{number}:{how}{on}");
+                let settings = [("SHIM_LOG", "log"), ("SHIM_FAIL", setting.as_str())];
+                let run = self.bench.run_from(COPIES, &words, &settings);
+                self.counts.received += 1;
+                let bytes: usize = brought(number).map(|call| call.result.parse().unwrap_or(0)).sum();
+                let right = match kind {
+                    _ if how == "short" || how == "EINTR" => {
+                        run.status == 0 && run.out == plain.out && run.err.is_empty()
+                    }
+                    "read" => {
+                        let unread = ["front", "back"].into_iter().skip(bytes / COPY);
+                        let right = unread.clone().all(|name| run.text().contains(&format!("{name} block unread\n")));
+                        let said = run.err.starts_with("standard input: could not be read after ")
+                            && run.err.ends_with(": Input/output error\n");
+                        let whole = run.text().matches(" block accepted\n").count() + unread.count() == 2;
+                        run.status == 3 && said && right && whole
+                    }
+                    _ => run.status == 3 && run.err.starts_with("amseokbin: standard output could not be written: "),
+                };
+                if !right {
+                    self.failures.add("receive with a fault", &words, &settings, Some(&run));
                 }
             }
         }

@@ -1,5 +1,7 @@
-//! Drives in random states, damaged and with sectors that cannot be read: what find, check, show, mend and record say and
+//! Drives in random states, damaged and with sectors that cannot be read: what find, check, receive, show, mend and record say and
 //! leave is held to an independent reading of the bytes.
+
+use std::fs;
 
 use crate::command::{Bench, Failures, Run, IMAGE};
 use crate::cuts::{identity_lines, mend_lines};
@@ -15,6 +17,9 @@ use crate::states::{half_updated, identity, record, MARKED, PLAIN, SMALL};
 
 const SEED: u64 = 20_261_116;
 
+/// The file that both copies' bytes are received from.
+pub const COPIES: &str = "copies";
+
 #[derive(Default)]
 struct Counts {
     states: u64,
@@ -25,6 +30,7 @@ struct Counts {
     unread: u64,
     unread_mended: u64,
     no_record: u64,
+    received: u64,
 }
 
 pub struct Random<'a> {
@@ -49,7 +55,8 @@ impl<'a> Random<'a> {
         println!("  found {}, refused {}", c.found, c.refused);
         println!("  with a sector unread that matters {}, of which mended {}", c.unread, c.unread_mended);
         println!("  in step {}, mended {}, no segment record {}", c.in_step, c.mended, c.no_record);
-        if [c.found, c.refused, c.unread, c.unread_mended, c.in_step, c.mended, c.no_record].contains(&0) {
+        println!("  received, with nothing wrong {}", c.received);
+        if [c.found, c.refused, c.unread, c.unread_mended, c.in_step, c.mended, c.no_record, c.received].contains(&0) {
             self.failures.add("one of these was never reached", &[], &[], None);
         }
     }
@@ -73,6 +80,7 @@ impl<'a> Random<'a> {
         let settings = [("SHIM_UNREADABLE", list.as_str())];
         self.find(copies, unread, uncertain, &settings)?;
         self.check(copies, unread, uncertain, &settings)?;
+        self.receive(copies)?;
         if !uncertain && copies.found().is_ok() {
             self.show(copies, &settings)?;
         }
@@ -132,16 +140,20 @@ impl<'a> Random<'a> {
         if uncertain {
             return Ok(());
         }
-        let (lines, wanted) = (check.text(), check_lines(copies, unread));
-        let lines: Vec<&str> = lines.lines().collect();
-        let same = |line: &str, wanted: &str| match wanted.strip_suffix('*') {
-            Some(start) => line.starts_with(start) && line.len() > start.len(),
-            None => line == wanted,
-        };
-        if lines.len() == wanted.len() && lines.iter().zip(&wanted).all(|(line, wanted)| same(line, wanted)) {
-            return Ok(());
+        prints(&check, &check_lines(copies, unread), "check")
+    }
+
+    /// The copies' bytes from standard input, in many pieces. Where nothing is wrong they are in step: no two records of one length and
+    /// checksum come up.
+    fn receive(&mut self, copies: &Copies) -> Result<(), String> {
+        fs::write(self.bench.folder.join(COPIES), copies.0.concat()).expect("the copies can be written");
+        let receive = self.bench.run_from(COPIES, &["receive", "both"], &[("SHIM_FAIL", "read:1:short:on")]);
+        let stepped = copies.pair().in_step();
+        self.counts.received += u64::from(stepped);
+        if receive.status != i32::from(!stepped) || receive.err.is_empty() != stepped {
+            return Err(format!("receive answers {}, in step {stepped}:\n{}", receive.status, receive.err));
         }
-        Err(format!("check does not print\n{}\nbut\n{}", wanted.join("\n"), check.text()))
+        prints(&receive, &receive_lines(copies), "receive")
     }
 
     fn show(&mut self, copies: &Copies, settings: &[(&str, &str)]) -> Result<(), String> {
@@ -201,6 +213,43 @@ impl<'a> Random<'a> {
         }
         Err(format!("mend unreadable: not '{first}' and its stores:\n{}{}", mend.text(), mend.err))
     }
+}
+
+/// What receive prints; a line that ends with a star may go on.
+fn receive_lines(copies: &Copies) -> Vec<String> {
+    let mut lines = Vec::new();
+    for side in [FRONT, BACK] {
+        let name = ["front", "back"][side];
+        let Ok(block) = copies.block(side) else {
+            let number = copies.block(side).err().map_or(0, |refusal| refusal.number());
+            lines.push(format!("{name} block refused {number}: *"));
+            lines.extend(["a", "b", "present"].map(|part| format!("{name} {part} unknown")));
+            continue;
+        };
+        lines.push(format!("{name} block accepted"));
+        lines.extend(identity_lines(&block.identity).lines().map(|line| format!("{name} {line}")));
+        let whole = [0, 1].map(|area| is_whole(&copies.0[side], area, &block.entries[area]));
+        let later = block.later_entry().unwrap_or(0);
+        let present = [later, 1 - later].into_iter().find(|&area| whole[area]);
+        for (area, entry) in block.entries.iter().enumerate() {
+            let newer = present.is_some_and(|present| entry.time > block.entries[present].time);
+            let what = match (entry.is_used(), whole[area], newer) {
+                (false, ..) => "unused".to_string(),
+                (_, true, _) => format!("whole {}", holding(entry)),
+                (_, _, true) => format!("torn {}, later than what is found", holding(entry)),
+                _ => format!("torn {}", holding(entry)),
+            };
+            lines.push(format!("{name} {} {what}", ["a", "b"][area]));
+        }
+        let what = |area: usize| format!("{} {}", ["a", "b"][area], holding(&block.entries[area]));
+        lines.push(format!("{name} present {}", present.map_or("none".to_string(), what)));
+    }
+    lines
+}
+
+/// What is said of a used entry.
+fn holding(entry: &Entry) -> String {
+    format!("{} bytes {}", entry.bytes, date(entry.time))
 }
 
 /// What check prints where these sectors could not be read, none of which matters; a line that ends with a star may go on.
@@ -346,6 +395,20 @@ fn is(run: &Run, status: i32, text: &str, word: &str) -> Result<(), String> {
         return Ok(());
     }
     Err(format!("{word}: not status {status} with\n{text}but status {} with\n{}{}", run.status, run.text(), run.err))
+}
+
+/// A wanted line that ends with a star may go on.
+fn prints(run: &Run, wanted: &[String], word: &str) -> Result<(), String> {
+    let text = run.text();
+    let lines: Vec<&str> = text.lines().collect();
+    let same = |line: &str, wanted: &str| match wanted.strip_suffix('*') {
+        Some(start) => line.starts_with(start) && line.len() > start.len(),
+        None => line == wanted,
+    };
+    if lines.len() == wanted.len() && lines.iter().zip(wanted).all(|(line, wanted)| same(line, wanted)) {
+        return Ok(());
+    }
+    Err(format!("{word} does not print\n{}\nbut\n{text}", wanted.join("\n")))
 }
 
 fn says(run: &Run, words: &str) -> Result<(), String> {

@@ -15,6 +15,9 @@ extern "C" {
     fn amseokbin_block_read(bytes: *const u8, bytes_length: usize) -> BlockAnswer;
     fn amseokbin_block_write(block: BlockFields, bytes: *mut u8, bytes_length: usize) -> Refused;
     fn amseokbin_copy_read(copy: *const u8, copy_length: usize) -> CopyAnswer;
+    fn amseokbin_receive_begin() -> Received;
+    fn amseokbin_receive_piece(received: Received, piece: *const u8, piece_length: usize) -> ReceiveAnswer;
+    fn amseokbin_receive_end(received: Received) -> CopyAnswer;
     fn amseokbin_discover(front: *const u8, front_length: usize, back: *const u8, back_length: usize) -> FoundAnswer;
     fn amseokbin_read_found(
         front: *const u8,
@@ -259,6 +262,18 @@ impl Interface for Library {
 
     fn copy_read(&self, copy: &[u8]) -> CopyAnswer {
         unsafe { amseokbin_copy_read(start(copy), copy.len()) }
+    }
+
+    fn receive_begin(&self) -> Received {
+        unsafe { amseokbin_receive_begin() }
+    }
+
+    fn receive_piece(&self, received: Received, piece: &[u8]) -> ReceiveAnswer {
+        unsafe { amseokbin_receive_piece(received, start(piece), piece.len()) }
+    }
+
+    fn receive_end(&self, received: Received) -> CopyAnswer {
+        unsafe { amseokbin_receive_end(received) }
     }
 
     fn discover(&self, front: &[u8], back: &[u8]) -> FoundAnswer {

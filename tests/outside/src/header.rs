@@ -46,6 +46,8 @@ structs![
     ("places_answer", PlacesAnswer, 120),
     ("block_answer", BlockAnswer, 152),
     ("copy_answer", CopyAnswer, 160),
+    ("received", Received, 528),
+    ("receive_answer", ReceiveAnswer, 552),
     ("found_answer", FoundAnswer, 176),
     ("step_answer", StepAnswer, 32),
     ("store_answer", StoreAnswer, 40),
@@ -61,6 +63,12 @@ structs![
     ("run_answer", RunAnswer, 40),
     ("allocation_answer", AllocationAnswer, 40),
 ];
+
+/// Between two pieces of a copy at most 1,024 bytes are kept.
+#[test]
+fn no_more_is_kept_between_pieces() {
+    assert!(size_of::<Received>() <= 1_024);
+}
 
 /// The header without comments and without what is for C++ alone.
 fn code() -> String {
@@ -179,7 +187,7 @@ fn structs_of(source: &str) -> Vec<String> {
 fn declarations_are_those_of_the_header() {
     let statements = statements();
     let header: Vec<String> = statements.iter().filter_map(|statement| function(statement)).collect();
-    assert_eq!(header.len(), 46, "the header could not be read");
+    assert_eq!(header.len(), 49, "the header could not be read");
     assert_eq!(header, functions_of(include_str!("ffi.rs")));
 }
 
@@ -276,7 +284,7 @@ fn numbers() -> Vec<(String, u64)> {
 fn numbers_are_those_of_the_header() {
     let sizes = [
         ("VERSION_MAJOR", 0),
-        ("VERSION_MINOR", 3),
+        ("VERSION_MINOR", 4),
         ("SECTOR", SECTOR),
         ("COPY", COPY),
         ("BLOCK_OFFSET", BLOCK_OFFSET),
@@ -350,7 +358,7 @@ fn numbers_are_those_of_the_header() {
     header.sort();
     ours.sort();
     assert_eq!(header, ours);
-    assert_eq!(Model.version(), 3);
+    assert_eq!(Model.version(), 4);
     // The header has one number for both kinds of heads.
     assert_eq!([Head::plain(128), Head::marked(128, 0)].map(|head| head.most_segments()), [MAX_SEGMENTS; 2]);
     assert!([128, 2_097_152].into_iter().all(is_block_size) && !is_block_size(127) && !is_block_size(2_097_280));

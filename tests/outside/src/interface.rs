@@ -21,6 +21,10 @@ pub trait Interface {
     fn block_write(&self, block: BlockFields, bytes: &mut [u8]) -> Refused;
     fn copy_read(&self, copy: &[u8]) -> CopyAnswer;
 
+    fn receive_begin(&self) -> Received;
+    fn receive_piece(&self, received: Received, piece: &[u8]) -> ReceiveAnswer;
+    fn receive_end(&self, received: Received) -> CopyAnswer;
+
     fn discover(&self, front: &[u8], back: &[u8]) -> FoundAnswer;
     fn read_found(&self, front: &[u8], back: &[u8], buffer: &mut [u8]) -> FoundAnswer;
     fn in_step(&self, front: &[u8], back: &[u8]) -> StepAnswer;

@@ -5,7 +5,9 @@ use std::slice::{from_raw_parts, from_raw_parts_mut};
 use crate::interface::*;
 use crate::model::Model;
 use crate::moves::Move;
-use crate::wrong::{told, told_allocation, told_begin, told_block, told_head, told_move, told_put};
+use crate::wrong::{
+    told, told_allocation, told_begin, told_block, told_end, told_head, told_move, told_piece, told_put, told_received,
+};
 
 unsafe fn shared<'a, T>(items: *const T, length: usize) -> &'a [T] {
     if length == 0 {
@@ -71,6 +73,25 @@ unsafe extern "C" fn amseokbin_block_write(block: BlockFields, bytes: *mut u8, b
 #[no_mangle]
 unsafe extern "C" fn amseokbin_copy_read(copy: *const u8, copy_length: usize) -> CopyAnswer {
     Model.copy_read(shared(copy, copy_length))
+}
+
+#[no_mangle]
+unsafe extern "C" fn amseokbin_receive_begin() -> Received {
+    told_received()
+}
+
+#[no_mangle]
+unsafe extern "C" fn amseokbin_receive_piece(
+    received: Received,
+    piece: *const u8,
+    piece_length: usize,
+) -> ReceiveAnswer {
+    told_piece(received, shared(piece, piece_length))
+}
+
+#[no_mangle]
+unsafe extern "C" fn amseokbin_receive_end(received: Received) -> CopyAnswer {
+    told_end(received)
 }
 
 #[no_mangle]

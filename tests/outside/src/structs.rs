@@ -5,6 +5,8 @@
 /// S, L and R; and a time. Their fields are those of the independent implementation too.
 pub use crate::model::{block::Time, layout::Device};
 
+use crate::model::layout::SECTOR;
+
 /// Bytes of a UUID, in ASCII hex.
 pub const UUID: usize = 32;
 /// Room for the words of every refusal number.
@@ -111,6 +113,23 @@ pub struct CopyAnswer {
     pub a_whole: bool,
     pub b_whole: bool,
     pub present: u8,
+}
+
+/// The state of a copy that arrives in pieces.
+#[repr(C)]
+#[derive(Clone, Copy, PartialEq, Eq)]
+pub struct Received {
+    pub taken: usize,
+    pub block: [u8; SECTOR],
+    pub a: u32,
+    pub b: u32,
+}
+
+#[repr(C)]
+#[derive(Clone, Copy, Debug, PartialEq, Eq)]
+pub struct ReceiveAnswer {
+    pub refusal: Refused,
+    pub received: Received,
 }
 
 #[repr(C)]
@@ -233,8 +252,9 @@ pub trait Answer: Copy + std::fmt::Debug + PartialEq {
     /// Its refusal, where it has one.
     fn refused(&self) -> Option<Refused>;
 
-    /// The answer with this refusal and zero in every other field, where the answer has a refusal.
-    fn alone(refusal: Refused) -> Option<Self>;
+    /// Its refusal with zero in every other field, where the answer has a refusal. The state of a copy in pieces stays beside it: it is no other
+    /// field, and comes back from a piece that is refused.
+    fn alone(&self) -> Option<Self>;
 }
 
 /// An answer that begins with a refusal.
@@ -265,8 +285,8 @@ impl Answer for Refused {
         Some(*self)
     }
 
-    fn alone(refusal: Refused) -> Option<Self> {
-        Some(refusal)
+    fn alone(&self) -> Option<Self> {
+        Some(*self)
     }
 }
 
@@ -287,8 +307,8 @@ macro_rules! begin_with_a_refusal {
                 Some(self.refusal)
             }
 
-            fn alone(refusal: Refused) -> Option<Self> {
-                Some(Self::refusing(refusal))
+            fn alone(&self) -> Option<Self> {
+                Some(Self::refusing(self.refusal))
             }
         }
 
@@ -330,7 +350,7 @@ macro_rules! numbers {
                 None
             }
 
-            fn alone(_: Refused) -> Option<Self> {
+            fn alone(&self) -> Option<Self> {
                 None
             }
         }
@@ -349,8 +369,47 @@ impl Answer for Words {
         None
     }
 
-    fn alone(_: Refused) -> Option<Self> {
+    fn alone(&self) -> Option<Self> {
         None
+    }
+}
+
+/// A state is counted by how many bytes were taken.
+impl Answer for Received {
+    fn number(&self) -> u64 {
+        self.taken as u64
+    }
+
+    fn refused(&self) -> Option<Refused> {
+        None
+    }
+
+    fn alone(&self) -> Option<Self> {
+        None
+    }
+}
+
+impl Answer for ReceiveAnswer {
+    fn number(&self) -> u64 {
+        self.refusal.number.into()
+    }
+
+    fn refused(&self) -> Option<Refused> {
+        Some(self.refusal)
+    }
+
+    fn alone(&self) -> Option<Self> {
+        Some(*self)
+    }
+}
+
+/// The block in hex, without the zeros at its end.
+impl std::fmt::Debug for Received {
+    fn fmt(&self, f: &mut std::fmt::Formatter) -> std::fmt::Result {
+        let Received { taken, block, a, b } = self;
+        let length = block.iter().rposition(|&byte| byte != 0).map_or(0, |last| last + 1);
+        let block: String = block[..length].iter().map(|byte| format!("{byte:02x}")).collect();
+        write!(f, "Received {{ taken: {taken}, block: {block}, a: {a:08x}, b: {b:08x} }}")
     }
 }
 

@@ -1,8 +1,9 @@
 //! Wrong answers in the library's place, behind the C interface: the independent implementation with something else beside a number
-//! than what has to stand there, with another test of a block's zero fields, or with heads that are read, moved or begun otherwise. The
-//! comparison has to notice each of them; the program `wrong` sees to it.
+//! than what has to stand there, with another test of a block's zero fields, with heads that are read, moved or begun otherwise, or with
+//! pieces of a copy that are taken otherwise. The comparison has to notice each of them; the program `wrong` sees to it.
 
 mod heads;
+mod pieces;
 
 use std::env;
 use std::sync::OnceLock;
@@ -12,6 +13,7 @@ use crate::model::block::{seal, u32_at, u64_at, BlockBytes, ZERO_FIELDS};
 use crate::model::record::{Span, SEGMENT_BYTES};
 use crate::sample::records::head_length;
 pub use heads::{told_allocation, told_begin, told_head, told_move, told_put};
+pub use pieces::{told_end, told_piece, told_received};
 
 /// The variable of the environment that names the wrong answer; without it, or empty, the answers are right.
 pub const VARIABLE: &str = "AMSEOKBIN_WRONG";
@@ -135,14 +137,16 @@ pub struct Named {
     pub families: &'static [&'static str],
 }
 
-/// The families that have to notice a wrong answer about a clash, a wrong test of zero fields, and what is wrong about heads.
+/// The families that have to notice a wrong answer about a clash, a wrong test of zero fields, and what is wrong about heads and about
+/// pieces.
 const CLASH_FAMILIES: &[&str] = &["examples", "clashes"];
 const ZERO_FAMILIES: &[&str] = &["zeros"];
 const HEAD_FAMILIES: &[&str] = &["heads"];
+const PIECE_FAMILIES: &[&str] = &["pieces"];
 
 /// All families that have to notice a wrong answer.
 pub fn families() -> impl Iterator<Item = &'static str> {
-    CLASH_FAMILIES.iter().chain(ZERO_FAMILIES).chain(HEAD_FAMILIES).copied()
+    CLASH_FAMILIES.iter().chain(ZERO_FAMILIES).chain(HEAD_FAMILIES).chain(PIECE_FAMILIES).copied()
 }
 
 /// All wrong answers.
@@ -151,17 +155,20 @@ pub fn names() -> Vec<Named> {
     let clashes = by_all.chain(CALLS.iter().map(|call| by(call)));
     let zeros = ZERO_TESTS.iter().map(|(name, _)| name.to_string());
     let heads = heads::WRONG.iter().map(|(name, _)| name.to_string());
+    let pieces = pieces::WRONG.iter().map(|(name, _)| name.to_string());
     let clashes = clashes.map(|name| Named { name, families: CLASH_FAMILIES });
     let zeros = zeros.map(|name| Named { name, families: ZERO_FAMILIES });
-    clashes.chain(zeros).chain(heads.map(|name| Named { name, families: HEAD_FAMILIES })).collect()
+    let heads = heads.map(|name| Named { name, families: HEAD_FAMILIES });
+    clashes.chain(zeros).chain(heads).chain(pieces.map(|name| Named { name, families: PIECE_FAMILIES })).collect()
 }
 
-/// A wrong answer: another refusal of a record by one call, or by every call where none is named; another test of zero fields; or
-/// something about heads.
+/// A wrong answer: another refusal of a record by one call, or by every call where none is named; another test of zero fields; something
+/// about heads; or about pieces.
 enum Wrong {
     Record { change: Change, call: Option<&'static str> },
     Zeros(ZeroTest),
     Heads(&'static heads::Wrong),
+    Pieces(&'static pieces::Wrong),
 }
 
 fn chosen() -> Option<&'static Wrong> {
@@ -174,7 +181,8 @@ fn chosen() -> Option<&'static Wrong> {
         let by_one = by_one.map(|call| Wrong::Record { change: zeros, call: Some(call) });
         let zeros = ZERO_TESTS.iter().find(|(known, _)| *known == name).map(|(_, test)| Wrong::Zeros(*test));
         let heads = heads::WRONG.iter().find(|(known, _)| *known == name).map(|(_, wrong)| Wrong::Heads(wrong));
-        let any = by_all.or(by_one).or(zeros).or(heads);
+        let pieces = pieces::WRONG.iter().find(|(known, _)| *known == name).map(|(_, wrong)| Wrong::Pieces(wrong));
+        let any = by_all.or(by_one).or(zeros).or(heads).or(pieces);
         Some(any.unwrap_or_else(|| panic!("{VARIABLE}: no wrong answer is {name}")))
     };
     CHOSEN.get_or_init(choose).as_ref()

@@ -8,11 +8,13 @@ use std::hint::black_box;
 use std::time::Instant;
 
 use outside::ffi::Library;
-use outside::interface::{Answer, FreeRun, Interface, Refused};
+use outside::interface::{Answer, CopyAnswer, FreeRun, Interface, Refused};
 use outside::model::block::{Identity, Time};
-use outside::model::layout::{Device, COPY, RECORD_LIMIT, SECTOR};
+use outside::model::layout::{Device, BLOCK_OFFSET, COPY, RECORD_LIMIT, SECTOR};
+use outside::model::receive::{State, Taken};
 use outside::model::record::{Head, Segment, MAX_SEGMENTS};
-use outside::model::{sweep, Model};
+use outside::model::refusal::Refusal;
+use outside::model::{stream, sweep, Model};
 use outside::moves::Move;
 use outside::rng::Rng;
 use outside::sample::copies::{copy, get_block, Area};
@@ -27,11 +29,13 @@ fn main() {
     println!("Output buffers are zeroed once, before the first call, and not cleared between calls.");
     println!("Median of {ROUNDS} rounds, library and model in turn; the model is plain Rust.");
     println!("Of a record refused with 19 the model's search sorts and sweeps; both name the pair.");
+    println!("Of a copy in pieces the model takes whole parts; both hand the state on by value.");
     println!();
     println!("{:48} {:>12} {:>12} {:>8}", "call", "library", "model", "ratio");
     let mut rng = Rng::new(1);
     checksums(&mut rng);
     block(&mut rng);
+    pieces(&mut rng);
     discovery(&mut rng);
     record_check(&mut rng);
     record_segments(&mut rng);
@@ -223,6 +227,66 @@ fn block(rng: &mut Rng) {
     row("reading a block", |api| {
         answered(api.block_read(black_box(&block)));
     });
+}
+
+/// A copy at once and in pieces: with 8,192 bytes in both areas, with 28, and with a block whose checksum is wrong.
+fn pieces(rng: &mut Rng) {
+    let [full, _] = full_copies(rng);
+    let areas = [10, 11].map(|seconds| Area::Whole(time(seconds), rng.bytes(28)));
+    let small = copy(rng, &identity(), &areas);
+    let mut refused = full.clone();
+    refused[BLOCK_OFFSET] ^= 1;
+    row("a copy at once, full areas", |api| {
+        answered(api.copy_read(black_box(&full)));
+    });
+    piece_rows("full areas", &full, 4_096, 0);
+    piece_rows("full areas", &full, 512, 0);
+    piece_rows("full areas", &full, 1, 0);
+    piece_rows("records of 28", &small, 4_096, 0);
+    piece_rows("refused block", &refused, 4_096, 3);
+}
+
+/// A row beside the model, and one beside the library's own call for the copy at once.
+fn piece_rows(what: &str, copy: &[u8], length: usize, number: u64) {
+    let ended = |answer: CopyAnswer| assert_eq!(black_box(answer).number(), number);
+    let times = in_turn(3, |index| {
+        let copy = black_box(copy);
+        match index {
+            0 => ended(in_pieces(copy, length)),
+            1 => match parts_in_pieces(copy, length) {
+                Ok(taken) => assert_eq!((number, black_box(taken).present), (0, Some(1))),
+                Err(refusal) => assert_eq!(u64::from(black_box(refusal).number()), number),
+            },
+            _ => ended(Library.copy_read(copy)),
+        }
+    });
+    let name = format!("pieces of {length}, {what}");
+    print_row(&name, times[0], times[1]);
+    print_row(&format!("{name}, at once as model"), times[0], times[2]);
+    if length == 1 {
+        let each = |time: f64| time / COPY as f64;
+        print_row(&format!("{name}, each byte"), each(times[0]), each(times[1]));
+    }
+}
+
+fn in_pieces(copy: &[u8], length: usize) -> CopyAnswer {
+    let mut received = Library.receive_begin();
+    for piece in copy.chunks(length) {
+        let answer = Library.receive_piece(received, piece);
+        assert_eq!(answer.number(), 0);
+        received = answer.received;
+    }
+    Library.receive_end(received)
+}
+
+/// The same by the model. Its calls are not put in line, as the library's are not.
+fn parts_in_pieces(copy: &[u8], length: usize) -> Result<Taken, Refusal> {
+    let with: fn(State, &[u8]) -> Result<State, Refusal> = black_box(stream::with);
+    let mut state = State::FRESH;
+    for piece in copy.chunks(length) {
+        state = with(state, piece)?;
+    }
+    state.end()
 }
 
 fn discovery(rng: &mut Rng) {

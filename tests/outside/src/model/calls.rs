@@ -4,6 +4,7 @@ use super::block::{Block, Entry, Identity};
 use super::discovery::{self, Found, Pair, Reading};
 use super::layout::{BACK, COPY, FRONT, SECTOR};
 use super::mend::Mend;
+use super::receive::{State, Taken};
 use super::record::{check, check_length, Head, Record, Segment, SEGMENT_BYTES};
 use super::refusal::{self, require, Refusal};
 use super::update::Update;
@@ -99,6 +100,18 @@ impl From<MendPlan> for Mend {
     }
 }
 
+impl From<State> for Received {
+    fn from(State { taken, block, sums: [a, b] }: State) -> Self {
+        Received { taken, block, a, b }
+    }
+}
+
+impl From<Received> for State {
+    fn from(Received { taken, block, a, b }: Received) -> Self {
+        State { taken, block, sums: [a, b] }
+    }
+}
+
 impl From<SegmentFields> for Segment {
     fn from(SegmentFields { kind, start, sectors }: SegmentFields) -> Self {
         Segment { kind, start, length: sectors }
@@ -155,6 +168,20 @@ fn copy_read(copy: &[u8]) -> Done<CopyAnswer> {
     has_size(copy, COPY)?;
     let Reading { block, present } = discovery::read_copy(copy)?;
     let [a_whole, b_whole] = [0, 1].map(|area| discovery::is_whole(copy, area, &block.entries[area]));
+    let present = present.map_or(0, |area| area as u8 + 1);
+    Ok(CopyAnswer { block: block.into(), a_whole, b_whole, present, ..Default::default() })
+}
+
+/// The state after a piece, or 1 with the one before it.
+fn receive_piece(before: State, piece: &[u8]) -> ReceiveAnswer {
+    match before.with(piece) {
+        Ok(next) => ReceiveAnswer { refusal: Refused::default(), received: next.into() },
+        Err(refusal) => ReceiveAnswer { refusal: refusal.into(), received: before.into() },
+    }
+}
+
+fn receive_end(state: State) -> Done<CopyAnswer> {
+    let Taken { block, whole: [a_whole, b_whole], present } = state.end()?;
     let present = present.map_or(0, |area| area as u8 + 1);
     Ok(CopyAnswer { block: block.into(), a_whole, b_whole, present, ..Default::default() })
 }
@@ -326,7 +353,7 @@ impl Interface for Model {
 
     fn version(&self) -> u32 {
         // Major and minor.
-        3
+        4
     }
 
     fn refusal_words(&self, number: u8) -> Words {
@@ -366,6 +393,18 @@ impl Interface for Model {
 
     fn copy_read(&self, copy: &[u8]) -> CopyAnswer {
         answer(copy_read(copy))
+    }
+
+    fn receive_begin(&self) -> Received {
+        State::FRESH.into()
+    }
+
+    fn receive_piece(&self, received: Received, piece: &[u8]) -> ReceiveAnswer {
+        receive_piece(received.into(), piece)
+    }
+
+    fn receive_end(&self, received: Received) -> CopyAnswer {
+        answer(receive_end(received.into()))
     }
 
     fn discover(&self, front: &[u8], back: &[u8]) -> FoundAnswer {

@@ -8,10 +8,12 @@ pub mod format;
 pub mod heads;
 pub mod layout;
 pub mod mend;
+pub mod receive;
 pub mod record;
 pub mod refusal;
 pub mod room;
 pub mod settled;
+pub mod stream;
 pub mod sweep;
 pub mod update;
 

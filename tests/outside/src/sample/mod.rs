@@ -5,5 +5,6 @@ pub mod clashes;
 pub mod copies;
 pub mod heads;
 pub mod numbers;
+pub mod pieces;
 pub mod records;
 pub mod zeros;

@@ -5,9 +5,10 @@ use std::cell::RefCell;
 
 use outside::ffi::Library;
 use outside::guard::Guarded;
-use outside::interface::{Answer, Device, FreeRun, Interface, SegmentFields, Time, UUID};
+use outside::interface::{Answer, Device, FreeRun, Interface, Received, SegmentFields, Time, UUID};
 use outside::model::block::{Block, Identity};
 use outside::model::layout::{COPY, RECORD_LIMIT, SECTOR};
+use outside::model::receive::State;
 use outside::model::settled::matters;
 use outside::model::Model;
 use outside::moves::Move;
@@ -16,6 +17,7 @@ use outside::sample::blocks::block;
 use outside::sample::clashes::SHAPES;
 use outside::sample::copies::{any_pair, in_step, payload};
 use outside::sample::numbers::{identity, later, time};
+use outside::sample::pieces::{any_state, piece_length};
 use outside::sample::records::{any_record, encode, head, head_length, low_water, record, segment_count, segments_in};
 
 use crate::expected::CLASH;
@@ -185,6 +187,7 @@ fn blocks(edge: &mut Edge, rng: &mut Rng) {
 fn copies(edge: &mut Edge, rng: &mut Rng) {
     let (_, [front, back]) = any_pair(rng);
     edge.bytes("copy_read", [&front], |api, [copy]| api.copy_read(copy));
+    pieces(edge, rng, &front);
     edge.bytes("discover", [&front, &back], |api, [front, back]| api.discover(front, back));
     edge.bytes("in_step", [&front, &back], |api, [front, back]| api.in_step(front, back));
     marks(edge, rng, [&front, &back]);
@@ -201,6 +204,21 @@ fn copies(edge: &mut Edge, rng: &mut Rng) {
             api.mend_store(plan, front, back, number, bytes)
         });
     }
+}
+
+/// A piece of a copy up to its end, and one within it; then one after a state that no call made.
+fn pieces(edge: &mut Edge, rng: &mut Rng, copy: &[u8]) {
+    let cut = rng.index(COPY + 1);
+    let state = Received::from(State::of_joined(&copy[..cut]));
+    let within = &copy[cut..][..rng.index(COPY - cut + 1)];
+    for piece in [&copy[cut..], within] {
+        edge.bytes("receive_piece", [piece], |api, [piece]| api.receive_piece(state, piece));
+    }
+    let state = any_state(rng);
+    let length = piece_length(rng, state.taken).min(2 * COPY - 1);
+    let piece = rng.bytes(length);
+    edge.bytes("receive_piece", [&piece], |api, [piece]| api.receive_piece(state.into(), piece));
+    edge.run.reached("pieces in slices at the edge of forbidden memory");
 }
 
 /// Marks at an edge, as many as are right; then each of the four slices empty, which is lent as a null pointer, in all ways.

@@ -1,7 +1,9 @@
 //! Published check values and the worked examples of the layout's rules, with what they must give.
 
 use outside::ffi::Library;
-use outside::interface::{Answer, Device, FreeRun, Interface, Refused, SegmentFields, Time, WORDS};
+use outside::interface::{
+    Answer, BlockFields, Device, EntryFields, FreeRun, Interface, Received, Refused, SegmentFields, Time, WORDS,
+};
 use outside::model::layout::{COPY, SECTOR};
 use outside::model::record::{Head, Segment, MAX_SEGMENTS};
 use outside::model::Model;
@@ -43,6 +45,7 @@ pub fn case(run: &mut Run, _: &mut Rng, _: u64) {
         stores(api, &mut expect);
         worked(api, &mut expect);
         unread(api, &mut expect);
+        received(api, &mut expect);
     }
 }
 
@@ -242,7 +245,7 @@ fn segments(api: &dyn Interface, expect: &mut Expect) {
 
 /// The version, and what some numbers say.
 fn words(api: &dyn Interface, expect: &mut Expect) {
-    expect("version", api.version() == 3);
+    expect("version", api.version() == 4);
     let says = |number, line: &str| {
         let words = api.refusal_words(number);
         words.text() == line.as_bytes() && words.bytes[words.used..].iter().all(|&byte| byte == 0)
@@ -525,4 +528,69 @@ fn unread(api: &dyn Interface, expect: &mut Expect) {
     expect("stores where R and a UUID are not allowed", numbers(&front) == [8, 8, 0, 0, 23]);
     front[sizes].copy_from_slice(&[DEVICE.metadata.to_le_bytes(), [0; 4]].concat());
     expect("stores where a UUID is not allowed", numbers(&front) == [0, 6, 0, 0, 23]);
+}
+
+/// A copy in pieces whose two records are texts with published checksums, and a state that no call made.
+fn received(api: &dyn Interface, expect: &mut Expect) {
+    let texts: [&[u8]; 2] = [b"123456789", b"The quick brown fox jumps over the lazy dog"];
+    let entry = |area: usize, checksum| EntryFields {
+        seconds: 10 + area as u64,
+        nanoseconds: 0,
+        bytes: texts[area].len() as u32,
+        checksum,
+    };
+    let (a, b) = (entry(0, 0xE306_9283), entry(1, 0x2262_0404));
+    let block = BlockFields { device: DEVICE, a, b, pool: *UUID, blockdev: *UUID };
+    let mut copy = vec![7; COPY];
+    let written = api.block_write(block, &mut copy[512..1_024]).number;
+    copy[4_096..4_105].copy_from_slice(texts[0]);
+    copy[12_288..12_331].copy_from_slice(texts[1]);
+    let fresh = Received { taken: 0, block: [0; SECTOR], a: 0, b: 0 };
+    expect("begun", written == 0 && api.receive_begin() == fresh);
+
+    // The state after so many bytes, in one piece.
+    let after = |count: usize| api.receive_piece(fresh, &copy[..count]);
+    let full: [u8; SECTOR] = copy[512..1_024].try_into().expect("a block");
+    let mut half = [0; SECTOR];
+    half[..100].copy_from_slice(&full[..100]);
+    let kept = |taken, block, a, b| Received { taken, block, a, b };
+    expect("before the block", after(512).received == kept(512, [0; SECTOR], 0, 0));
+    expect("in the block", after(612).received == kept(612, half, 0, 0));
+    expect("before area a", after(4_096).received == kept(4_096, full, 0, 0));
+    expect("after area a", after(4_105).received == kept(4_105, full, 0xE306_9283, 0));
+    expect("before area b", after(12_288).received == kept(12_288, full, 0xE306_9283, 0));
+    expect("after area b", after(12_331).received == kept(12_331, full, 0xE306_9283, 0x2262_0404));
+    let last = after(COPY);
+    expect("at the end", last.number() == 0 && last.received == kept(COPY, full, 0xE306_9283, 0x2262_0404));
+    let ended = api.receive_end(last.received);
+    expect("ended", ended == api.copy_read(&copy) && ended.block == block && ended.number() == 0);
+    expect("what is whole", ended.a_whole && ended.b_whole && ended.present == 2);
+
+    // Each area in two pieces, and no more bytes than a copy has.
+    let mut state = fresh;
+    for piece in [&copy[..4_100], &copy[4_100..12_300], &copy[12_300..20_479]] {
+        state = api.receive_piece(state, piece).received;
+    }
+    expect("in pieces", state == kept(20_479, full, 0xE306_9283, 0x2262_0404));
+    expect("one byte too few", api.receive_end(state).number() == 1 && !api.receive_end(state).a_whole);
+    let long = api.receive_piece(state, &[7, 7]);
+    expect("one byte too many", long.number() == 1 && long.received == state);
+    expect("the last byte", api.receive_piece(long.received, &[7]).received == last.received);
+    let more = api.receive_piece(last.received, &[7]);
+    expect("one byte after the last", more.number() == 1 && more.received == last.received);
+    let nothing = api.receive_piece(last.received, &[]);
+    expect("nothing after the last", nothing.number() == 0 && nothing.received == last.received);
+
+    // The published 32 zero bytes in area a, after a block that is none; its entries have 32 and 8,193 bytes.
+    let mut made = kept(4_000, [0; SECTOR], 0, 5);
+    (made.block[108], made.block[140], made.block[141]) = (32, 1, 32);
+    let next = api.receive_piece(made, &[0; 16_480]);
+    expect("a state that no call made", next.received == Received { taken: COPY, a: 0x8A91_36AA, ..made });
+    expect("its end", api.receive_end(next.received).number() == 2);
+    for taken in [COPY + 1, 1 << 32, usize::MAX - 1, usize::MAX] {
+        let past = Received { taken, ..made };
+        let answers = [0, 1, 2, 3].map(|length| api.receive_piece(past, &copy[..length]));
+        expect("taken past the end", answers.iter().all(|answer| answer.number() == 1 && answer.received == past));
+        expect("ended past the end", api.receive_end(Received { taken, ..last.received }).number() == 1);
+    }
 }

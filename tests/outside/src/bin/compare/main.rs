@@ -16,6 +16,7 @@ mod expected;
 mod formats;
 mod heads;
 mod marks;
+mod pieces;
 mod plans;
 mod readings;
 mod records;
@@ -57,6 +58,7 @@ const FAMILIES: &[Family] = &[
     ("clash-edges", 340, edges::clashes),
     ("zeros", 9_000, zeros::case),
     ("heads", 5_400, heads::case),
+    ("pieces", 1_500, pieces::case),
 ];
 
 fn main() {

@@ -82,8 +82,8 @@ impl Run {
         if let Some(refused) = refusal.filter(|refused| !is_beside(refused)) {
             self.fail(call, inputs, &format!("a pair where there is none, or none where there is one: {refused:?}"));
         }
-        if let Some(refused) = refusal.filter(|refused| refused.number != 0) {
-            if A::alone(refused) != Some(outcome.answer) {
+        if refusal.is_some_and(|refused| refused.number != 0) {
+            if outcome.answer.alone() != Some(outcome.answer) {
                 let what = format!("refused, but another field is not zero: {:?}", outcome.answer);
                 self.fail(call, inputs, &what);
             }
