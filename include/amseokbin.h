@@ -1,5 +1,5 @@
 /*
- * Amseokbin: finds, checks, updates, formats, mends and salvages the pool metadata of a drive in the Stratis 0.6 layout.
+ * Amseokbin: finds, checks, updates, formats and mends the pool metadata of a drive in the Stratis 0.6 layout.
  *
  * Link with libamseokbin.a, which is for x86-64. It needs no operating system: it calls nothing but the compiler's memory functions, keeps
  * nothing from one call to the next, and allocates nothing. Every call is proved to end, for any bytes and numbers, to stay within the memory it
@@ -19,10 +19,9 @@
  * Everything else is tested, and has a number.
  *
  * Answers. A call that can refuse answers a struct whose first field is the refusal, or the refusal alone: number 0 where the call did
- * what it says, else 1 to 25 (enum amseokbin_number). Then every other field is zero, and nothing that was lent is changed. Three answers have
- * more: every call that gives 19 returns two segments that clash beside it (struct amseokbin_refusal), a scan that finds nothing has beside 25 how
- * many sectors it looked at (the same struct), and a refused piece of a copy has the state that was handed in beside it (struct
- * amseokbin_receive_answer). Where nothing else is said the lowest number that applies is given: 1
+ * what it says, else 1 to 24 (enum amseokbin_number). Then every other field is zero, and nothing that was lent is changed. Two answers have
+ * more: every call that gives 19 returns two segments that clash beside it (struct amseokbin_refusal), and a refused piece of a copy has the
+ * state that was handed in beside it (struct amseokbin_receive_answer). Where nothing else is said the lowest number that applies is given: 1
  * for a slice of another size is tested first, 1 for too little room for an answer last. A copy has exactly AMSEOKBIN_COPY bytes, a block and
  * a store exactly AMSEOKBIN_SECTOR; a record is lent with its own length, a buffer with all its room.
  *
@@ -113,7 +112,7 @@
  * How to begin on a drive. S, L and R stand in a signature block, which has to be found first. Give the drive's own size to
  * amseokbin_locate_blocks; read the front's sector and hand it to amseokbin_block_read. Where it is accepted its device numbers give
  * all places by amseokbin_places. Where it is refused read the back's sector in the same way. Where both are refused there is no pool, or
- * the drive was enlarged and its back copy lies at the old end, where amseokbin_scan looks for it. Where S is more than the drive has, or a block that was found at the back
+ * the drive was enlarged and its back copy lies at the old end. Where S is more than the drive has, or a block that was found at the back
  * has another S than the drive, the drive is not the one that the pool was made on: read what can be read, and store nothing. Then read
  * both copies, and amseokbin_discover; where they are not in step amseokbin_mend_plan. After a power cut begin again from here.
  *
@@ -136,7 +135,7 @@ extern "C" {
 
 /* The version of this header: major, minor. amseokbin_version gives the archive's; they have to be the same. */
 #define AMSEOKBIN_VERSION_MAJOR 0
-#define AMSEOKBIN_VERSION_MINOR 5
+#define AMSEOKBIN_VERSION_MINOR 4
 #define AMSEOKBIN_VERSION (AMSEOKBIN_VERSION_MAJOR * 65536u + AMSEOKBIN_VERSION_MINOR)
 
 /* ---- Sizes and limits ---------------------------------------------------------------------------------------------------- */
@@ -171,8 +170,6 @@ extern "C" {
 #define AMSEOKBIN_SEGMENT_TABLE 1227u       /* a table of so many numbers has room for all segments */
 #define AMSEOKBIN_MOST_UPDATE_STORES 34u
 #define AMSEOKBIN_MOST_MEND_STORES 19u
-#define AMSEOKBIN_MOST_SALVAGE_STORES 18u
-#define AMSEOKBIN_MOST_SALVAGE_SECTORS 17u  /* a table of so many numbers has room for all sectors that a salvage changes */
 #define AMSEOKBIN_FORMAT_STORES 80u
 #define AMSEOKBIN_NO_GROUP 4u               /* the group past the last store */
 
@@ -202,8 +199,7 @@ enum amseokbin_number {
     AMSEOKBIN_RECORD_FULL = 21,   /* the record already holds the most segments, AMSEOKBIN_MOST_SEGMENTS */
     AMSEOKBIN_NO_SEGMENT = 22,    /* no segment has that position */
     AMSEOKBIN_NO_STORE = 23,      /* no store has that number */
-    AMSEOKBIN_HEAD_MOVE = 24,     /* moving the head would lose its low water mark */
-    AMSEOKBIN_BLOCK_PLACE = 25    /* no accepted signature block in the sectors looked at, or not at sector S - 7 */
+    AMSEOKBIN_HEAD_MOVE = 24      /* moving the head would lose its low water mark */
 };
 
 /* Where a field is said to be a side, an area, a present record, a kind or a head's kind. In a field or an argument that the caller makes every number
@@ -226,8 +222,7 @@ enum amseokbin_head_kind { AMSEOKBIN_HEAD_PLAIN = 16, AMSEOKBIN_HEAD_MARKED = 17
  * is the lowest position that clashes with a later one, `second` the lowest such later position; others may clash too. Positions count from 0
  * in the record that the call was handed, for an update the new one. amseokbin_record_segment refuses such a record too: a segment
  * begins at byte h + position * AMSEOKBIN_SEGMENT of it, where h is the head's length, the record's first two bytes; it has its length in
- * bytes (2 bytes), its kind (2), its first sector (8) and its sectors (8), little-endian. Beside 25 of a scan `first` is how many sectors it looked
- * at, and `second` is zero. Beside every other number, and beside 0, both are zero. */
+ * bytes (2 bytes), its kind (2), its first sector (8) and its sectors (8), little-endian. Beside every other number, and beside 0, both are zero. */
 struct amseokbin_refusal {
     uint8_t number;
     uint64_t first;
@@ -451,13 +446,13 @@ bool amseokbin_settled(const uint8_t *front, size_t front_length, const uint8_t 
 /* ---- Stores -------------------------------------------------------------------------------------------------------------- */
 
 /*
- * Updates, mends, salvages and formatting answer stores: a device sector, and the 512 bytes that go there. They are asked for by number, from 0 up
+ * Updates, mends and formatting answer stores: a device sector, and the 512 bytes that go there. They are asked for by number, from 0 up
  * to the count, and have to be written in that order, with a flush of the device after each whose `flush` is set; that is the last of
  * its group. What was written to the device before has to have been flushed before the first. Where a write or a flush fails, store
  * nothing more, and go on as after a power cut. A sector is 512 bytes, whatever the drive's own is. A power cut in an update leaves, of
  * the sectors of one group, each as it was or as stored, and at most one of them with any bytes; then the new record is found exactly when
  * the front's block has landed, and the old one otherwise, byte for byte (docs/PROMISES.md, demand 3). Of cuts in a mend nothing is
- * promised yet, of cuts in a salvage what stands there, and of cuts in formatting only what docs/FORMAT.md says.
+ * promised yet, and of cuts in formatting only what docs/FORMAT.md says.
  */
 struct amseokbin_store_answer {
     struct amseokbin_refusal refusal;
@@ -577,71 +572,6 @@ struct amseokbin_store_answer amseokbin_mend_store(struct amseokbin_mend plan, c
                                                    const uint8_t *back, size_t back_length,
                                                    uint64_t number, uint8_t *bytes, size_t bytes_length);
 
-/* ---- Salvage ------------------------------------------------------------------------------------------------------------- */
-
-/*
- * A drive was copied to a larger one, and what stood at its front was written over: the back copy is still there, at the old end. Look for it run by
- * run with amseokbin_scan, over the whole drive: an older back copy may stand there too. Of each block that it finds amseokbin_block_read tells S. A
- * back copy's block lies in sector S - 7; where the hit lies elsewhere go on behind it. Read the copy around it from where amseokbin_places puts the
- * back, and hand it to the calls below with the block's sector. They work out a front copy with its identity and its present record, and S as it is.
- *
- *     uint64_t hit = 0; // the run's first sector, then the hit's
- *     struct amseokbin_scan_answer a = amseokbin_scan(run, run_length, UINT64_MAX);
- *     if (a.refusal.number == AMSEOKBIN_BLOCK_PLACE)
- *         hit += a.refusal.first; // nothing in this run: go on with the sector after it
- *     else
- *         hit += a.looked - 1;
- *
- * A salvage has three groups of stores: 0 the front's block with both entries unused, 1 the record in the front's area a, 2 the front's block with
- * its entry. They go to the front alone, so that the copy that was lent stays as it is; each call reads all of it again. Where the front's block
- * is accepted, mend instead: it may have a newer record than the back, and a salvage writes over it. A power cut from the second group on leaves
- * that the back copy's record is found, whatever the front held; in the first group it does where it was found before, as it is where the front's
- * block is refused (docs/PROMISES.md, request [6]). A later entry of the back copy whose area is not whole stays; amseokbin_mend_plan mends that.
- */
-
-/* How many sectors were looked at: the hit is the last of them. */
-struct amseokbin_scan_answer {
-    struct amseokbin_refusal refusal;
-    uint64_t looked;
-};
-
-/* Looks at the sectors of a run, one after the other, until one is an accepted signature block (amseokbin_block_read answers 0), or as many as `most`
- * were looked at, or all of them; a part of a sector at the end is not one of them. 25 where none is an accepted block; then refusal.first is how many
- * were looked at: the smaller of `most` and the whole sectors of the run. A sector without the 16 signature bytes costs a comparison. */
-struct amseokbin_scan_answer amseokbin_scan(const uint8_t *run, size_t run_length, uint64_t most);
-
-/* What a back copy has to salvage: its present record's area, length and time; how many stores write a front copy with it; its block. */
-struct amseokbin_salvage_answer {
-    struct amseokbin_refusal refusal;
-    uint8_t area;
-    uint32_t bytes;
-    struct amseokbin_time time;
-    uint64_t stores;
-    struct amseokbin_block block;
-};
-
-/* Reads a back copy whose block lies in this sector of the device. 1 to 9; 25, with nothing beside it, where that sector is not S - 7; 12 where no
- * area is whole. */
-struct amseokbin_salvage_answer amseokbin_salvage_read(const uint8_t *copy, size_t copy_length, uint64_t sector);
-
-/* The group of a store, 0 to 2, of a salvage of a record of so many bytes; AMSEOKBIN_NO_GROUP past the last store. */
-uint8_t amseokbin_salvage_group(uint32_t bytes, uint64_t number);
-
-/* A store. 1, for the copy and for the 512 bytes; 2 to 9, 25, 12 as above; 23 past the last store. */
-struct amseokbin_store_answer amseokbin_salvage_store(const uint8_t *copy, size_t copy_length, uint64_t sector,
-                                                      uint64_t number, uint8_t *bytes, size_t bytes_length);
-
-/* How many there are. */
-struct amseokbin_count_answer {
-    struct amseokbin_refusal refusal;
-    uint64_t count;
-};
-
-/* The sectors that the stores go to, each once and ascending, to a table with room for so many numbers; how many there are: one more than the
- * record fills. Numbers past them stay. 1 to 9, 25, 12 as above, and 1 for too little room, last. */
-struct amseokbin_count_answer amseokbin_salvage_sectors(const uint8_t *copy, size_t copy_length, uint64_t sector,
-                                                        uint64_t *table, size_t table_length);
-
 /* ---- Records ------------------------------------------------------------------------------------------------------------- */
 
 /* Checks a record on a device. 4, 7, 8, 15, 17 to 19; all calls below that take a device and a record give these first. */
@@ -667,6 +597,11 @@ struct amseokbin_segment_answer {
 /* The segment at a position, counted from 0. 22 last. */
 struct amseokbin_segment_answer amseokbin_record_segment(struct amseokbin_device device, const uint8_t *record, size_t record_length,
                                                          uint64_t position);
+
+struct amseokbin_count_answer {
+    struct amseokbin_refusal refusal;
+    uint64_t count;
+};
 
 /* The segments from a position on, as many as a table has room for, three numbers for each: kind, start, length in sectors; how many were
  * handed on: 0 where none is left, also for a position past the last. Numbers past them stay. The record is checked once for all of them; a walk

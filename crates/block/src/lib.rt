@@ -181,7 +181,7 @@ fn signature() -> [u8; 16]
 }
 
 // Whether the 16 signature bytes are in their place.
-pub fn signature_right(s: &[u8]) -> bool
+fn signature_right(s: &[u8]) -> bool
     ensures { result ≡ same (window s.now 4 16) signature_bytes }
 {
     let bytes = signature();

@@ -84,7 +84,7 @@ pub fn count(m: Mending) -> u64
 }
 
 // The group of store i, of n that store a record of k sectors.
-pub fn group_in(k: u32, n: u64, i: u64) -> u8
+fn group_in(k: u32, n: u64, i: u64) -> u8
     ensures { result ≡ group_in k n i }
 {
     if n <= i {
@@ -147,7 +147,7 @@ fn part_for(w: Side, y: Area, x: BlockFields) -> Part
 }
 
 // Store i of a plan, with the kept copy c, whose block has the numbers x.
-pub fn put_store(p: Rewrite, x: BlockFields, c: &[u8], i: u64, out: &mut [u8]) -> Given
+fn put_store(p: Rewrite, x: BlockFields, c: &[u8], i: u64, out: &mut [u8]) -> Given
     ensures value { result ≡ rewrite_answer p x c.now i out.old }
     ensures out_after { out.new ≡ rewrite_bytes p x c.now i out.old }
 {

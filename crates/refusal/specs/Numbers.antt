@@ -96,7 +96,3 @@ no_such_store = 23
 -- moving the head would lose its low water mark
 abbrev pub head_move : ℕ
 head_move = 24
-
--- no accepted signature block in the sectors looked at, or not at sector S - 7
-abbrev pub block_place : ℕ
-block_place = 25

@@ -33,7 +33,6 @@ table =
     ∷ "no segment has that position"
     ∷ "no store has that number"
     ∷ "moving the head would lose its low water mark"
-    ∷ "no accepted signature block in the sectors looked at, or not at sector S - 7"
     ∷ []
 
 -- how many numbers the table has: those below are known

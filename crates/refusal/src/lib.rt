@@ -54,10 +54,8 @@ pub const NO_STORE: u8 = 23;
 
 pub const HEAD_MOVE: u8 = 24;
 
-pub const BLOCK_PLACE: u8 = 25;
-
 // A refusal: its number, 0 for none, and what stands beside it. Beside 19 these are the positions, counted from 0, of the two segments that clash;
-// beside 25 of a scan how many sectors it looked at, and zero; beside every other number both are zero.
+// beside every other number both are zero.
 #[repr(C)]
 #[derive(Drop)]
 pub struct Refusal {
@@ -66,7 +64,7 @@ pub struct Refusal {
     pub second: u64,
 }
 
-// A number with nothing beside it. Not for 19, which has something (`record`, `named`), nor for a scan's 25 (`scan`, `scan_refusal`).
+// A number with nothing beside it. Not for 19, which has something (`record`, `named`).
 pub fn plain(number: u8) -> Refusal
     ensures { result ≡ plain number }
 {
@@ -130,7 +128,6 @@ pub fn words_of(n: u8) -> Words
         22 => lay(b"no segment has that position"),
         23 => lay(b"no store has that number"),
         24 => lay(b"moving the head would lose its low water mark"),
-        25 => lay(b"no accepted signature block in the sectors looked at, or not at sector S - 7"),
-        26..=255 => lay(b"a number that is not known"),
+        25..=255 => lay(b"a number that is not known"),
     }
 }
