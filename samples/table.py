@@ -18,9 +18,10 @@ HEAD = """\
 // The checksum's lookup table, which samples/table.py makes: a function for each row. It gives what is left of a number's lowest byte, or
 // of half of it, in the register once so many bits have gone. The entries follow from the polynomial; the proofs compute each of them.
 // A `match` is compiled to constant data. A row that is asked for in one place alone is then a load there.
-ghost use mathlib.Core.Path.{_≡_};
-ghost use Prim.Native.Nat.{_%_};
-ghost use Rattle·shifts·specs.specs.Shifts.{shifts};
+#![tactic(auto, unfolding(crate::specs::Shifts::polynomial, crate::specs::Shifts::shift, crate::specs::Shifts::shifts))]
+
+ghost use Rattle.std.specs.Prelude.{◌≡◌, ◌%◌};
+ghost use Rattle.shifts.specs.Shifts.{shifts};
 """
 # The names of rows: of how many bits, and which shifts there are of them.
 ROWS = {"byte": (8, (64, 56, 48, 40, 32, 24, 16, 8)), "half": (4, (8, 4))}
@@ -36,30 +37,27 @@ def source(name, bits, gone):
     arms = "".join(f"        {value if value < size - 1 else '_'} => 0x{shifted(value, gone):08X},\n" for value in range(size))
     return (f"\n// What is left of the lowest {bits} bits once {gone} have gone.\n"
             f"pub fn {name}_{gone}(x: u32) -> u32\n"
-            f"    ensures {{ λ r. ⌜ r ≡ shifts {gone} (x % {size}) ⌝ }}\n"
+            f"    ensures {{ result ≡ shifts {gone} (x % {size}) }}\n"
             f"{{\n    match x % {size} {{\n{arms}    }}\n}}\n")
 
 
 def proof(name, bits, gone):
     size = 1 << bits
-    here = f"Rattle·shifts·proofs.proofs.{name}_{gone}"
-    arms = "".join(f"    (λ c. arm {gone} _ {value} _ (c .match .keys{value + 1}) refl)\n" for value in range(size - 1))
-    return (f"-- `shifts::{name}_{gone}` meets its contract, an arm at a time. Made by samples/table.py.\n"
-            "use mathlib.Core.Path.{refl}\n"
-            "use Rattle·shifts·specs.specs.Shifts.{polynomial, shift, shifts}\n"
-            "use Rattle·shifts·proofs.proofs.Arms.{arm, last-arm}\n"
-            f"use {here}.Statement.{{statement}}\n"
-            f"use {here}.Tie as tie\n\n"
-            f"pub {name}-{gone}-spec : {{M : Type 1}} → statement M\n"
+    return (f"-- `shifts::{name}_{gone}` meets its contract: each listed arm computes, and the last has the one number that they leave.\n"
+            "-- Made by samples/table.py.\n"
+            "use Rattle.std.proofs.Common.{◌≤◌, ◌%◌, refl, arith}\n"
+            "use Rattle.shifts.specs.Shifts.{polynomial, shift, shifts}\n"
+            "use Rattle.shifts.proofs.Arms.{last_arm}\n"
+            f"use Rattle.shifts.proofs.{name}_{gone}.Goals as goal\n\n"
+            "pub returns-in_default : goal.returns-in_default\n"
             "unfolding polynomial shift shifts\n"
-            f"{name}-{gone}-spec =\n    tie.close\n    (tie.spec\n{arms}"
-            f"    (λ c. last-arm {gone} _ {size - 1} _ (c .match .rest) refl))\n")
+            f"returns-in_default c = last_arm {gone} _ {size - 1} _ (let l : {size - 1} ≤ c.args.x % {size} = omega arith in l) refl\n")
 
 
 def files():
     yield CRATE / "src" / "lib.rt", HEAD + "".join(source(*row) for row in rows())
     for name, bits, gone in rows():
-        yield CRATE / "proofs" / f"{name}_{gone}" / "Proof.antt", proof(name, bits, gone)
+        yield CRATE / "proofs" / f"{name}_{gone}" / "Answers.antt", proof(name, bits, gone)
 
 
 def main():
@@ -79,7 +77,7 @@ def main():
             at = next((i for i, (a, b) in enumerate(zip(made, stored)) if a != b), min(len(made), len(stored)))
             sys.exit(f"table: line {at + 1} of {path} is not that of the polynomial {POLYNOMIAL:#010x}:"
                      f" {''.join(stored[at:at + 1]).strip()!r} and not {''.join(made[at:at + 1]).strip()!r}")
-    kept = {path.parent.name for path in (CRATE / "proofs").glob("*/Proof.antt")}
+    kept = {path.parent.name for path in (CRATE / "proofs").glob("*/Answers.antt")}
     if kept != {f"{name}_{gone}" for name, _, gone in rows()}:
         sys.exit(f"table: other rows have a proof than are made: {' '.join(sorted(kept))}")
     print(f"table: {len(list(rows()))} rows, {sum(1 << bits for _, bits, _ in rows())} entries")

@@ -8,7 +8,7 @@
  * Settings are environment variables. A sector is 512 bytes; calls and events are counted from 1.
  *
  * SHIM_IMAGE=PATH       The drive: any descriptor of that file, by its device and inode. Without it nothing is done but
- *                       SHIM_TIME and `out` below.
+ *                       SHIM_TIME, `out` and `err` below.
  * SHIM_LOG=PATH         Adds a line for each call on the drive: kind, number, sector, bytes asked for, result (a number or
  *                       the error: EIO, ENOSPC, EINTR, or E and a number). A dash where there is none. `cut` and the event's
  *                       number for a cut.
@@ -17,7 +17,9 @@
  *                       can be read again, as on a drive that gives it another place.
  * SHIM_FAIL=LIST        KIND:NUMBER:HOW, or KIND:NUMBER:HOW:on for that call and all later ones of its kind; several with
  *                       commas. KIND: open, read (and pread), write (and pwrite), flush (fsync and fdatasync), all of the
- *                       drive; out, a write to standard output. HOW: EIO, ENOSPC, EINTR; short, half the bytes asked for.
+ *                       drive; out, a write to standard output; err, one to standard error. HOW: EIO, ENOSPC, EINTR; short, half
+ *                       the bytes asked for.
+ * SHIM_FORGET=yes       Also logs `forget` each time that the system is told to let go of what it keeps of the drive in memory.
  * SHIM_CUT=NUMBER       Power goes in that write or flush of the drive, writes and flushes counted together. The process
  *                       ends with status 99. Writes are held in memory until the next flush; reads see them. The write in
  *                       which power goes is among those held. If the process ends before, power goes at its end, and the
@@ -47,8 +49,8 @@
 #include <unistd.h>
 
 enum { SECTOR = 512, CUT_STATUS = 99, OWN_DESCRIPTORS = 200 };
-enum kind { OPEN, READ, WRITE, FLUSH, OUT, KINDS };
-static const char *const kind_names[KINDS] = {"open", "read", "write", "flush", "out"};
+enum kind { OPEN, READ, WRITE, FLUSH, OUT, ERR, KINDS };
+static const char *const kind_names[KINDS] = {"open", "read", "write", "flush", "out", "err"};
 
 /* The calls themselves. */
 static ssize_t real_pread(int fd, void *to, size_t n, off_t at) { return syscall(SYS_pread64, fd, to, n, at); }
@@ -418,6 +420,10 @@ ssize_t write(int fd, const void *from, size_t n) {
         if (result > 0) lseek(fd, at + result, SEEK_SET);
         return result;
     }
+    if (fd == 2) {
+        ssize_t m = admitted(ERR, n);
+        return m < 0 ? -1 : real_write(fd, from, (size_t)m);
+    }
     if (fd != 1) return real_write(fd, from, n);
     ssize_t m = admitted(OUT, n), result = m < 0 ? -1 : real_write(fd, from, (size_t)m);
     log_call(OUT, -1, n, result);
@@ -426,6 +432,11 @@ ssize_t write(int fd, const void *from, size_t n) {
 
 int fsync(int fd) { return is_drive(fd) ? flush_drive() : (int)syscall(SYS_fsync, fd); }
 int fdatasync(int fd) { return is_drive(fd) ? flush_drive() : (int)syscall(SYS_fdatasync, fd); }
+
+int posix_fadvise(int fd, off_t at, off_t n, int advice) {
+    if (getenv("SHIM_FORGET") && advice == POSIX_FADV_DONTNEED && is_drive(fd)) log_line("forget\n");
+    return syscall(SYS_fadvise64, fd, at, n, advice) < 0 ? errno : 0;
+}
 
 int clock_gettime(clockid_t clock, struct timespec *to) {
     const char *fixed = getenv("SHIM_TIME");

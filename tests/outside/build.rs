@@ -18,7 +18,7 @@ fn main() {
     println!("cargo:rerun-if-changed={}", archive.display());
     if !archive.is_file() {
         eprintln!("error: {} is not there", archive.display());
-        eprintln!("Make it with `rt staticlib amseokbin`, or name its folder in AMSEOKBIN_LIB.");
+        eprintln!("Make it with `tools/archive amseokbin`, or name its folder in AMSEOKBIN_LIB.");
         exit(1);
     }
     println!("cargo:rustc-link-search=native={}", folder.display());

@@ -1,10 +1,10 @@
 -- What it means that an allocation or a release is not refused.
 use Prim.Native.Nat.{ℕ, ◌+◌, ◌-◌, ◌≤◌, ◌<◌}
-use mathlib.Core.Path.{◌≡◌, refl, sym, ap, ◌∙◌}
+use mathlib.Core.Path.{◌≡◌}
 use mathlib.Core.Bool.{true}
 use mathlib.Core.List.{List, ◌++◌}
 use borrow.Author.Tests.{leb-true, ltb-true}
-use lib.Dec.{lit<, leb, ltb}
+use lib.Dec.{lit<}
 use lib.ListN.{length}
 use Rattle.refusal.specs.Tests.{first, AllHold}
 use Rattle.refusal.proofs.Order.{Numbered, first_holds, first_split}

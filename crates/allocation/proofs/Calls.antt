@@ -5,16 +5,15 @@ use mathlib.Core.Bool.{Bool, true, false, not}
 use mathlib.Core.List.{List, [], ◌∷◌, ◌++◌}
 use native.Mathlib.Numerals.{add-one}
 use native.Mathlib.Omega.{arith}
-use borrow.Author.Tests.{le-leb, lt-leb, lt-ltb, le-ltb, eqb-true, eqb-false}
-use lib.Dec.{leb, ltb, eqb}
+use borrow.Author.Tests.{le-leb, lt-leb, lt-ltb, le-ltb}
+use lib.Dec.{leb, ltb}
 use lib.ListN.{length, take, drop, length-append, drop_of_length-le}
 use lib.Seq.{length-take-le, take-length, drop-cons}
 use Rattle.endian.specs.Bytes.{zeros}
-use Rattle.endian.proofs.Tests.{length-zeros}
 use Rattle.refusal.specs.declared.Refusal.{Refusal}
-use Rattle.refusal.specs.Numbers.{slice_size, record_form, segment_place, segment_clash, no_room, record_full}
+use Rattle.refusal.specs.Numbers.{slice_size, segment_place, segment_clash, no_room, record_full}
 use Rattle.refusal.specs.Refusals.{plain}
-use Rattle.refusal.specs.Tests.{Test, ◌else_refuse◌, first}
+use Rattle.refusal.specs.Tests.{◌else_refuse◌, first}
 use Rattle.refusal.proofs.Order.{first-nil, first-pass, first_fail, refused, passed, answer_no, answer-yes}
 use Rattle.layout.specs.declared.Device.{Device}
 use Rattle.layout.specs.Places.{data_start, data_end}
@@ -31,18 +30,16 @@ use Rattle.runs.proofs.Fit.{fitting-yes, fitting_no}
 use Rattle.items.specs.declared.Head.{Head}
 use Rattle.items.specs.Head.{head_of, allows, data_range, range_for, item_bytes, most_segments, most_of_any}
 use Rattle.items.specs.Items.{items_of, segments_in, segments}
-use Rattle.order.specs.declared.Order.{Order}
 use Rattle.order.specs.declared.Clash.TheVariants.{Nothing}
 use Rattle.record.specs.declared.Checked.{Checked}
 use Rattle.record.specs.Accept.{record_tests, named, checked}
-use Rattle.record.proofs.Testing.{more_no, more_yes}
-use Rattle.record.proofs.Accepted.{Accepted, accepted, ends, laid, fewer}
+use Rattle.record.proofs.Testing.{more_yes}
+use Rattle.record.proofs.Accepted.{Accepted, accepted, ends, laid}
 use Rattle.record.proofs.Checking.{checked-refusal}
 use Rattle.record.proofs.Naming as Naming
 use Rattle.record.proofs.Naming.{named_other, named_again, refuse_no, refuse-yes}
 use Rattle.record.proofs.Demand.{order_is, order-taken}
 use Rattle.allocation.specs.declared.RunCount.{RunCount}
-use Rattle.allocation.specs.declared.RunCount.TheVariants as RunCount
 use Rattle.allocation.specs.Tables.{numbers_of}
 use Rattle.allocation.specs.Walking.{walked}
 use Rattle.allocation.specs.Answers.{runs_in, fit_tests, table_tests, numbers_answer, numbers_left}

@@ -1,7 +1,7 @@
 -- Free runs, allocation and release by meaning, proved: the names of specs/Demand.antt.
 use Prim.Native.Nat.{ℕ, suc, ◌+◌, ◌-◌, ◌*◌, ◌/◌, ◌^◌, ◌≤◌, ◌<◌}
 use mathlib.Core.Path.{◌≡◌, refl, sym, ap, ◌∙◌, subst}
-use mathlib.Core.Bool.{Bool, true, false, cond, not, ◌&&◌, ◌||◌, and_true}
+use mathlib.Core.Bool.{Bool, true, false, cond, not, ◌&&◌, ◌||◌, and-true}
 use mathlib.Core.List.{List, [], ◌∷◌, ◌++◌}
 use native.Mathlib.Decide.{dec_le, dec_lt}
 use native.Mathlib.Nat.{le_refl}
@@ -266,7 +266,7 @@ free-append r gs g x = go (holds g x) refl
         held_not_free r (gs ++ (g ∷ [])) x (let l : 1 ≤ held_by (gs ++ (g ∷ [])) x = omega (arith, sum) in l) ∙ sym (and_false-right (is_free r gs x) false refl)
     go false e =
         let o : one (holds g x) ≡ 0 = ap one e in
-        free-same r (gs ++ (g ∷ [])) gs x (let l : held_by (gs ++ (g ∷ [])) x ≡ held_by gs x = omega (arith, sum) in l) ∙ sym (and_true (is_free r gs x))
+        free-same r (gs ++ (g ∷ [])) gs x (let l : held_by (gs ++ (g ∷ [])) x ≡ held_by gs x = omega (arith, sum) in l) ∙ sym (and-true (is_free r gs x))
 
 or_yes : (b : Bool) → b || true ≡ true
 or_yes true = refl

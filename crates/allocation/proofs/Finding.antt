@@ -1,16 +1,14 @@
 -- The free runs of an accepted record are the gaps between its segments in their order.
-use Prim.Native.Nat.{ℕ, ◌-◌, ◌≤◌, ◌<◌}
+use Prim.Native.Nat.{ℕ, ◌≤◌, ◌<◌}
 use mathlib.Core.Path.{◌≡◌, sym, ap, ◌∙◌}
 use mathlib.Core.List.{List}
 use native.Mathlib.Omega.{arith}
 use Rattle.layout.specs.declared.Device.{Device}
 use Rattle.layout.specs.Places.{data_start, data_end}
-use Rattle.segments.specs.declared.Segment.{Segment}
 use Rattle.segments.specs.declared.Range.{Range}
 use Rattle.segments.specs.Sectors.{is_free}
 use Rattle.segments.specs.Order.{order_of, picked_at, Chain}
 use Rattle.segments.proofs.Order.{picked_free, picked_chain}
-use Rattle.runs.specs.declared.Run.{Run}
 use Rattle.runs.proofs.Runs.{runs_same}
 use Rattle.runs.proofs.Gaps.{between}
 use Rattle.items.specs.Head.{head_of, data_range, range_for}

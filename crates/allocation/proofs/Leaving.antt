@@ -2,7 +2,7 @@
 use Prim.Native.Nat.{ℕ, ◌+◌, ◌-◌, ◌≤◌, ◌<◌}
 use mathlib.Core.Path.{◌≡◌, refl, sym, ap, ◌∙◌}
 use mathlib.Core.Bool.{Bool, cond}
-use mathlib.Core.List.{List, [], ◌∷◌, ◌++◌}
+use mathlib.Core.List.{List, [], ◌++◌}
 use native.Mathlib.Omega.{arith}
 use borrow.Author.Tests.{eq-eqb, ne_eqb, lt-ltb, le-ltb, le-leb, lt-leb}
 use lib.Dec.{leb, ltb}
@@ -10,10 +10,9 @@ use lib.ListN.{length, take, drop}
 use Rattle.endian.specs.Bytes.{splice}
 use Rattle.refusal.specs.declared.Refusal.{Refusal}
 use Rattle.refusal.specs.Numbers.{no_segment, slice_size}
-use Rattle.refusal.specs.Tests.{◌else_refuse◌, first}
+use Rattle.refusal.specs.Tests.{first}
 use Rattle.refusal.proofs.Order.{first-nil, first-pass, first_fail}
 use Rattle.layout.specs.declared.Device.{Device}
-use Rattle.segments.specs.declared.Segment.{Segment}
 use Rattle.items.specs.Head.{item_bytes}
 use Rattle.items.specs.Items.{segments}
 use Rattle.items.specs.Making.{segment_bytes, place, appended, removed, unless}
@@ -24,9 +23,7 @@ use Rattle.record.proofs.Accepted.{accepted}
 use Rattle.record.proofs.Naming.{named-number}
 use Rattle.record.proofs.Demand.{refusal_of}
 use Rattle.allocation.specs.declared.Allocation.{Allocation}
-use Rattle.allocation.specs.declared.Allocation.TheVariants as Allocation
 use Rattle.allocation.specs.declared.Released.{Released}
-use Rattle.allocation.specs.declared.Released.TheVariants as Released
 use Rattle.allocation.specs.Change.{allocate_tests, given, allocation, allocate_answer, allocate_left, allocation_refusal, room_tests, release_tests, released, release_answer, release_left, release_refusal}
 use Rattle.allocation.proofs.Allowed.{Allowed, allowed, Releasable, releasable}
 

@@ -1,7 +1,6 @@
 -- The laws that callers cite.
 pub mod Walking
 pub mod Tables
-pub mod Hand
 pub mod Finding
 pub mod Preparing
 pub mod Allowed

@@ -5,7 +5,7 @@ use mathlib.Core.Bool.{Bool, true, false, cond}
 use mathlib.Core.List.{List, [], ◌∷◌, ◌++◌}
 use native.Mathlib.Nat.{le_refl}
 use native.Mathlib.Omega.{arith}
-use borrow.Author.Tests.{le-leb, lt-leb, leb-true, eqb-true, ne_eqb}
+use borrow.Author.Tests.{le-leb, lt-leb, leb-true, eqb-true}
 use lib.Dec.{leb, eqb}
 use lib.ListN.{length, take, drop}
 use lib.Seq.{take_all}
@@ -31,7 +31,7 @@ use Rattle.allocation.specs.declared.RunCount.{RunCount}
 use Rattle.allocation.specs.declared.RunCount.TheVariants.{Runs, Refused}
 use Rattle.allocation.specs.Walking.{walked, meant, On, Stepped}
 use Rattle.allocation.specs.declared.walk.Walk.{Walk}
-use Rattle.allocation.specs.Answers.{runs_in, numbered, table_tests, table_answer, table_left, entries_of}
+use Rattle.allocation.specs.Answers.{runs_in, table_tests, table_answer, table_left, entries_of}
 use Rattle.allocation.specs.Preparing.{Checking, Prepared}
 use Rattle.allocation.proofs.Finding.{chain_of, runs-walked}
 

@@ -9,7 +9,7 @@ use Rattle.segments.specs.declared.Segment.{Segment}
 use Rattle.segments.specs.declared.Range.{Range}
 use Rattle.segments.specs.Order.{picked_at, Chain}
 use Rattle.runs.specs.declared.Run.{Run}
-use Rattle.runs.specs.Runs.{run_at}
+use Rattle.runs.specs.Runs.{no_run, run_at}
 use Rattle.allocation.specs.declared.walk.Walk.{Walk}
 use Rattle.allocation.specs.Walking.{walked, begun, left, Stepped}
 use Rattle.allocation.specs.Tables.{numbers_of}
@@ -69,18 +69,6 @@ numbers-first [] (suc i) = ap (λ (k : ℕ). take k []) (twice i)
 numbers-first (r ∷ rs) zero = refl
 numbers-first (r ∷ rs) (suc i) =
     ap (λ (k : ℕ). take k (numbers_of (r ∷ rs))) (twice i) ∙ ap (λ (l : List ℕ). r.start ∷ r.sectors ∷ l) (numbers-first rs i)
-
--- A turn of the loop that fills a table of runs with the first n of the gaps rs: r's gap is number i, and the loop goes on.
-pub record RunsTurn (gs : List Segment) (p : List ℕ) (rs : List Run) (n i : ℕ) (r : Walk) : Type 0 where
-  pub is_run : r.gap ≡ run_at rs i
-  pub next : Through gs p rs n r (suc i)
-
-pub runs_turn : (gs : List Segment) (p : List ℕ) (rs : List Run) (n i : ℕ) (w r : Walk) → Through gs p rs n w i → i < n → Stepped gs p w r → RunsTurn gs p rs n i r
-runs_turn gs p rs n i w r h l s =
-    record {
-      is_run = through-gap gs p rs n i w r h l s;
-      next = subst (Through gs p rs n r) (let z : i + 1 ≡ suc i = omega arith in z) (through-next gs p rs n i w r h l s);
-    }
 
 -- The loop that fills a table t of numbers with the first n of the gaps rs: it is q after i of them.
 module _ (gs : List Segment) (p : List ℕ) where
@@ -144,3 +132,49 @@ module _ (gs : List Segment) (p : List ℕ) where
       h.table
       ∙ (ap₂ (λ (j : ℕ) (rs : List Run). laid (2 * j) (numbers_of rs) t) (let z : i ≡ n = omega arith in z) (begin-left gs p r w₀ e)
       ∙ ap (λ (x : List ℕ). x ++ drop (2 * n) t) (numbers-first (walked r gs p) n))
+
+  -- The loop that fills a table t of runs with the first n of the gaps rs: it is q after i of them.
+  pub record Filling (rs : List Run) (n : ℕ) (t q : List Run) (w : Walk) (i : ℕ) : Type 0 where
+    pub through : Through gs p rs n w i
+    pub most : i ≤ n
+    pub room : n ≤ length t
+    pub table : q ≡ laid i rs t
+
+  pub filling_first : (r : Range) (n : ℕ) (t : List Run) (w : Walk) → w ≡ begun r → (0 < n → Chain r.start r.end (picked_at gs p)) → n ≤ length (walked r gs p)
+      → n ≤ length t → Filling (left gs p w) n t t w 0
+  filling_first r n t w e c m l = record { through = subst (λ (rs : List Run). Through gs p rs n w 0) (sym (begin-left gs p r w e)) (through_first gs p r n w e c m); most = omega arith; room = l; table = refl }
+
+  pub filling_length : (rs : List Run) (n i : ℕ) (t q : List Run) (w : Walk) → Filling rs n t q w i → length q ≡ length t
+  filling_length rs n i t q w h =
+      let a : i ≤ n = h.most in
+      let b : n ≤ length t = h.room in
+      let c : n ≤ length rs = h.through.there in
+      ap length h.table ∙ laid-length i rs t (omega arith) (omega arith)
+
+  pub filling_in : (rs : List Run) (n i : ℕ) (t q : List Run) (w : Walk) → Filling rs n t q w i → i < n → i < length q
+  filling_in rs n i t q w h l =
+      let b : n ≤ length t = h.room in
+      let c : length q ≡ length t = filling_length rs n i t q w h in
+      omega arith
+
+  -- a turn: the gap of r is stored
+  pub filling_next : (rs : List Run) (n i : ℕ) (t q : List Run) (w r : Walk) (a : Run) → Filling rs n t q w i → i < n → Stepped gs p w r → a ≡ r.gap
+      → Filling rs n t (set q i a) r (i + 1)
+  filling_next rs n i t q w r a h l s e =
+      let b : n ≤ length t = h.room in
+      let c : n ≤ length rs = h.through.there in
+      record {
+        through = through-next gs p rs n i w r h.through l s;
+        most = omega arith;
+        room = b;
+        table =
+            ap (λ (x : List Run). set x i a) h.table
+            ∙ (laid_next i rs t a no_run (omega arith) (omega arith) (e ∙ through-gap gs p rs n i w r h.through l s)
+            ∙ ap (λ (j : ℕ). laid j rs t) (let z : suc i ≡ i + 1 = omega arith in z));
+      }
+
+  pub filling_done : (r : Range) (n i : ℕ) (t q : List Run) (w₀ w : Walk) → w₀ ≡ begun r → Filling (left gs p w₀) n t q w i → n ≤ i
+      → q ≡ take n (walked r gs p) ++ drop n t
+  filling_done r n i t q w₀ w e h l =
+      let a : i ≤ n = h.most in
+      h.table ∙ ap₂ (λ (j : ℕ) (rs : List Run). laid j rs t) (let z : i ≡ n = omega arith in z) (begin-left gs p r w₀ e)

@@ -14,11 +14,8 @@ use Rattle.items.specs.Head.{data_range}
 use Rattle.items.specs.Items.{segments}
 use Rattle.record.specs.Accept.{record_tests, named}
 use Rattle.allocation.specs.declared.RunCount.{RunCount}
-use Rattle.allocation.specs.declared.RunCount.TheVariants as RunCount
 use Rattle.allocation.specs.declared.RunFound.{RunFound}
-use Rattle.allocation.specs.declared.RunFound.TheVariants as RunFound
 use Rattle.allocation.specs.declared.FreeTotal.{FreeTotal}
-use Rattle.allocation.specs.declared.FreeTotal.TheVariants as FreeTotal
 use Rattle.allocation.specs.Tables.{numbers_of}
 
 -- document 01's 'free runs': the longest runs of unallocated sectors in a range, ascending

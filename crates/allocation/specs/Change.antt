@@ -15,9 +15,7 @@ use Rattle.items.specs.Making.{unless, appended, removed}
 use Rattle.record.specs.Accept.{record_tests, named}
 use Rattle.record.specs.Answers.{position_tests}
 use Rattle.allocation.specs.declared.Allocation.{Allocation}
-use Rattle.allocation.specs.declared.Allocation.TheVariants as Allocation
 use Rattle.allocation.specs.declared.Released.{Released}
-use Rattle.allocation.specs.declared.Released.TheVariants as Released
 use Rattle.allocation.specs.Answers.{free_runs}
 
 -- the free runs of the range that a segment of kind k may lie in

@@ -7,7 +7,6 @@ use Rattle.refusal.specs.Tests.{first}
 use Rattle.layout.specs.declared.Device.{Device}
 use Rattle.layout.specs.Limits.{record_limit}
 use Rattle.layout.specs.Places.{data_start, data_end}
-use Rattle.segments.specs.declared.Segment.{Segment}
 use Rattle.segments.specs.Segments.{nth, holds}
 use Rattle.segments.specs.Sectors.{is_free, free_sectors}
 use Rattle.segments.specs.Order.{picked_at}

@@ -1,5 +1,7 @@
 // The free room of a device with a segment record: free runs, allocation, release. Every call checks the device numbers and
 // the record first, once, and then walks the segments in their order, once.
+#![tactic(auto)]
+
 mod walk;
 
 ghost use Rattle.std.specs.Prelude.{◌≡◌, ◌+◌, ◌^◌, ◌≤◌, ◌<◌, length, take, drop};
@@ -19,35 +21,35 @@ use runs::Run;
 use segments::Segment;
 
 // What `count_runs` and the calls that fill a table answer.
-#[derive(Drop)]
+#[derive(Clone, Copy)]
 pub enum RunCount {
     Runs(u64),
     Refused(Refusal),
 }
 
 // What `run_at` and `first_fit` answer.
-#[derive(Drop)]
+#[derive(Clone, Copy)]
 pub enum RunFound {
     At(Run),
     Refused(Refusal),
 }
 
 // What `free_total` answers.
-#[derive(Drop)]
+#[derive(Clone, Copy)]
 pub enum FreeTotal {
     Sectors(u64),
     Refused(Refusal),
 }
 
 // What `allocate` answers: the new segment's first sector, and the new record's length in bytes.
-#[derive(Drop)]
+#[derive(Clone, Copy)]
 pub enum Allocation {
     Placed(u64, usize),
     Refused(Refusal),
 }
 
 // What `release` answers: the new record's length in bytes.
-#[derive(Drop)]
+#[derive(Clone, Copy)]
 pub enum Released {
     Length(usize),
     Refused(Refusal),
@@ -250,7 +252,7 @@ pub fn free_run_numbers(d: Device, s: &[u8], table: &mut [u64]) -> RunCount
 }
 
 // What is known before a table is filled: the answer, how many entries are filled, and the order of an accepted record's segments.
-#[derive(Drop)]
+#[derive(Clone, Copy)]
 struct Filling {
     answer: RunCount,
     count: usize,

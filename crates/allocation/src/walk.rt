@@ -13,7 +13,7 @@ use runs::Run;
 use segments::Range;
 
 // A gap, the end of the range, and the place in the order of the first segment past the gap.
-#[derive(Drop)]
+#[derive(Clone, Copy)]
 pub struct Walk {
     pub gap: Run,
     pub end: u64,

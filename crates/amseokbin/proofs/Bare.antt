@@ -16,9 +16,7 @@ use Rattle.layout.specs.declared.Side.{Side}
 use Rattle.layout.specs.declared.Side.TheVariants.{Front, Back}
 use Rattle.layout.specs.declared.Area.{Area}
 use Rattle.layout.specs.declared.Located.{Located}
-use Rattle.layout.specs.declared.Located.TheVariants as Located
 use Rattle.layout.specs.declared.BlocksLocated.{BlocksLocated}
-use Rattle.layout.specs.declared.BlocksLocated.TheVariants as BlocksLocated
 use Rattle.layout.specs.Limits.{sector_bytes, size_allowed, device_tests}
 use Rattle.layout.specs.Places.{block_sector, blocks_located, located, copy_bytes}
 use Rattle.block.specs.declared.Holding.{Holding}
@@ -26,7 +24,6 @@ use Rattle.block.specs.declared.Entry.TheVariants.{Unused}
 use Rattle.block.specs.declared.BlockFields.{BlockFields}
 use Rattle.block.specs.declared.Reading.{Reading}
 use Rattle.block.specs.declared.Verdict.{Verdict}
-use Rattle.block.specs.declared.Verdict.TheVariants as Verdict
 use Rattle.block.specs.Entry.{later_than, same_time, time_of}
 use Rattle.block.specs.Block.{pool_of, blockdev_of, fields_of, read_tests, accepted_reading, refused_reading, reading}
 use Rattle.block.specs.Writing.{write_tests}
@@ -39,17 +36,14 @@ use Rattle.receive.specs.declared.Received.{Received}
 use Rattle.receive.specs.declared.Taking.{Taking}
 use Rattle.receive.specs.Receive.{fits_in, taking, ended_for, ended_with, ending}
 use Rattle.discovery.specs.declared.Answer.{Answer}
-use Rattle.discovery.specs.declared.Answer.TheVariants as Answer
 use Rattle.discovery.specs.Answers.{other_number}
 use Rattle.discovery.specs.Discovery.{alone_of, newest_of, together_of, same_device, same_uuids, decide, decide_of}
 use Rattle.discovery.specs.Discovery.{sized, discovery, is_in_step, read_answer, copy_on}
 use Rattle.items.specs.declared.Head.TheVariants.{Plain, Marked}
 use Rattle.items.specs.declared.Put.{Put}
-use Rattle.items.specs.declared.Put.TheVariants as Put
 use Rattle.items.specs.Making as Making
 use Rattle.stores.specs.declared.Part.{Part}
 use Rattle.stores.specs.declared.Given.{Given}
-use Rattle.stores.specs.declared.Given.TheVariants as Given
 use Rattle.stores.specs.Answers.{given_number}
 use Rattle.sectors.specs.Apply.{apply_tests}
 use Rattle.stores.specs.Stores.{sectors_of, with_entry}
@@ -58,7 +52,6 @@ use Rattle.update.specs.declared.Plan.{Plan}
 use Rattle.update.specs.Plan as Update
 use Rattle.mend.specs.declared.Rewrite.{Rewrite}
 use Rattle.mend.specs.declared.Mending.{Mending}
-use Rattle.mend.specs.declared.Mending.TheVariants as Mending
 use Rattle.mend.specs.Mend.{emptied}
 use Rattle.mend.specs.Plan as Mend
 use Rattle.format.specs.Writing as Format

@@ -3,7 +3,7 @@ use Prim.Native.Nat.{ℕ}
 use mathlib.Core.Path.{◌≡◌, refl, sym, ap, ap₂, subst, ◌∙◌}
 use mathlib.Core.Bool.{Bool, true, false, not, cond}
 use lib.Dec.{eqb}
-use mathlib.Core.List.{List, [], ◌∷◌}
+use mathlib.Core.List.{List}
 use native.Mathlib.Omega.{arith}
 use lib.ListN.{length}
 use Rattle.search.specs.Search.{one}
@@ -15,74 +15,37 @@ use Rattle.layout.specs.declared.Side.{Side}
 use Rattle.layout.specs.declared.Side.TheVariants.{Front, Back}
 use Rattle.layout.specs.declared.Area.{Area}
 use Rattle.layout.specs.declared.Area.TheVariants.{A, B}
-use Rattle.layout.specs.declared.Located.{Located}
-use Rattle.layout.specs.declared.BlocksLocated.{BlocksLocated}
-use Rattle.layout.specs.Answers.{side_number, area_number, map_numbers, located_number, located_values, blocks_number, blocks_values}
-use Rattle.layout.specs.declared.Located.TheVariants as Located
-use Rattle.layout.specs.declared.BlocksLocated.TheVariants as BlocksLocated
+use Rattle.layout.specs.Answers.{side_number, area_number}
 use Rattle.block.specs.declared.BlockFields.{BlockFields}
 use Rattle.block.specs.declared.Reading.{Reading}
-use Rattle.block.specs.declared.Verdict.{Verdict}
-use Rattle.block.specs.declared.Verdict.TheVariants as Verdict
 use Rattle.discovery.specs.declared.Finding.{Finding}
 use Rattle.discovery.specs.declared.Other.{Other}
 use Rattle.discovery.specs.declared.Answer.{Answer}
-use Rattle.discovery.specs.declared.Answer.TheVariants as Answer
 use Rattle.discovery.specs.Discovery.{discovery, is_in_step, copy_on}
-use Rattle.discovery.specs.Answers.{answer_number, answer_values}
-use Rattle.block.specs.Answers.{verdict_number, verdict_values}
 use Rattle.block.specs.Block.{pool_of, blockdev_of, read_tests}
 use Rattle.block.proofs.Readings.{accepted_reading_lem, accepted-length}
-use Rattle.copy.specs.declared.CopyReading.{CopyReading}
 use Rattle.copy.specs.Copy as Copy
 use Rattle.copy.specs.Copy.{uuid_from}
 use Rattle.discovery.proofs.Latest.{newest-found}
 use Rattle.sectors.proofs.Alone.{fields_of_lem}
-use Rattle.items.specs.declared.Put.{Put}
-use Rattle.items.specs.declared.Put.TheVariants as Put
-use Rattle.record.specs.declared.Found as Record
-use Rattle.record.specs.declared.Found.TheVariants as Segment
-use Rattle.record.specs.declared.Counted.{Counted}
-use Rattle.record.specs.declared.Counted.TheVariants as Counted
-use Rattle.allocation.specs.declared.FreeTotal.{FreeTotal}
-use Rattle.allocation.specs.declared.FreeTotal.TheVariants as FreeTotal
-use Rattle.allocation.specs.declared.RunCount.{RunCount}
-use Rattle.allocation.specs.declared.RunCount.TheVariants as RunCount
-use Rattle.allocation.specs.declared.RunFound.{RunFound}
-use Rattle.allocation.specs.declared.RunFound.TheVariants as RunFound
-use Rattle.allocation.specs.declared.Allocation.{Allocation}
-use Rattle.allocation.specs.declared.Allocation.TheVariants as Allocation
-use Rattle.allocation.specs.declared.Released.{Released}
-use Rattle.allocation.specs.declared.Released.TheVariants as Released
-use Rattle.items.specs.Making.{put_number, put_values}
-use Rattle.record.specs.Answers.{segment_values, found_refusal, found_values, counted_refusal, counted_values}
-use Rattle.allocation.specs.Answers.{total_refusal, total_values, runs_refusal, runs_values, run_refusal, run_values}
-use Rattle.allocation.specs.Change.{allocation_refusal, allocation_values, release_refusal, release_values}
-use Rattle.stores.specs.Answers.{given_number, given_values}
-use Rattle.update.specs.Answers.{planned_refusal}
-use Rattle.mend.specs.Answers.{mending_number, mending_values}
 use Rattle.stores.specs.declared.Given.{Given}
-use Rattle.stores.specs.declared.Given.TheVariants as Given
 use Rattle.update.specs.declared.Plan.{Plan}
 use Rattle.update.specs.declared.Planned.{Planned}
-use Rattle.update.specs.declared.Planned.TheVariants as Planned
 use Rattle.update.specs.Plan as Update
 use Rattle.update.specs.Demand.{groups_on, plan_on, copy_after, PlanGives}
 use Rattle.update.proofs.Demand as Updates
 use Rattle.mend.specs.declared.Rewrite.{Rewrite}
 use Rattle.mend.specs.declared.Mending as Declared
-use Rattle.mend.specs.declared.Mending.TheVariants.{InStep, Needed, Refused}
+use Rattle.mend.specs.declared.Mending.TheVariants.{InStep, Needed}
 use Rattle.mend.specs.Mend.{mend_groups}
 use Rattle.mend.specs.Plan as Mend
 use Rattle.mend.specs.Demand.{MendGives}
 use Rattle.mend.proofs.Kept.{found-sized, kept}
 use Rattle.mend.proofs.Giving as Mends
-use Rattle.amseokbin.specs.Answers.{blocks_answer, places_answer, block_of, block_from, block_answer}
-use Rattle.amseokbin.specs.Copies.{copy_told, area_from, found_answer}
-use Rattle.amseokbin.specs.Records as Records
-use Rattle.amseokbin.specs.Room as Room
+use Rattle.amseokbin.specs.Answers.{block_of, block_answer}
+use Rattle.amseokbin.specs.Copies.{area_from, found_answer}
 use Rattle.amseokbin.specs.Plans.{store_answer, update_of, update_from, update_answer, side_from, rewrite_told, mend_from, mend_answer}
-use Rattle.amseokbin.specs.Demand.{Told, found_list, block_list, Telling, Blocks, ReadBack, Calls, plan_answered, Giving, mend_answered, Mending}
+use Rattle.amseokbin.specs.Demand.{Blocks, ReadBack, Calls, plan_answered, Giving, mend_answered, Mending}
 
 update_back : (p : Plan) → update_from (update_of p) ≡ p
 update_back p = λ i. record { entry = p.entry; front = area p.front i; back = area p.back i }

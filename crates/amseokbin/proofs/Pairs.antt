@@ -1,11 +1,9 @@
 -- Beside 19 the two segments that clash, in every answer that C gets.
-use Prim.Native.Nat.{ℕ, ◌-◌, ◌+◌, ◌/◌}
+use Prim.Native.Nat.{ℕ}
 use mathlib.Core.Path.{◌≡◌, refl, sym, ap, ◌∙◌, subst}
 use mathlib.Core.Bool.{true}
-use mathlib.Core.List.{List, [], ◌∷◌, ◌++◌}
+use mathlib.Core.List.{List, ◌++◌}
 use native.Mathlib.Decide.{ℕ_discrete}
-use native.Mathlib.Omega.{arith}
-use lib.ListN.{length}
 use Rattle.refusal.specs.declared.Refusal.{Refusal}
 use Rattle.refusal.specs.Tests.{Test, first}
 use Rattle.refusal.proofs.Order.{first-zero, first-before, first-after}
@@ -33,7 +31,7 @@ use Rattle.format.specs.Format.{format_number}
 use Rattle.format.proofs.Demand as Formats
 use Rattle.amseokbin.specs.declared.HeadAnswer.{HeadAnswer}
 use Rattle.amseokbin.specs.Records.{no_head}
-use Rattle.amseokbin.specs.Pairs.{PairOf, Pairs, Naming}
+use Rattle.amseokbin.specs.Pairs.{PairOf, Naming}
 use Rattle.amseokbin.proofs.Bare.{free, first-free}
 use Rattle.amseokbin.proofs.Telling.{telling}
 

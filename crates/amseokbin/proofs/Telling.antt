@@ -1,27 +1,20 @@
 -- What the C calls answer is the libraries' numbers and values; on a refusal zero in every other field.
 use Prim.Native.Nat.{ℕ, ◌+◌, ◌^◌, ◌<◌}
-use mathlib.Core.Path.{◌≡◌, refl, sym, ap, ap₂, subst, ◌∙◌}
+use mathlib.Core.Path.{◌≡◌, refl, sym, ap, ◌∙◌}
 use mathlib.Core.Bool.{Bool, true, false, cond, ◌&&◌}
 use lib.Dec.{eqb}
 use mathlib.Core.List.{List, [], ◌∷◌, ◌++◌}
 use native.Mathlib.Nat.{le_refl}
-use borrow.Author.Rules.{zero≤}
+use Rattle.std.proofs.Common.{zero-le}
 use borrow.Author.Tests.{ne_eqb}
 use lib.ListN.{length}
-use Rattle.search.specs.Search.{one}
 use Rattle.endian.specs.Bytes.{zeros}
 use Rattle.refusal.specs.Tests.{first}
 use Rattle.refusal.specs.declared.Refusal.{Refusal}
 use Rattle.refusal.specs.Refusals.{plain}
-use Rattle.layout.specs.declared.Side.{Side}
-use Rattle.layout.specs.declared.Side.TheVariants.{Front, Back}
-use Rattle.layout.specs.declared.Area.{Area}
-use Rattle.layout.specs.declared.Area.TheVariants.{A, B}
 use Rattle.layout.specs.declared.Located.{Located}
 use Rattle.layout.specs.declared.BlocksLocated.{BlocksLocated}
-use Rattle.layout.specs.Answers.{side_number, area_number, map_numbers, located_number, located_values, blocks_number, blocks_values}
-use Rattle.layout.specs.declared.Located.TheVariants as Located
-use Rattle.layout.specs.declared.BlocksLocated.TheVariants as BlocksLocated
+use Rattle.layout.specs.Answers.{map_numbers, located_number, located_values, blocks_number, blocks_values}
 use Rattle.block.specs.declared.BlockFields.{BlockFields}
 use Rattle.block.specs.declared.Reading.{Reading}
 use Rattle.block.specs.declared.Holding.{Holding}
@@ -32,12 +25,10 @@ use Rattle.block.specs.Demand.{EntryFits}
 use Rattle.block.proofs.RoundTrip.{holding-back}
 use Rattle.block.proofs.Demand.{exactly, write-after-read, read-after-write}
 use Rattle.block.specs.declared.Verdict.{Verdict}
-use Rattle.block.specs.declared.Verdict.TheVariants as Verdict
 use Rattle.discovery.specs.declared.Finding.{Finding}
 use Rattle.discovery.specs.declared.Other.{Other}
 use Rattle.discovery.specs.declared.Answer.{Answer}
-use Rattle.discovery.specs.declared.Answer.TheVariants as Answer
-use Rattle.discovery.specs.Discovery.{discovery, is_in_step, copy_on}
+use Rattle.discovery.specs.Discovery.{discovery, is_in_step}
 use Rattle.discovery.specs.Answers.{answer_number, answer_values}
 use Rattle.block.specs.Answers.{verdict_number, verdict_values}
 use Rattle.block.specs.Block.{number, device_of, pool_of, blockdev_of, entry_at, fields_of, reading, accepted_reading}
@@ -49,21 +40,14 @@ use Rattle.receive.specs.Demand.{after, unless_refused, bytes_taken}
 use Rattle.receive.proofs.Following.{taking-past}
 use Rattle.receive.proofs.Demand.{pieces}
 use Rattle.items.specs.declared.Put.{Put}
-use Rattle.items.specs.declared.Put.TheVariants as Put
 use Rattle.record.specs.declared.Found as Record
 use Rattle.record.specs.declared.Found.TheVariants as Segment
 use Rattle.record.specs.declared.Counted.{Counted}
-use Rattle.record.specs.declared.Counted.TheVariants as Counted
 use Rattle.allocation.specs.declared.FreeTotal.{FreeTotal}
-use Rattle.allocation.specs.declared.FreeTotal.TheVariants as FreeTotal
 use Rattle.allocation.specs.declared.RunCount.{RunCount}
-use Rattle.allocation.specs.declared.RunCount.TheVariants as RunCount
 use Rattle.allocation.specs.declared.RunFound.{RunFound}
-use Rattle.allocation.specs.declared.RunFound.TheVariants as RunFound
 use Rattle.allocation.specs.declared.Allocation.{Allocation}
-use Rattle.allocation.specs.declared.Allocation.TheVariants as Allocation
 use Rattle.allocation.specs.declared.Released.{Released}
-use Rattle.allocation.specs.declared.Released.TheVariants as Released
 use Rattle.items.specs.declared.Head.{Head}
 use Rattle.items.specs.Head.{head_of}
 use Rattle.items.specs.Items.{segments}
@@ -72,19 +56,14 @@ use Rattle.record.specs.Accept.{record_tests, named}
 use Rattle.record.specs.Answers.{segment_values, found_refusal, found_values, counted_refusal, counted_values}
 use Rattle.allocation.specs.Answers.{total_refusal, total_values, runs_refusal, runs_values, run_refusal, run_values}
 use Rattle.heads.specs.declared.Changed.{Changed}
-use Rattle.heads.specs.declared.Changed.TheVariants as Changed
 use Rattle.heads.specs.Changing.{changed_refusal, changed_values}
 use Rattle.allocation.specs.Change.{allocation_refusal, allocation_values, release_refusal, release_values}
 use Rattle.stores.specs.Answers.{given_number, given_values}
 use Rattle.update.specs.Answers.{planned_refusal}
 use Rattle.mend.specs.Answers.{mending_number, mending_values}
 use Rattle.stores.specs.declared.Given.{Given}
-use Rattle.stores.specs.declared.Given.TheVariants as Given
-use Rattle.update.specs.declared.Plan.{Plan}
 use Rattle.update.specs.declared.Planned.{Planned}
-use Rattle.update.specs.declared.Planned.TheVariants as Planned
 use Rattle.update.specs.Plan as Update
-use Rattle.mend.specs.declared.Rewrite.{Rewrite}
 use Rattle.mend.specs.declared.Mending as Declared
 use Rattle.mend.specs.declared.Mending.TheVariants.{InStep, Needed, Refused}
 use Rattle.mend.specs.Plan as Mend
@@ -98,39 +77,39 @@ use Rattle.amseokbin.specs.declared.HeadAnswer.{HeadAnswer}
 use Rattle.amseokbin.specs.Records as Records
 use Rattle.amseokbin.specs.Records.{head_said, no_head, head_if}
 use Rattle.amseokbin.specs.Room as Room
-use Rattle.amseokbin.specs.Plans.{store_answer, update_of, update_from, update_answer, side_from, rewrite_told, mend_from, mend_answer}
+use Rattle.amseokbin.specs.Plans.{store_answer, update_answer, mend_from, mend_answer}
 use Rattle.amseokbin.specs.Demand.{Told, found_list, block_list, Telling, Saying, Zeroing, Rereading, handed_on, taken_in, Receiving, Planning}
 use Rattle.amseokbin.proofs.Demand.{mend_back}
 
 blocks_told : (a : BlocksLocated) → Told (blocks_answer a).refusal (plain (blocks_number a)) ((blocks_answer a).front ∷ (blocks_answer a).back ∷ []) (blocks_values a)
 unfolding zeros
 blocks_told (BlocksLocated.At f b) = (refl, refl, le_refl _)
-blocks_told (BlocksLocated.Refused n) = (refl, refl, zero≤)
+blocks_told (BlocksLocated.Refused n) = (refl, refl, zero-le)
 
 places_told : (a : Located) → Told (places_answer a).refusal (plain (located_number a)) (map_numbers (places_answer a).map) (located_values a)
 unfolding zeros
 places_told (Located.At p) = (refl, refl, le_refl _)
-places_told (Located.Refused n) = (refl, refl, zero≤)
+places_told (Located.Refused n) = (refl, refl, zero-le)
 
 block_told_lem : (v : Verdict) (p u : List ℕ) → Told (plain (verdict_number v)) (plain (verdict_number v)) (block_list (block_from v p u)) (verdict_values v)
 unfolding zeros
 block_told_lem (Verdict.Accepted x) p u = (refl, refl, le_refl _)
-block_told_lem (Verdict.Refused n) p u = (refl, refl, zero≤)
+block_told_lem (Verdict.Refused n) p u = (refl, refl, zero-le)
 
 copy_told_lem : (r : CopyReading) (v : Verdict) → Told (copy_told r v).refusal (plain (verdict_number v)) (block_list (copy_told r v).block) (verdict_values v)
 unfolding zeros
 copy_told_lem r (Verdict.Accepted x) = (refl, refl, le_refl _)
-copy_told_lem r (Verdict.Refused n) = (refl, refl, zero≤)
+copy_told_lem r (Verdict.Refused n) = (refl, refl, zero-le)
 
 found_told : (a : Answer) (f b : List ℕ) → Told (found_answer a f b).refusal (plain (answer_number a)) (found_list (found_answer a f b)) (answer_values a)
 unfolding zeros
 found_told (Answer.Found q o) f b = (refl, refl, le_refl _)
-found_told (Answer.Refused n) f b = (refl, refl, zero≤)
+found_told (Answer.Refused n) f b = (refl, refl, zero-le)
 
 store_told : (g : Given) (flush : Bool) → Told (store_answer g flush).refusal (plain (given_number g)) ((store_answer g flush).sector ∷ []) (given_values g)
 unfolding zeros
 store_told (Given.At s) flush = (refl, refl, le_refl _)
-store_told (Given.Refused n) flush = (refl, refl, zero≤)
+store_told (Given.Refused n) flush = (refl, refl, zero-le)
 
 update_told : (a : Planned) → (update_answer a).refusal ≡ planned_refusal a
 unfolding zeros
@@ -141,52 +120,52 @@ mend_told : (m : Declared.Mending) → Told (mend_answer m).refusal (plain (mend
 unfolding zeros
 mend_told InStep = (refl, refl, le_refl _)
 mend_told (Needed p) = (refl, ap (λ (m : Declared.Mending). Mend.stores_in m ∷ []) (mend_back p), le_refl _)
-mend_told (Refused n) = (refl, refl, zero≤)
+mend_told (Refused n) = (refl, refl, zero-le)
 
 segment_told : (a : Record.Found) → Told (Records.segment_answer a).refusal (found_refusal a) (segment_values (Records.segment_answer a).segment) (found_values a)
 unfolding zeros
 segment_told (Segment.At g) = (refl, refl, le_refl _)
-segment_told (Segment.Refused n) = (refl, refl, zero≤)
+segment_told (Segment.Refused n) = (refl, refl, zero-le)
 
 segments_told : (a : Counted) → Told (Records.counted_answer a).refusal (counted_refusal a) ((Records.counted_answer a).count ∷ []) (counted_values a)
 unfolding zeros
 segments_told (Counted.Segments k) = (refl, refl, le_refl _)
-segments_told (Counted.Refused n) = (refl, refl, zero≤)
+segments_told (Counted.Refused n) = (refl, refl, zero-le)
 
 put_told : (a : Put) → Told (Records.put_answer a).refusal (plain (put_number a)) ((Records.put_answer a).length ∷ []) (put_values a)
 unfolding zeros
 put_told (Put.Length k) = (refl, refl, le_refl _)
-put_told (Put.Refused n) = (refl, refl, zero≤)
+put_told (Put.Refused n) = (refl, refl, zero-le)
 
 total_told : (a : FreeTotal) → Told (Room.total_answer a).refusal (total_refusal a) ((Room.total_answer a).sectors ∷ []) (total_values a)
 unfolding zeros
 total_told (FreeTotal.Sectors k) = (refl, refl, le_refl _)
-total_told (FreeTotal.Refused n) = (refl, refl, zero≤)
+total_told (FreeTotal.Refused n) = (refl, refl, zero-le)
 
 runs_told : (a : RunCount) → Told (Room.runs_answer a).refusal (runs_refusal a) ((Room.runs_answer a).count ∷ []) (runs_values a)
 unfolding zeros
 runs_told (RunCount.Runs k) = (refl, refl, le_refl _)
-runs_told (RunCount.Refused n) = (refl, refl, zero≤)
+runs_told (RunCount.Refused n) = (refl, refl, zero-le)
 
 run_told : (a : RunFound) → Told (Room.run_answer a).refusal (run_refusal a) ((Room.run_answer a).run.start ∷ (Room.run_answer a).run.sectors ∷ []) (run_values a)
 unfolding zeros
 run_told (RunFound.At r) = (refl, refl, le_refl _)
-run_told (RunFound.Refused n) = (refl, refl, zero≤)
+run_told (RunFound.Refused n) = (refl, refl, zero-le)
 
 allocation_told : (a : Allocation) → Told (Room.allocation_answer a).refusal (allocation_refusal a) ((Room.allocation_answer a).start ∷ (Room.allocation_answer a).length ∷ []) (allocation_values a)
 unfolding zeros
 allocation_told (Allocation.Placed k m) = (refl, refl, le_refl _)
-allocation_told (Allocation.Refused n) = (refl, refl, zero≤)
+allocation_told (Allocation.Refused n) = (refl, refl, zero-le)
 
 changed_told : (a : Changed) → Told (Records.changed_answer a).refusal (changed_refusal a) ((Records.changed_answer a).length ∷ []) (changed_values a)
 unfolding zeros
 changed_told (Changed.Length k) = (refl, refl, le_refl _)
-changed_told (Changed.Refused n) = (refl, refl, zero≤)
+changed_told (Changed.Refused n) = (refl, refl, zero-le)
 
 release_told : (a : Released) → Told (Room.released_answer a).refusal (release_refusal a) ((Room.released_answer a).length ∷ []) (release_values a)
 unfolding zeros
 release_told (Released.Length k) = (refl, refl, le_refl _)
-release_told (Released.Refused n) = (refl, refl, zero≤)
+release_told (Released.Refused n) = (refl, refl, zero-le)
 
 pub telling : Telling
 telling =

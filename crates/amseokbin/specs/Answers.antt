@@ -1,21 +1,17 @@
 -- What C is answered: each library's answer as a struct of the header. A refusal has its number with what stands beside it, and zero in every other
 -- field.
-use Rattle.std.specs.Prelude.{ℕ, Bool, true, false, not, cond, List, eqb}
+use Rattle.std.specs.Prelude.{ℕ, List}
 use Rattle.endian.specs.Bytes.{zeros}
 use Rattle.refusal.specs.Refusals.{plain}
 use Rattle.layout.specs.declared.Device.{Device}
 use Rattle.layout.specs.declared.CopyMap.{CopyMap}
 use Rattle.layout.specs.declared.DeviceMap.{DeviceMap}
 use Rattle.layout.specs.declared.Located.{Located}
-use Rattle.layout.specs.declared.Located.TheVariants as Located
 use Rattle.layout.specs.declared.BlocksLocated.{BlocksLocated}
-use Rattle.layout.specs.declared.BlocksLocated.TheVariants as BlocksLocated
 use Rattle.block.specs.declared.Holding.{Holding}
-use Rattle.block.specs.declared.Entry.TheVariants.{Unused}
 use Rattle.block.specs.declared.BlockFields.{BlockFields}
 use Rattle.block.specs.declared.Reading.{Reading}
 use Rattle.block.specs.declared.Verdict.{Verdict}
-use Rattle.block.specs.declared.Verdict.TheVariants as Verdict
 use Rattle.block.specs.Entry.{entry_of}
 use Rattle.block.specs.Writing.{holding_of}
 use Rattle.block.specs.Answers.{verdict_number}

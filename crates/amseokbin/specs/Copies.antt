@@ -7,7 +7,6 @@ use Rattle.layout.specs.declared.Area.TheVariants.{A, B}
 use Rattle.layout.specs.Answers.{side_number, area_number}
 use Rattle.block.specs.declared.BlockFields.{BlockFields}
 use Rattle.block.specs.declared.Verdict.{Verdict}
-use Rattle.block.specs.declared.Verdict.TheVariants as Verdict
 use Rattle.block.specs.Block.{pool_of, blockdev_of}
 use Rattle.copy.specs.declared.Present.{Present}
 use Rattle.copy.specs.declared.Present.TheVariants.{Nothing, At}
@@ -18,8 +17,7 @@ use Rattle.receive.specs.declared.Taking.{Taking}
 use Rattle.discovery.specs.declared.Finding.{Finding}
 use Rattle.discovery.specs.declared.Other.{Other}
 use Rattle.discovery.specs.declared.Answer.{Answer}
-use Rattle.discovery.specs.declared.Answer.TheVariants as Answer
-use Rattle.discovery.specs.Answers.{other_number, answer_number}
+use Rattle.discovery.specs.Answers.{other_number}
 use Rattle.discovery.specs.Discovery.{sized, is_in_step, copy_on}
 use Rattle.discovery.specs.Newest.{time_at}
 use Rattle.amseokbin.specs.declared.Block.{Block}

@@ -56,12 +56,10 @@ use Rattle.heads.specs.declared.Changed.{Changed}
 use Rattle.heads.specs.Changing.{changed_refusal, changed_values}
 use Rattle.crash.specs.Crash.{Sectors, Groups, stores, store_in, group_start}
 use Rattle.stores.specs.declared.Given.{Given}
-use Rattle.stores.specs.declared.Given.TheVariants as Given
 use Rattle.stores.specs.Stores.{holding_for}
 use Rattle.stores.specs.Answers.{given_number, given_values}
 use Rattle.update.specs.declared.Plan as Declared
 use Rattle.update.specs.declared.Planned.{Planned}
-use Rattle.update.specs.declared.Planned.TheVariants as Planned
 use Rattle.update.specs.Update.{update_number, spare}
 use Rattle.update.specs.Answers.{planned_refusal}
 use Rattle.update.specs.Plan as Update

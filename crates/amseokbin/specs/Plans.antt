@@ -6,13 +6,10 @@ use Rattle.layout.specs.declared.Side.{Side}
 use Rattle.layout.specs.declared.Side.TheVariants.{Front, Back}
 use Rattle.layout.specs.Answers.{side_number, area_number}
 use Rattle.stores.specs.declared.Given.{Given}
-use Rattle.stores.specs.declared.Given.TheVariants as Given
 use Rattle.update.specs.declared.Plan.{Plan}
 use Rattle.update.specs.declared.Planned.{Planned}
-use Rattle.update.specs.declared.Planned.TheVariants as Planned
 use Rattle.mend.specs.declared.Rewrite.{Rewrite}
 use Rattle.mend.specs.declared.Mending.{Mending}
-use Rattle.mend.specs.declared.Mending.TheVariants as Mending
 use Rattle.amseokbin.specs.declared.StoreAnswer.{StoreAnswer}
 use Rattle.amseokbin.specs.declared.UpdatePlan.{UpdatePlan}
 use Rattle.amseokbin.specs.declared.UpdateAnswer.{UpdateAnswer}

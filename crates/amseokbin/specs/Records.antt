@@ -4,19 +4,14 @@ use Rattle.refusal.specs.Tests.{first}
 use Rattle.refusal.specs.declared.Refusal.{Refusal}
 use Rattle.refusal.specs.Refusals.{plain}
 use Rattle.layout.specs.declared.Device.{Device}
-use Rattle.segments.specs.declared.Segment.{Segment}
 use Rattle.items.specs.declared.Put.{Put}
-use Rattle.items.specs.declared.Put.TheVariants as Put
 use Rattle.items.specs.declared.Head.{Head}
 use Rattle.items.specs.Head.{head_of, head_kind, block_size, low_water}
 use Rattle.items.specs.Items.{segments}
 use Rattle.record.specs.declared.Found.{Found}
-use Rattle.record.specs.declared.Found.TheVariants as Found
 use Rattle.record.specs.declared.Counted.{Counted}
-use Rattle.record.specs.declared.Counted.TheVariants as Counted
 use Rattle.record.specs.Accept.{record_tests, named}
 use Rattle.heads.specs.declared.Changed.{Changed}
-use Rattle.heads.specs.declared.Changed.TheVariants as Changed
 use Rattle.amseokbin.specs.declared.HeadAnswer.{HeadAnswer}
 use Rattle.amseokbin.specs.declared.SegmentAnswer.{SegmentAnswer}
 use Rattle.amseokbin.specs.declared.CountAnswer.{CountAnswer}

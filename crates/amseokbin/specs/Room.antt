@@ -1,16 +1,10 @@
 -- What the calls on free room answer.
-use Rattle.std.specs.Prelude.{ℕ}
 use Rattle.refusal.specs.Refusals.{plain}
 use Rattle.allocation.specs.declared.FreeTotal.{FreeTotal}
-use Rattle.allocation.specs.declared.FreeTotal.TheVariants as FreeTotal
 use Rattle.allocation.specs.declared.RunCount.{RunCount}
-use Rattle.allocation.specs.declared.RunCount.TheVariants as RunCount
 use Rattle.allocation.specs.declared.RunFound.{RunFound}
-use Rattle.allocation.specs.declared.RunFound.TheVariants as RunFound
 use Rattle.allocation.specs.declared.Allocation.{Allocation}
-use Rattle.allocation.specs.declared.Allocation.TheVariants as Allocation
 use Rattle.allocation.specs.declared.Released.{Released}
-use Rattle.allocation.specs.declared.Released.TheVariants as Released
 use Rattle.amseokbin.specs.declared.TotalAnswer.{TotalAnswer}
 use Rattle.amseokbin.specs.declared.CountAnswer.{CountAnswer}
 use Rattle.amseokbin.specs.declared.RunAnswer.{RunAnswer}

@@ -1,5 +1,7 @@
 // What C calls: include/amseokbin.h, function by function. Each takes C's numbers, structs and slices, calls a library, and gives its
 // answer as a struct of the header, by value: first the refusal; where that has a number every other field is zero.
+#![tactic(auto)]
+
 mod blocks;
 mod copies;
 mod formats;
@@ -26,7 +28,7 @@ use segments::Segment;
 // A signature block: device numbers, the entries of areas a and b, an unused one with zero in all its fields, and the UUIDs of the
 // pool and of the block device.
 #[repr(C)]
-#[derive(Drop)]
+#[derive(Clone, Copy)]
 pub struct Block {
     pub device: Device,
     pub a: Holding,
@@ -37,7 +39,7 @@ pub struct Block {
 
 // The sectors of the two signature blocks.
 #[repr(C)]
-#[derive(Drop)]
+#[derive(Clone, Copy)]
 pub struct BlocksAnswer {
     pub refusal: Refusal,
     pub front: u64,
@@ -45,14 +47,14 @@ pub struct BlocksAnswer {
 }
 
 #[repr(C)]
-#[derive(Drop)]
+#[derive(Clone, Copy)]
 pub struct PlacesAnswer {
     pub refusal: Refusal,
     pub map: DeviceMap,
 }
 
 #[repr(C)]
-#[derive(Drop)]
+#[derive(Clone, Copy)]
 pub struct BlockAnswer {
     pub refusal: Refusal,
     pub block: Block,
@@ -60,7 +62,7 @@ pub struct BlockAnswer {
 
 // A copy: its block, whether its areas are whole, and its present record: 0 for none, 1 for area a, 2 for area b.
 #[repr(C)]
-#[derive(Drop)]
+#[derive(Clone, Copy)]
 pub struct CopyAnswer {
     pub refusal: Refusal,
     pub block: Block,
@@ -71,7 +73,7 @@ pub struct CopyAnswer {
 
 // The state of a copy in pieces from here on, whether a piece was taken or refused.
 #[repr(C)]
-#[derive(Drop)]
+#[derive(Clone, Copy)]
 pub struct ReceiveAnswer {
     pub refusal: Refusal,
     pub received: Received,
@@ -79,7 +81,7 @@ pub struct ReceiveAnswer {
 
 // A found record, 0 or the other copy's refusal number, and the block of the copy that has it.
 #[repr(C)]
-#[derive(Drop)]
+#[derive(Clone, Copy)]
 pub struct FoundAnswer {
     pub refusal: Refusal,
     pub side: u8,
@@ -91,7 +93,7 @@ pub struct FoundAnswer {
 }
 
 #[repr(C)]
-#[derive(Drop)]
+#[derive(Clone, Copy)]
 pub struct StepAnswer {
     pub refusal: Refusal,
     pub step: bool,
@@ -99,7 +101,7 @@ pub struct StepAnswer {
 
 // A store: its sector, and whether a flush belongs after it.
 #[repr(C)]
-#[derive(Drop)]
+#[derive(Clone, Copy)]
 pub struct StoreAnswer {
     pub refusal: Refusal,
     pub sector: u64,
@@ -108,7 +110,7 @@ pub struct StoreAnswer {
 
 // An update's plan: what the new entry says, and the area of each copy that the record goes to, 0 for a, anything else for b.
 #[repr(C)]
-#[derive(Drop)]
+#[derive(Clone, Copy)]
 pub struct UpdatePlan {
     pub entry: Holding,
     pub front: u8,
@@ -116,7 +118,7 @@ pub struct UpdatePlan {
 }
 
 #[repr(C)]
-#[derive(Drop)]
+#[derive(Clone, Copy)]
 pub struct UpdateAnswer {
     pub refusal: Refusal,
     pub plan: UpdatePlan,
@@ -125,7 +127,7 @@ pub struct UpdateAnswer {
 // A mend's plan: the record's length, whether there is anything to store, the side whose copy is kept, the area of that copy with the
 // record, and whether there is a last store. 0 is no, the front, area a; anything else yes, the back, area b.
 #[repr(C)]
-#[derive(Drop)]
+#[derive(Clone, Copy)]
 pub struct MendPlan {
     pub bytes: u32,
     pub needed: u8,
@@ -135,7 +137,7 @@ pub struct MendPlan {
 }
 
 #[repr(C)]
-#[derive(Drop)]
+#[derive(Clone, Copy)]
 pub struct MendAnswer {
     pub refusal: Refusal,
     pub plan: MendPlan,
@@ -143,7 +145,7 @@ pub struct MendAnswer {
 
 // The kind of a record's head, its data block size and low water mark, and the record's number of segments.
 #[repr(C)]
-#[derive(Drop)]
+#[derive(Clone, Copy)]
 pub struct HeadAnswer {
     pub refusal: Refusal,
     pub kind: u16,
@@ -153,14 +155,14 @@ pub struct HeadAnswer {
 }
 
 #[repr(C)]
-#[derive(Drop)]
+#[derive(Clone, Copy)]
 pub struct SegmentAnswer {
     pub refusal: Refusal,
     pub segment: Segment,
 }
 
 #[repr(C)]
-#[derive(Drop)]
+#[derive(Clone, Copy)]
 pub struct CountAnswer {
     pub refusal: Refusal,
     pub count: u64,
@@ -168,7 +170,7 @@ pub struct CountAnswer {
 
 // A record's length in bytes.
 #[repr(C)]
-#[derive(Drop)]
+#[derive(Clone, Copy)]
 pub struct LengthAnswer {
     pub refusal: Refusal,
     pub length: u64,
@@ -176,14 +178,14 @@ pub struct LengthAnswer {
 
 // Free sectors.
 #[repr(C)]
-#[derive(Drop)]
+#[derive(Clone, Copy)]
 pub struct TotalAnswer {
     pub refusal: Refusal,
     pub sectors: u64,
 }
 
 #[repr(C)]
-#[derive(Drop)]
+#[derive(Clone, Copy)]
 pub struct RunAnswer {
     pub refusal: Refusal,
     pub run: Run,
@@ -191,7 +193,7 @@ pub struct RunAnswer {
 
 // A new segment's first sector, and the new record's length in bytes.
 #[repr(C)]
-#[derive(Drop)]
+#[derive(Clone, Copy)]
 pub struct AllocationAnswer {
     pub refusal: Refusal,
     pub start: u64,

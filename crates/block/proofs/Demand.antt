@@ -16,7 +16,7 @@ use Rattle.endian.proofs.Tests.{and_both}
 use Rattle.block.specs.declared.BlockFields.{BlockFields}
 use Rattle.block.specs.declared.Reading.{Reading}
 use Rattle.block.specs.declared.Verdict.TheVariants as Verdict
-use Rattle.block.specs.Block.{pool_of, blockdev_of, fields_of, read_tests, reading, refused_reading}
+use Rattle.block.specs.Block.{pool_of, blockdev_of, fields_of, read_tests, reading}
 use Rattle.block.specs.Writing.{write_tests}
 use Rattle.block.specs.Entry.{later_than}
 use Rattle.block.proofs.Times.{Before, NotAfter, later_facts, not_later_facts}

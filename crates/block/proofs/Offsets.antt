@@ -1,7 +1,5 @@
 -- The fields of an accepted block by their offsets, proved in the words of `specs/Demand.antt`.
-use Prim.Native.Nat.{ℕ}
-use mathlib.Core.Path.{◌≡◌, refl, sym, ap, ◌∙◌}
-use mathlib.Core.List.{List}
+use mathlib.Core.Path.{◌≡◌, refl, sym, ap}
 use Rattle.endian.specs.Bytes.{window}
 use Rattle.block.specs.declared.Holding.{Holding}
 use Rattle.block.specs.declared.Reading.{Reading}

@@ -1,5 +1,5 @@
 -- Area entries and the order of times: docs/FORMAT.md, 'Signature block'.
-use Rattle.std.specs.Prelude.{ℕ, Bool, true, false, not, cond, ◌&&◌, ◌||◌, leb, ltb, eqb}
+use Rattle.std.specs.Prelude.{ℕ, Bool, true, not, cond, ◌&&◌, ◌||◌, ltb, eqb}
 use Rattle.layout.specs.Limits.{length_allowed, nanoseconds_allowed}
 use Rattle.block.specs.declared.Time.{Time}
 use Rattle.block.specs.declared.Holding.{Holding}

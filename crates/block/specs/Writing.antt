@@ -1,5 +1,5 @@
 -- The signature block, written: the table of docs/FORMAT.md, 'Signature block', in its order, and the refusals of a writer.
-use Rattle.std.specs.Prelude.{ℕ, Bool, cond, ◌&&◌, eqb, length}
+use Rattle.std.specs.Prelude.{ℕ, cond, ◌&&◌, eqb, length}
 use mathlib.Core.List.{List, [], ◌∷◌, ◌++◌, flatten}
 use Rattle.endian.specs.Bytes.{to_le, window, splice, zeros}
 use Rattle.checksum.specs.Crc.{checksum}

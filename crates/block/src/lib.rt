@@ -1,5 +1,7 @@
 // The signature block: 512 bytes that say how large the device is, whose it is, and what its metadata areas hold.
 // Read from any slice, and written from its fields.
+#![tactic(auto)]
+
 ghost use Rattle.std.specs.Prelude.{◌≡◌, ◌+◌, ◌≤◌, length};
 ghost use Rattle.endian.specs.Bytes.{window, same, all_pass};
 ghost use Rattle.refusal.specs.Tests.{first};
@@ -12,7 +14,7 @@ use layout::Device;
 
 // A time, in seconds and nanoseconds.
 #[repr(C)]
-#[derive(Drop)]
+#[derive(Clone, Copy)]
 pub struct Time {
     pub seconds: u64,
     pub nanoseconds: u32,
@@ -20,7 +22,7 @@ pub struct Time {
 
 // What a used area entry says of its area: the record's time, its bytes and their checksum.
 #[repr(C)]
-#[derive(Drop)]
+#[derive(Clone, Copy)]
 pub struct Holding {
     pub seconds: u64,
     pub nanoseconds: u32,
@@ -29,14 +31,14 @@ pub struct Holding {
 }
 
 // An area entry (document 01's 'unused' and 'used').
-#[derive(Drop)]
+#[derive(Clone, Copy)]
 pub enum Entry {
     Unused,
     Used(Holding),
 }
 
 // The numbers of a block: the device's, and the entries of its two areas.
-#[derive(Drop)]
+#[derive(Clone, Copy)]
 pub struct BlockFields {
     pub device: Device,
     pub a: Entry,
@@ -44,14 +46,14 @@ pub struct BlockFields {
 }
 
 // What reading a block decides.
-#[derive(Drop)]
+#[derive(Clone, Copy)]
 pub enum Verdict {
     Accepted(BlockFields),
     Refused(u8),
 }
 
 // The answer of `read`: the verdict, and beside it the UUIDs of the pool and of the block device, zeros where refused.
-#[derive(Drop)]
+#[derive(Clone, Copy)]
 pub struct Reading {
     pub verdict: Verdict,
     pub pool: [u8; 32],

@@ -4,6 +4,8 @@
 // 65,535 is no sample, and ends them: it goes past the end of the input. What must be printed is the file stdout. Both are made by
 // samples/blocks.py, which shares nothing with the library. That the program is safe and ends is proved; that it prints
 // the right thing is tested. Assumes what `io` and `libc` do.
+#![tactic(auto)]
+
 ghost use Rattle.std.specs.Prelude.{◌≤◌, ◌<◌, length};
 ghost use Rattle.sampling.specs.Laying.{input_bytes};
 

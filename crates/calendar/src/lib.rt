@@ -1,10 +1,12 @@
 // Seconds since 1970-01-01 00:00:00 UTC as a date of the Gregorian calendar, up to the year 9999.
 // Every public call is total.
+#![tactic(auto)]
+
 ghost use Rattle.std.specs.Prelude.{◌≡◌, ◌<◌};
 ghost use Rattle.calendar.specs.Calendar.{all_days, leap, year_length, month_length, walk, date_of};
 
 // A date and the time of its day. Months and days count from 1.
-#[derive(Drop)]
+#[derive(Clone, Copy)]
 pub struct Date {
     pub year: u32,
     pub month: u8,
@@ -15,14 +17,14 @@ pub struct Date {
 }
 
 // The date, or that it is past the year 9999.
-#[derive(Drop)]
+#[derive(Clone, Copy)]
 pub enum Dated {
     At(Date),
     Beyond,
 }
 
 // A year or a month, and the days of it that have passed.
-#[derive(Drop)]
+#[derive(Clone, Copy)]
 struct Place {
     at: u64,
     rest: u64,

@@ -1,6 +1,8 @@
 // Runs the published check values of the checksum, and the little-endian calls at their edges, and prints what it found,
 // a line each. The file stdout beside src/ has what must be printed; samples/values.py makes it and shares nothing with the
 // library. Assumes what `io` and `libc` do.
+#![tactic(auto)]
+
 ghost use Rattle.std.specs.Prelude.{◌≡◌, length};
 
 use sampling::{long_hex, print, say, short_hex};

@@ -1,5 +1,7 @@
 // The CRC32 of the Stratis 0.6 layout (docs/FORMAT.md, 'Checksum'), over any slice, whole or in pieces.
 // Eight bytes a step by table lookup (slicing by 8). Four lookups wait for the register; the others do not, and go first.
+#![tactic(auto)]
+
 ghost use Rattle.std.specs.Prelude.{◌≡◌, ◌%◌, length};
 ghost use Rattle.shifts.specs.Shifts.{shifts};
 ghost use Rattle.checksum.specs.Crc.{absorb, register, checksum, continued};

@@ -7,17 +7,14 @@ use mathlib.Core.List.{List, [], ◌∷◌, ◌++◌, flatten}
 use native.Mathlib.Decide.{ℕ_discrete}
 use borrow.Author.Tests.{eq-eqb, ne_eqb}
 use native.Mathlib.Omega.{arith}
-use native.Mathlib.Nat.{le_refl}
 use lib.ListN.{length, take, length-append}
 use Rattle.layout.specs.declared.Device.{Device}
-use Rattle.layout.specs.declared.Side.{Side}
-use Rattle.layout.specs.Places.{block_sector}
 use Rattle.block.specs.declared.Time.{Time}
 use Rattle.crash.specs.Crash.{Sectors, Sound, Groups, stores, store_in, put, group_start, landed, Stored, CutIn, all_landed}
 use Rattle.crash.proofs.Landing.{landed-size}
 use Rattle.crash.proofs.Groups.{whole_start}
 use Rattle.stores.specs.States.{Ready, Answered, Excused, AllFit, before}
-use Rattle.update.specs.Demand.{Start, Outcome, FrontNew, groups_on}
+use Rattle.update.specs.Demand.{Outcome, groups_on}
 use Rattle.update.proofs.Demand.{demand3}
 use Rattle.mend.specs.Demand.{after}
 use Rattle.mend.proofs.Demand.{mended}

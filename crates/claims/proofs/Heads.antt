@@ -6,14 +6,10 @@ use mathlib.Core.Bool.{Bool, true, false, true≢false}
 use mathlib.Core.List.{List}
 use Rattle.endian.specs.Bytes.{same}
 use Rattle.endian.proofs.Tests.{same_equal, equal_same}
-use Rattle.layout.specs.declared.Device.{Device}
 use Rattle.layout.specs.declared.Side.TheVariants.{Front}
 use Rattle.layout.specs.Places.{block_sector}
 use Rattle.block.specs.declared.Time.{Time}
-use Rattle.items.specs.Head.{head_of, block_size}
-use Rattle.items.specs.Items.{segments}
-use Rattle.crash.specs.Crash.{Sectors, copy_from}
-use Rattle.stores.specs.States.{Answered}
+use Rattle.crash.specs.Crash.{copy_from}
 use Rattle.update.specs.Update.{new_block}
 use Rattle.update.specs.Demand.{Outcome}
 use Rattle.update.proofs.Demand.{demand3}

@@ -1,6 +1,6 @@
 -- Copies in memory follow the device.
 use Prim.Native.Nat.{ℕ, ◌≤◌, ◌<◌}
-use mathlib.Core.Path.{◌≡◌, refl, sym, ap, ap₂, subst, ◌∙◌}
+use mathlib.Core.Path.{◌≡◌, sym, ap, ap₂, subst, ◌∙◌}
 use mathlib.Core.List.{List}
 use native.Mathlib.Nat.{le_refl}
 use native.Mathlib.Omega.{arith}
@@ -14,22 +14,19 @@ use Rattle.layout.specs.Limits.{device_tests}
 use Rattle.block.specs.declared.Time.{Time}
 use Rattle.block.specs.Block.{device_of, read_tests}
 use Rattle.block.proofs.Readings.{ascending}
-use Rattle.copy.specs.Copy.{block_in, device_in}
+use Rattle.copy.specs.Copy.{block_in}
 use Rattle.discovery.specs.Discovery.{copy_on}
 use Rattle.crash.specs.Crash.{Sectors, Sound, Groups, stores, store_in, landed, copy_from, all_landed}
 use Rattle.stores.specs.declared.Given.{Given}
 use Rattle.stores.specs.declared.Given.TheVariants.{At}
-use Rattle.stores.specs.States.{InStepOn, Ready, Answered, AllFit}
+use Rattle.stores.specs.States.{InStepOn, AllFit}
 use Rattle.stores.proofs.InStep.{in_step_facts}
-use Rattle.update.specs.Plan as Update
 use Rattle.update.specs.Demand as UpdateDemand
 use Rattle.update.proofs.Demand as Updates
-use Rattle.mend.specs.Plan as Mend
 use Rattle.mend.specs.Demand as MendDemand
 use Rattle.mend.proofs.Kept.{kept}
 use Rattle.mend.proofs.Demand as Mends
 use Rattle.sectors.proofs.Applying.{following}
-use Rattle.claims.specs.Chain.{Starts}
 use Rattle.claims.specs.InMemory.{held, Along, Updating, Mending}
 use Rattle.claims.proofs.Chain.{landing}
 

@@ -24,7 +24,6 @@ use Rattle.block.specs.Writing.{holding_of, block_of, write_tests, written}
 use Rattle.discovery.specs.declared.Finding.{Finding}
 use Rattle.discovery.specs.declared.Other.{Other}
 use Rattle.discovery.specs.declared.Answer.{Answer}
-use Rattle.discovery.specs.declared.Answer.TheVariants as Answer
 use Rattle.copy.specs.Copy.{is_copy, block_in, area_bytes, entry_in, other_area, other_side, whole, newest, reading_in}
 use Rattle.discovery.specs.Discovery.{sized, discovery, is_in_step, copy_on, record_bytes}
 use Rattle.discovery.specs.Newest.{time_at}
@@ -34,9 +33,7 @@ use Rattle.stores.specs.declared.Part.{Part}
 use Rattle.update.specs.declared.Plan.{Plan}
 use Rattle.record.specs.Accept.{named}
 use Rattle.update.specs.declared.Planned.{Planned}
-use Rattle.update.specs.declared.Planned.TheVariants as Planned
 use Rattle.stores.specs.declared.Given.{Given}
-use Rattle.stores.specs.declared.Given.TheVariants as Given
 use Rattle.update.specs.Update.{tests_after, number_after, update_number, new_block, update_groups}
 use Rattle.stores.specs.Stores.{sectors_of, holding_for, with_entry, record_stores, block_store}
 use Rattle.update.specs.Plan.{plan_for, plan_of, planned, sectors_in, stores_in, part_on, store_tests, sides_answer, sides_bytes}
@@ -44,7 +41,6 @@ use Rattle.stores.specs.Given.{sector_in, within, unless_refused, block_answer, 
 use Rattle.update.specs.Plan as Update
 use Rattle.mend.specs.declared.Rewrite.{Rewrite}
 use Rattle.mend.specs.declared.Mending.{Mending}
-use Rattle.mend.specs.declared.Mending.TheVariants as Mending
 use Rattle.mend.specs.Mend.{block_like, emptied, refilled, blanked, later_whole, last_group, rewriting, groups_after, mend_groups}
 use Rattle.mend.specs.Plan.{rewrite_of, mending_after, mending, plan_stores, part_for, rewrite_answer, rewrite_bytes, needed_tests, none_number}
 use Rattle.mend.specs.Plan as Mend

@@ -1,14 +1,15 @@
-// After the stores: what is found is read back from the drive and printed. Assumes what `libc` and `os` do.
+// After the stores: what is found is read back from the drive and printed. Assumes what `io` and `std` do.
 use crate::copies::Look;
-use crate::say::{note, print};
+use crate::image::Drive;
+use crate::say::{Output, note, print};
 use crate::storing::Work;
-use crate::{copies, facts, image, storing};
+use crate::{copies, facts, storing};
 use block::Time;
 use discovery::Answer;
 use text::Text;
 
 // The time that the record has to have that is found afterwards, or none.
-#[derive(Drop)]
+#[derive(Clone, Copy)]
 pub(crate) struct Expected {
     pub given: bool,
     pub time: Time,
@@ -34,14 +35,14 @@ fn right(a: Answer, e: Expected) -> bool {
 }
 
 // Reads the copies from the drive again and prints what is found. With `step` it has to be in step, on the record that was to be
-// found.
-fn read_back(path: &[u8], fd: i32, identity: bool, step: bool, e: Expected) -> u8 {
-    image::forget(fd);
+// found. The command's program in C lets go of what is kept of the image in memory with each flush, so that it is read from the
+// device.
+fn read_back(path: &[u8], drive: Drive<'_>, identity: bool, step: bool, e: Expected) -> u8 {
     let mut front = [0u8; copies::BYTES];
     let mut back = [0u8; copies::BYTES];
     let mut fm = [0u8; copies::SECTORS];
     let mut bm = [0u8; copies::SECTORS];
-    let look = copies::read(fd, &mut front, &mut back, &mut fm, &mut bm);
+    let look = copies::read(drive, &mut front, &mut back, &mut fm, &mut bm);
     copies::note_unread(path, look, &fm, &bm);
     let v = discovery::examine(&front, &back);
     let a = v.answer;
@@ -61,26 +62,27 @@ fn read_back(path: &[u8], fd: i32, identity: bool, step: bool, e: Expected) -> u
             Text::new().add(b"read back: not what was stored, or not in step; look with check"),
         );
     }
-    facts::unless(ok & good, facts::FAILED)
+    facts::unless(ok.good & good, facts::FAILED)
 }
 
 // Prints what discovery answered for the copies that were read back.
 fn print_state(
     path: &[u8],
-    look: Look,
+    look: Look<'_>,
     identity: bool,
     a: Answer,
     front: &[u8],
     back: &[u8],
     unread: bool,
-) -> bool {
+) -> Output {
+    let out = look.drive.out;
     match a {
         Answer::Refused(n) => {
             facts::refuse_found(path, look, n);
-            true
+            out
         }
         Answer::Found(_, _) => {
-            let found = facts::print_answer(true, look, unread, front, back);
+            let found = facts::print_answer(out, look, unread, front, back);
             if identity {
                 return facts::print_identity(found, front, back);
             }
@@ -90,13 +92,13 @@ fn print_state(
 }
 
 // Prints what is found after stores that all went well.
-pub(crate) fn report(path: &[u8], fd: i32, identity: bool, e: Expected) -> u8 {
-    read_back(path, fd, identity, true, e)
+pub(crate) fn report(path: &[u8], drive: Drive<'_>, identity: bool, e: Expected) -> u8 {
+    read_back(path, drive, identity, true, e)
 }
 
 // Prints what is found after a store that failed.
-pub(crate) fn report_failed(path: &[u8], fd: i32) -> u8 {
-    read_back(path, fd, false, false, any());
+pub(crate) fn report_failed(path: &[u8], drive: Drive<'_>) -> u8 {
+    read_back(path, drive, false, false, any());
     note(
         path,
         Text::new().add(b"what is found now is in force; look with check, then mend"),
@@ -105,14 +107,14 @@ pub(crate) fn report_failed(path: &[u8], fd: i32) -> u8 {
 }
 
 // Prints what is found after a backup was restored, which need not have been in step.
-pub(crate) fn restored(path: &[u8], fd: i32) -> u8 {
-    read_back(path, fd, false, false, any())
+pub(crate) fn restored(path: &[u8], drive: Drive<'_>) -> u8 {
+    read_back(path, drive, false, false, any())
 }
 
 // Prints that all was stored; where that fails, says so on standard error.
-pub(crate) fn said(path: &[u8], t: Text) -> bool {
-    let ok = print(true, t);
-    if !ok {
+pub(crate) fn said(path: &[u8], out: Output, t: Text) -> Output {
+    let ok = print(out, t);
+    if !ok.good {
         note(path, Text::new().add(b"all was stored"));
     }
     ok
@@ -121,21 +123,25 @@ pub(crate) fn said(path: &[u8], t: Text) -> bool {
 // Writes the stores of a list, says so with a first word, and prints what is then found.
 pub(crate) fn carried_out(
     path: &[u8],
-    fd: i32,
+    drive: Drive<'_>,
     w: Work,
     list: &[u8],
     first: &[u8],
     e: Expected,
 ) -> u8 {
-    if !storing::write_all(fd, path, w, list) {
-        return report_failed(path, fd);
+    if !storing::write_all(drive.image, path, w, list) {
+        return report_failed(path, drive);
     }
     let ok = said(
         path,
+        drive.out,
         Text::new()
             .add(first)
             .decimal(storing::count(w))
             .add(b" stores\n"),
     );
-    facts::worse(facts::unless(ok, facts::FAILED), report(path, fd, false, e))
+    facts::worse(
+        facts::unless(ok.good, facts::FAILED),
+        report(path, drive, false, e),
+    )
 }

@@ -1,10 +1,11 @@
-// The command line: its word, its arguments by their numbers, and its options. A word or an option that is not known is said, and
-// then nothing is opened. Assumes what `io`, `os` and `libc` do.
+// The command line: its word, its arguments by their numbers, and its options. It is lent with all its arguments one after the other,
+// each ended by a zero byte, the program's name first. A word or an option that is not known is said, and then nothing is opened.
+// Assumes what `io` does.
 use crate::say::{complain, complain_text};
 use text::Text;
 
 // The command's words.
-#[derive(Drop)]
+#[derive(Clone, Copy)]
 pub(crate) enum Word {
     Find,
     Check,
@@ -25,6 +26,12 @@ pub(crate) enum Word {
     Version,
     Unknown,
 }
+
+// The most bytes of an argument.
+const LONGEST: usize = 4096;
+
+// What ends an argument.
+const END: u8 = 0;
 
 // Places among a request's arguments: those that are no options, then the values of options.
 pub(crate) const IMAGE: usize = 0;
@@ -54,7 +61,7 @@ const NOWHERE: usize = 10;
 
 // What may follow a word: how many arguments have to, whether it writes to the image and so takes --dry-run, which last words it
 // takes, and whether it has the options of `format` or of `show`.
-#[derive(Drop)]
+#[derive(Clone, Copy)]
 pub(crate) struct Rules {
     pub arguments: usize,
     pub writes: bool,
@@ -66,7 +73,7 @@ pub(crate) struct Rules {
 }
 
 // What is asked for. An argument is its number on the command line, 0 where it is not given.
-#[derive(Drop)]
+#[derive(Clone, Copy)]
 pub(crate) struct Request {
     pub word: Word,
     pub good: bool,
@@ -358,15 +365,57 @@ fn is_option(s: &[u8]) -> bool {
     s[0] == 45
 }
 
-// A request with argument i of the command line.
-fn taken(p: Request, i: usize) -> Request {
-    let mut buffer = io::buffer();
-    let n = os::arg(i, &mut buffer);
-    if os::errno() != 0 {
+// How many bytes stand before the next `end` in s, from a place on.
+fn length_to(s: &[u8], from: usize, end: u8) -> usize {
+    let rest = endian::window(s, from, s.len());
+    for i in 0..rest.len() {
+        if rest[i] == end {
+            return i;
+        }
+    }
+    rest.len()
+}
+
+// The piece of s that begins at a place: the bytes before the next `end`.
+pub(crate) fn piece(s: &[u8], from: usize, end: u8) -> &[u8] {
+    endian::window(s, from, length_to(s, from, end))
+}
+
+// Where the piece after it begins.
+fn after(s: &[u8], from: usize, end: u8) -> usize {
+    from.saturating_add(length_to(s, from, end))
+        .saturating_add(1)
+}
+
+// Where piece i begins, counted from 0.
+pub(crate) fn start_of(s: &[u8], i: usize, end: u8) -> usize {
+    let mut at = 0;
+    for _ in 0..i {
+        at = after(s, at, end);
+    }
+    at
+}
+
+// An argument by its number; no bytes where it is not given, or too long.
+pub(crate) fn argument(line: &[u8], i: usize) -> &[u8] {
+    let s = piece(line, start_of(line, i, END), END);
+    if LONGEST < s.len() {
+        return endian::window(s, 0, 0);
+    }
+    s
+}
+
+// How many arguments there are.
+fn count(line: &[u8]) -> usize {
+    line.iter().filter(|x| **x == END).count()
+}
+
+// A request with argument i of the command line, which is s.
+fn taken(p: Request, s: &[u8], i: usize) -> Request {
+    if LONGEST < s.len() {
         complain(b"amseokbin: an argument is too long\n");
         return wrong(p);
     }
-    let s = endian::window(&buffer, 0, n);
     let k = p.next;
     if k != NOWHERE {
         let mut q = with_at(p, k, i);
@@ -380,13 +429,8 @@ fn taken(p: Request, i: usize) -> Request {
 }
 
 // The word of the command line.
-fn first_word() -> Word {
-    let mut buffer = [0u8; 16];
-    let n = os::arg(1, &mut buffer);
-    if os::errno() != 0 {
-        return Word::Unknown;
-    }
-    word_of(endian::window(&buffer, 0, n))
+fn first_word(line: &[u8]) -> Word {
+    word_of(argument(line, 1))
 }
 
 // A request as it is when the command line has ended: wrong where something is missing.
@@ -416,23 +460,22 @@ fn is_known(w: Word) -> bool {
 }
 
 // The number after the last argument that is looked at.
-fn end_of(w: Word) -> usize {
+fn end_of(w: Word, line: &[u8]) -> usize {
     if is_known(w) {
-        return os::arg_count();
+        return count(line);
     }
     0
 }
 
 // What the command line asks for. Behind a word that is not known nothing is looked at.
-pub(crate) fn asked() -> Request {
-    let w = first_word();
-    let n = end_of(w);
+pub(crate) fn asked(line: &[u8]) -> Request {
+    let w = first_word(line);
+    let n = end_of(w, line);
     let mut p = begun(w);
-    let mut i = 2;
-    while i < n {
-        let next = taken(p, i);
-        p = next;
-        i += 1;
+    let mut at = start_of(line, 2, END);
+    for i in 2..n {
+        p = taken(p, piece(line, at, END), i);
+        at = after(line, at, END);
     }
     ended(p)
 }

@@ -1,16 +1,17 @@
 // The words `update`, `allocate`, `release`, `head` and `mark`: a new record in place of the present one, by an update that survives
-// a power cut. Assumes what `libc` and `os` do.
+// a power cut. Assumes what `io` and `std` do.
 use crate::after::Expected;
 use crate::copies::Look;
-use crate::say::{Got, note, print};
+use crate::say::{note, print};
 use crate::storing::Work;
-use crate::{after, copies, facts, say, sentences, storing};
+use crate::{after, copies, facts, files, say, sentences, storing};
 use allocation::{Allocation, Released};
 use block::Time;
 use discovery::Answer;
 use heads::{Change, Changed};
 use refusal::Refusal;
 use segments::Segment;
+use std::rt::Files;
 use text::Text;
 use update::Planned;
 
@@ -40,7 +41,7 @@ fn new_time(now: Time, present: Time) -> Time {
 }
 
 // Whether the copies can be changed at all: all that matters was read.
-pub(crate) fn sure(path: &[u8], look: Look) -> bool {
+pub(crate) fn sure(path: &[u8], look: Look<'_>) -> bool {
     if !look.sure {
         note(
             path,
@@ -59,7 +60,7 @@ fn planned(now: Time, front: &[u8], back: &[u8], r: &[u8]) -> Planned {
 // Puts a record in place of the present one, or lists the stores that would.
 fn apply(
     path: &[u8],
-    look: Look,
+    look: Look<'_>,
     now: Time,
     dry: bool,
     before: Text,
@@ -74,14 +75,15 @@ fn apply(
     let w = Work::Change(p);
     let mut list = [0u8; storing::LIST];
     let all = storing::work_out(w, front, back, r, &mut list);
-    let ok = print(true, before.decimal(storing::count(w)).add(b" stores\n"));
+    let out = look.drive.out;
+    let ok = print(out, before.decimal(storing::count(w)).add(b" stores\n"));
     if dry {
         return facts::unless(
-            storing::print_all(ok, w, r.len() as u64, &list) & all,
+            storing::print_all(ok, w, r.len() as u64, &list).good & all,
             facts::FAILED,
         );
     }
-    if !(ok & all) {
+    if !(ok.good & all) {
         return facts::nothing_stored(path);
     }
     let h = p.entry;
@@ -89,11 +91,11 @@ fn apply(
         given: true,
         time: facts::time_of(h),
     };
-    after::carried_out(path, look.fd, w, &list, b"updated: ", e)
+    after::carried_out(path, look.drive, w, &list, b"updated: ", e)
 }
 
 // The refusal of an update with the record r.
-fn refused(path: &[u8], look: Look, p: Planned, r: &[u8]) -> u8 {
+fn refused(path: &[u8], look: Look<'_>, p: Planned, r: &[u8]) -> u8 {
     match p {
         Planned::Refused(n) => {
             facts::note_short(path, look);
@@ -103,28 +105,28 @@ fn refused(path: &[u8], look: Look, p: Planned, r: &[u8]) -> u8 {
     }
 }
 
-// Reads a file, up to as many bytes as out has.
-fn read_file(file: &[u8], out: &mut [u8]) -> Got {
-    let fd = os::open_read(file);
-    if fd < 0 {
-        os::fail(file);
-        return Got {
-            bytes: 0,
-            good: false,
-        };
+// Reads a file, up to as many bytes as out has; how many, or nothing where it could not be read.
+fn read_file<R: Files>(rt: &R, file: &[u8], out: &mut [u8]) -> Option<usize> {
+    match files::open(rt, file) {
+        Ok(mut f) => match say::read_all(&mut f, out) {
+            Ok(n) => Some(n),
+            Err(e) => {
+                say::fail(file, e);
+                None
+            }
+        },
+        Err(e) => {
+            say::fail(file, e);
+            None
+        }
     }
-    let g = say::read_all(fd, out);
-    if !g.good {
-        os::fail(file);
-    }
-    libc::close(fd);
-    g
 }
 
 // The word `update`.
-pub(crate) fn update_word(
+pub(crate) fn update_word<R: Files>(
+    rt: &R,
     path: &[u8],
-    look: Look,
+    look: Look<'_>,
     now: Time,
     dry: bool,
     file: &[u8],
@@ -132,14 +134,13 @@ pub(crate) fn update_word(
     back: &[u8],
 ) -> u8 {
     let mut r = [0u8; copies::RECORD + 1];
-    let g = read_file(file, &mut r);
-    if !g.good {
+    let Some(bytes) = read_file(rt, file, &mut r) else {
         return facts::FAILED;
-    }
+    };
     if !sure(path, look) {
         return facts::FAILED;
     }
-    let s = endian::window(&r, 0, g.bytes);
+    let s = endian::window(&r, 0, bytes);
     let status = apply(path, look, now, dry, Text::new(), front, back, s);
     let n = record::check(look.device, s);
     if (status == facts::REFUSED) & (n.number != 0) {
@@ -157,7 +158,7 @@ fn segment_line(first: &[u8], position: u64, g: Segment) -> Text {
 // The word `allocate`, of a record that was found.
 fn allocate_in(
     path: &[u8],
-    look: Look,
+    look: Look<'_>,
     now: Time,
     dry: bool,
     kind: u16,
@@ -195,7 +196,7 @@ fn allocate_in(
 // The word `release`, of a record that was found.
 fn release_in(
     path: &[u8],
-    look: Look,
+    look: Look<'_>,
     now: Time,
     dry: bool,
     position: u64,
@@ -227,7 +228,7 @@ fn release_in(
 // The words `head` and `mark`, of a record that was found.
 fn head_in(
     path: &[u8],
-    look: Look,
+    look: Look<'_>,
     now: Time,
     dry: bool,
     change: Change,
@@ -253,7 +254,7 @@ fn head_in(
 // Says that the record stays as it is, where an update could put another in its place.
 fn unchanged(
     path: &[u8],
-    look: Look,
+    look: Look<'_>,
     now: Time,
     before: Text,
     front: &[u8],
@@ -264,12 +265,13 @@ fn unchanged(
     let Planned::Plan(_) = a else {
         return refused(path, look, a, r);
     };
-    let ok = print(true, before.add(b"the same record: nothing to store\n"));
-    facts::unless(ok, facts::FAILED)
+    let out = look.drive.out;
+    let ok = print(out, before.add(b"the same record: nothing to store\n"));
+    facts::unless(ok.good, facts::FAILED)
 }
 
 // The refusal of another head for the record r. An accepted one is refused with 17 where its head has no low water mark.
-fn refused_head(path: &[u8], look: Look, n: Refusal, r: &[u8]) -> u8 {
+fn refused_head(path: &[u8], look: Look<'_>, n: Refusal, r: &[u8]) -> u8 {
     let accepted = record::check(look.device, r).number == 0;
     if accepted & (n.number == refusal::RECORD_FORM) {
         note(path, sentences::no_mark());
@@ -280,7 +282,7 @@ fn refused_head(path: &[u8], look: Look, n: Refusal, r: &[u8]) -> u8 {
 
 // What is asked of the record: a new segment of a kind and so many sectors, the one at a position given back, another head, or
 // nothing that is known.
-#[derive(Drop)]
+#[derive(Clone, Copy)]
 pub(crate) enum Wish {
     Allocate(u16, u64),
     Release(u64),
@@ -291,7 +293,7 @@ pub(crate) enum Wish {
 // The words `allocate`, `release`, `head` and `mark`.
 pub(crate) fn wish_word(
     path: &[u8],
-    look: Look,
+    look: Look<'_>,
     now: Time,
     dry: bool,
     wish: Wish,
@@ -318,7 +320,7 @@ pub(crate) fn wish_word(
 }
 
 // The refusal of an answer of discovery.
-fn refused_found(path: &[u8], look: Look, a: Answer) -> u8 {
+fn refused_found(path: &[u8], look: Look<'_>, a: Answer) -> u8 {
     match a {
         Answer::Refused(n) => facts::refuse_found(path, look, n),
         Answer::Found(_, _) => facts::WELL,

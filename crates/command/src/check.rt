@@ -1,8 +1,8 @@
 // The word `check`: each copy, each of the four areas, what discovery finds, whether the copies are in step, and what mending would
-// do. Only reads. Assumes what `libc` and `os` do.
+// do. Only reads. Assumes what `io` and `std` do.
 use crate::copies::Look;
 use crate::facts::When;
-use crate::say::{note, print};
+use crate::say::{Output, note, print};
 use crate::{copies, facts, repair, sentences};
 use block::{BlockFields, Entry, Time, Verdict};
 use discovery::Answer;
@@ -38,7 +38,7 @@ fn used_read(marks: &[u8], f: BlockFields, x: Area) -> bool {
 }
 
 // Prints a copy whose block was read: the block, and both areas.
-fn print_copy(ok: bool, name: Text, c: &[u8], marks: &[u8], p: When) -> bool {
+fn print_copy(ok: Output, name: Text, c: &[u8], marks: &[u8], p: When) -> Output {
     let q = copy::read(c);
     let r = q.block;
     let v = r.verdict;
@@ -53,7 +53,7 @@ fn print_copy(ok: bool, name: Text, c: &[u8], marks: &[u8], p: When) -> bool {
 }
 
 // Prints a copy.
-fn print_side(ok: bool, side: Side, c: &[u8], marks: &[u8], p: When) -> bool {
+fn print_side(ok: Output, side: Side, c: &[u8], marks: &[u8], p: When) -> Output {
     let name = facts::add_side(Text::new(), side);
     if copies::block_read(marks) {
         return print_copy(ok, name, c, marks, p);
@@ -62,7 +62,7 @@ fn print_side(ok: bool, side: Side, c: &[u8], marks: &[u8], p: When) -> bool {
 }
 
 // Prints whether the found record r is accepted, with its refusal n, and how many segments and which head it has.
-fn print_record(ok: bool, n: Refusal, look: Look, r: &[u8]) -> bool {
+fn print_record(ok: Output, n: Refusal, look: Look<'_>, r: &[u8]) -> Output {
     if n.number != 0 {
         return print(
             ok,
@@ -81,7 +81,7 @@ fn print_record(ok: bool, n: Refusal, look: Look, r: &[u8]) -> bool {
 }
 
 // What is wrong with the copies, on standard error.
-fn note_wrong(path: &[u8], look: Look, step: bool, p: When, front: &[u8], back: &[u8]) {
+fn note_wrong(path: &[u8], look: Look<'_>, step: bool, p: When, front: &[u8], back: &[u8]) {
     facts::note_lost(path, look, true, p.time, front, back);
     if look.sure & !step {
         note(
@@ -92,7 +92,7 @@ fn note_wrong(path: &[u8], look: Look, step: bool, p: When, front: &[u8], back: 
 }
 
 // Prints whether the copies are in step, and what a mend would do. Where a sector that matters was not read, neither is known.
-fn print_step(ok: bool, look: Look, step: bool, m: Mending) -> bool {
+fn print_step(ok: Output, look: Look<'_>, step: bool, m: Mending) -> Output {
     if !look.sure {
         return print(
             ok,
@@ -110,12 +110,12 @@ fn print_step(ok: bool, look: Look, step: bool, m: Mending) -> bool {
 // Prints all that is known of two copies in which a record was found.
 fn print_found(
     path: &[u8],
-    look: Look,
+    look: Look<'_>,
     step: bool,
     p: When,
     front: &[u8],
     back: &[u8],
-    before: bool,
+    before: Output,
 ) -> u8 {
     let mut bytes = [0u8; copies::RECORD];
     let k = facts::read_record(front, back, &mut bytes);
@@ -127,13 +127,13 @@ fn print_found(
     facts::note_record(path, n, r);
     facts::worse(
         facts::unless(step & (n.number == 0), facts::REFUSED),
-        facts::unless(ok, facts::FAILED),
+        facts::unless(ok.good, facts::FAILED),
     )
 }
 
 pub(crate) fn run(
     path: &[u8],
-    look: Look,
+    look: Look<'_>,
     front: &[u8],
     back: &[u8],
     front_marks: &[u8],
@@ -144,14 +144,14 @@ pub(crate) fn run(
     let v = discovery::examine(front, back);
     let a = v.answer;
     let p = when_found(a);
-    let f = print_side(true, Side::Front, front, front_marks, p);
+    let f = print_side(look.drive.out, Side::Front, front, front_marks, p);
     let b = print_side(f, Side::Back, back, back_marks, p);
     match a {
         Answer::Refused(n) => {
             let ok = print_step(b, look, false, mend::work_out(front, back));
             let s = facts::worse(
                 facts::refuse_found(path, look, n),
-                facts::unless(ok, facts::FAILED),
+                facts::unless(ok.good, facts::FAILED),
             );
             facts::worse(sure, s)
         }

@@ -1,11 +1,13 @@
 // The two copies of a drive's metadata, read sector by sector, with a mark for each sector that could not be read: `sectors` says
-// which of them matter, and that what discovery answers does not depend on the others. Assumes what `libc` and `os` do.
+// which of them matter, and that what discovery answers does not depend on the others. Assumes what `io` and `std` do.
 ghost use Rattle.std.specs.Prelude.{◌<◌, ◌^◌};
 
 use crate::image;
+use crate::image::Drive;
 use crate::say::{note, reason};
 use block::Verdict;
 use layout::{Area, Device, Side};
+use std::fs::File;
 use text::Text;
 
 // The sectors of a header, the most bytes of a record, and the bytes and the sectors of a copy as it is lent.
@@ -19,16 +21,16 @@ pub(crate) const SECTORS: usize = BYTES / layout::SECTOR_BYTES;
 
 // What is known of an open image: its sectors, the device numbers by which its copies were found (0 sectors where no block is
 // accepted), and whether all that matters to discovery was read.
-#[derive(Drop)]
-pub(crate) struct Look {
-    pub fd: i32,
+#[derive(Clone, Copy)]
+pub(crate) struct Look<'a> {
+    pub drive: Drive<'a>,
     pub sectors: u64,
     pub device: Device,
     pub sure: bool,
 }
 
 // A run of sectors that could not be read, all for one reason; 0 for none.
-#[derive(Drop)]
+#[derive(Clone, Copy)]
 struct Run {
     first: u64,
     last: u64,
@@ -96,9 +98,9 @@ fn or_filler(e: u64, s: [u8; layout::SECTOR_BYTES]) -> [u8; layout::SECTOR_BYTES
 }
 
 // Reads sector i of a side's copy to its place, or leaves a mark.
-fn read_sector(fd: i32, side: Side, d: Device, i: usize, copy: &mut [u8], marks: &mut [u8]) {
+fn read_sector(image: &File, side: Side, d: Device, i: usize, copy: &mut [u8], marks: &mut [u8]) {
     let mut s = [0u8; layout::SECTOR_BYTES];
-    let e = image::read(fd, sectors::sector_at(side, d, i), &mut s);
+    let e = image::read(image, sectors::sector_at(side, d, i), &mut s);
     let t = or_filler(e, s);
     endian::put(copy, place(i), &t);
     let mark = [mark_of(e)];
@@ -115,7 +117,7 @@ fn place(i: usize) -> usize {
 
 // Reads the sectors of a side's copy from number `first` up to, not including, `end`.
 fn read_part(
-    fd: i32,
+    image: &File,
     side: Side,
     d: Device,
     first: usize,
@@ -125,7 +127,7 @@ fn read_part(
 ) {
     let mut i = first;
     while i < end {
-        read_sector(fd, side, d, i, copy, marks);
+        read_sector(image, side, d, i, copy, marks);
         i += 1;
     }
 }
@@ -148,7 +150,7 @@ fn sectors_for(d: Device) -> usize {
 }
 
 // Device numbers, and how many sectors of the back copy have been read when they are known.
-#[derive(Drop)]
+#[derive(Clone, Copy)]
 struct Located {
     device: Device,
     read: usize,
@@ -156,7 +158,7 @@ struct Located {
 
 // Reads the front's header, and the header at the image's end where the front's block is not accepted.
 fn read_headers(
-    fd: i32,
+    image: &File,
     n: u64,
     front: &mut [u8],
     back: &mut [u8],
@@ -169,10 +171,10 @@ fn read_headers(
         reserved: 0,
     };
     let ends = places(n, none);
-    read_part(fd, Side::Front, ends, 0, HEADER, front, front_marks);
+    read_part(image, Side::Front, ends, 0, HEADER, front, front_marks);
     let f = numbers_in(front, front_marks);
     let k = if f.sectors == 0 { HEADER } else { 0 };
-    read_part(fd, Side::Back, ends, 0, k, back, back_marks);
+    read_part(image, Side::Back, ends, 0, k, back, back_marks);
     Located {
         device: numbers(f, n, back, back_marks),
         read: k,
@@ -181,22 +183,23 @@ fn read_headers(
 
 // Reads both copies of an open image, each sector once: the headers, then the rest at the places that the accepted block gives.
 // Where none is accepted the headers are all.
-pub(crate) fn read(
-    fd: i32,
+pub(crate) fn read<'a>(
+    drive: Drive<'a>,
     front: &mut [u8],
     back: &mut [u8],
     front_marks: &mut [u8],
     back_marks: &mut [u8],
-) -> Look {
-    let n = image::sectors(fd);
-    let x = read_headers(fd, n, front, back, front_marks, back_marks);
+) -> Look<'a> {
+    let image = drive.image;
+    let n = image::sectors(image);
+    let x = read_headers(image, n, front, back, front_marks, back_marks);
     let d = x.device;
     let p = places(n, d);
     let m = sectors_for(d);
-    read_part(fd, Side::Front, p, HEADER, m, front, front_marks);
-    read_part(fd, Side::Back, p, x.read, m, back, back_marks);
+    read_part(image, Side::Front, p, HEADER, m, front, front_marks);
+    read_part(image, Side::Back, p, x.read, m, back, back_marks);
     Look {
-        fd: fd,
+        drive: drive,
         sectors: n,
         device: d,
         sure: sectors::settled(front, back, front_marks, back_marks),
@@ -267,7 +270,7 @@ fn note_marks(path: &[u8], side: Side, d: Device, marks: &[u8]) {
 }
 
 // Says which sectors could not be read, and, where one of them matters, that what is found may not be the newest.
-pub(crate) fn note_unread(path: &[u8], look: Look, front_marks: &[u8], back_marks: &[u8]) {
+pub(crate) fn note_unread(path: &[u8], look: Look<'_>, front_marks: &[u8], back_marks: &[u8]) {
     let d = places(look.sectors, look.device);
     note_marks(path, Side::Front, d, front_marks);
     // the two ends of a very short image are the same sectors

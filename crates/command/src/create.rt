@@ -1,20 +1,22 @@
 // The word `format`: two new copies, with a record that has no segments. Without `replace` only on a drive whose two ends are
-// readable and zero. Assumes what `libc` and `os` do.
+// readable and zero. Assumes what `io` and `std` do.
 ghost use Rattle.std.specs.Prelude.{◌≤◌};
 
 use crate::after::Expected;
+use crate::image::Drive;
 use crate::say::{note, reason};
 use crate::{after, copies, facts, image, sets};
 use block::{Time, Verdict};
 use items::Head;
 use layout::Device;
+use std::fs::File;
 use text::Text;
 
 // The largest size that a block or a record's head has room for.
 const LARGEST: u64 = 4294967295;
 
 // What is asked for, beside the image.
-#[derive(Drop)]
+#[derive(Clone, Copy)]
 pub(crate) struct Wanted {
     pub metadata: u64,
     pub reserved: u64,
@@ -29,7 +31,7 @@ pub(crate) struct Wanted {
 }
 
 // A look for the first sector that is not zero.
-#[derive(Drop)]
+#[derive(Clone, Copy)]
 struct Zeros {
     good: bool,
     sector: u64,
@@ -59,16 +61,16 @@ fn seen(e: u64, sector: u64, s: &[u8]) -> Zeros {
 }
 
 // Looks at a sector.
-fn look_at(fd: i32, sector: u64) -> Zeros {
+fn look_at(image: &File, sector: u64) -> Zeros {
     let mut s = [0u8; layout::SECTOR_BYTES];
-    let e = image::read(fd, sector, &mut s);
+    let e = image::read(image, sector, &mut s);
     seen(e, sector, &s)
 }
 
 // Looks at 128 sectors from a sector on.
-fn look_on(fd: i32, sector: u64) -> Zeros {
+fn look_on(image: &File, sector: u64) -> Zeros {
     let mut s = io::large_buffer();
-    let e = image::read(fd, sector, &mut s);
+    let e = image::read(image, sector, &mut s);
     seen(e, sector, &s)
 }
 
@@ -90,19 +92,19 @@ fn stride(left: u64) -> u64
 }
 
 // Looks at n sectors, 1 or 128.
-fn look(fd: i32, sector: u64, n: u64) -> Zeros {
+fn look(image: &File, sector: u64, n: u64) -> Zeros {
     if n == 128 {
-        return look_on(fd, sector);
+        return look_on(image, sector);
     }
-    look_at(fd, sector)
+    look_at(image, sector)
 }
 
 // Looks at the sectors from first up to, not including, end.
-fn look_through(fd: i32, first: u64, end: u64) -> Zeros {
+fn look_through(image: &File, first: u64, end: u64) -> Zeros {
     let mut at = first;
     while at < end {
         let step = stride(end - at);
-        let z = look(fd, at, step);
+        let z = look(image, at, step);
         if !z.good {
             return z;
         }
@@ -116,9 +118,9 @@ fn look_through(fd: i32, first: u64, end: u64) -> Zeros {
 }
 
 // Whether the front's block is a pool's.
-fn holds_pool(fd: i32) -> bool {
+fn holds_pool(image: &File) -> bool {
     let mut s = [0u8; layout::SECTOR_BYTES];
-    let e = image::read(fd, 1, &mut s);
+    let e = image::read(image, 1, &mut s);
     let r = block::read(&s);
     let v = r.verdict;
     match v {
@@ -138,13 +140,13 @@ fn add_there(t: Text, pool: bool) -> Text {
 }
 
 // Says why a drive is left alone, or that it is empty.
-fn empty(fd: i32, path: &[u8], z: Zeros) -> u8 {
+fn empty(image: &File, path: &[u8], z: Zeros) -> u8 {
     if z.good {
         return facts::WELL;
     }
     let t = Text::new().add(b"sector ").decimal(z.sector);
     if z.code == image::DONE {
-        note(path, add_there(t, holds_pool(fd)));
+        note(path, add_there(t, holds_pool(image)));
         return facts::REFUSED;
     }
     let from = Text::new()
@@ -156,29 +158,33 @@ fn empty(fd: i32, path: &[u8], z: Zeros) -> u8 {
 }
 
 // Whether the two ends of a device are readable and zero: 0, or the status where they are not.
-fn ends_empty(fd: i32, path: &[u8], d: Device) -> u8 {
-    let front = empty(fd, path, look_through(fd, 0, layout::data_start(d)));
+fn ends_empty(image: &File, path: &[u8], d: Device) -> u8 {
+    let front = empty(image, path, look_through(image, 0, layout::data_start(d)));
     if front != facts::WELL {
         return front;
     }
-    empty(fd, path, look_through(fd, layout::data_end(d), d.sectors))
+    empty(
+        image,
+        path,
+        look_through(image, layout::data_end(d), d.sectors),
+    )
 }
 
 // Writes two new copies and prints what is then found.
-fn write(fd: i32, path: &[u8], d: Device, w: Wanted, front: &[u8], back: &[u8]) -> u8 {
+fn write(drive: Drive<'_>, path: &[u8], d: Device, w: Wanted, front: &[u8], back: &[u8]) -> u8 {
     let marks = [0u8; copies::SECTORS];
     let mut set = [0u8; sets::BYTES];
     sets::fill(&mut set, d, front, back, &marks, &marks);
     let n = sets::count(&set);
-    let ok = sets::print_count(n);
-    if !ok {
+    let ok = sets::print_count(drive.out, n);
+    if !ok.good {
         return facts::nothing_stored(path);
     }
     if w.dry {
         return facts::WELL;
     }
-    if !sets::write_all(fd, path, &set) {
-        after::report_failed(path, fd);
+    if !sets::write_all(drive.image, path, &set) {
+        after::report_failed(path, drive);
         note(
             path,
             Text::new().add(b"not formatted; run it again with the word replace"),
@@ -187,6 +193,7 @@ fn write(fd: i32, path: &[u8], d: Device, w: Wanted, front: &[u8], back: &[u8]) 
     }
     let said = after::said(
         path,
+        drive.out,
         sets::add_sectors(Text::new().add(b"formatted: "), n).add(b"\n"),
     );
     let now = w.now;
@@ -195,8 +202,8 @@ fn write(fd: i32, path: &[u8], d: Device, w: Wanted, front: &[u8], back: &[u8]) 
         time: now,
     };
     facts::worse(
-        facts::unless(said, facts::FAILED),
-        after::report(path, fd, true, e),
+        facts::unless(said.good, facts::FAILED),
+        after::report(path, drive, true, e),
     )
 }
 
@@ -209,7 +216,7 @@ fn head_for(block: u32, w: Wanted) -> Head {
 }
 
 // Formats an open image, with a record that has this head and no segments.
-fn make(fd: i32, path: &[u8], d: Device, h: Head, w: Wanted) -> u8 {
+fn make(drive: Drive<'_>, path: &[u8], d: Device, h: Head, w: Wanted) -> u8 {
     let mut bytes = [0u8; items::MARKED_HEAD_BYTES];
     let begun = items::begin(&mut bytes, h);
     if begun != 0 {
@@ -233,16 +240,16 @@ fn make(fd: i32, path: &[u8], d: Device, h: Head, w: Wanted) -> u8 {
     let status = if w.replace {
         facts::WELL
     } else {
-        ends_empty(fd, path, d)
+        ends_empty(drive.image, path, d)
     };
     if status != facts::WELL {
         return status;
     }
-    write(fd, path, d, w, &front, &back)
+    write(drive, path, d, w, &front, &back)
 }
 
 // The word `format`.
-pub(crate) fn run(path: &[u8], fd: i32, w: Wanted) -> u8 {
+pub(crate) fn run(path: &[u8], drive: Drive<'_>, w: Wanted) -> u8 {
     if LARGEST < w.metadata {
         return facts::refuse(path, refusal::METADATA_SIZE);
     }
@@ -251,9 +258,9 @@ pub(crate) fn run(path: &[u8], fd: i32, w: Wanted) -> u8 {
     }
     let block = if LARGEST < w.block { 0 } else { w.block };
     let d = Device {
-        sectors: image::sectors(fd),
+        sectors: image::sectors(drive.image),
         metadata: (w.metadata % 4294967296) as u32,
         reserved: (w.reserved % 4294967296) as u32,
     };
-    make(fd, path, d, head_for((block % 4294967296) as u32, w), w)
+    make(drive, path, d, head_for((block % 4294967296) as u32, w), w)
 }

@@ -1,7 +1,7 @@
 // What is printed of a drive by more than one word: what discovery found, whose pool it is, times, sizes, and what is wrong.
-// Assumes what `libc` and `os` do.
+// Assumes what `io` and `std` do.
 use crate::copies::Look;
-use crate::say::{note, print};
+use crate::say::{Output, lost, note, print, put};
 use crate::{copies, image, sentences};
 use block::{BlockFields, Entry, Holding, Reading, Time, Verdict};
 use calendar::Dated;
@@ -33,14 +33,14 @@ pub(crate) fn unless(ok: bool, status: u8) -> u8 {
 }
 
 // Whether a record was found, and its time.
-#[derive(Drop)]
+#[derive(Clone, Copy)]
 pub(crate) struct When {
     pub found: bool,
     pub time: Time,
 }
 
 // What a copy's later entry is, where its area is not whole and its time is later than a given one.
-#[derive(Drop)]
+#[derive(Clone, Copy)]
 pub(crate) enum Torn {
     At(Area, Holding),
     Nothing,
@@ -156,7 +156,14 @@ fn note_torn(path: &[u8], first: Text, side: Side, c: &[u8], t: Time) {
 }
 
 // The same of both sides, where their areas were read.
-pub(crate) fn note_lost(path: &[u8], look: Look, loud: bool, t: Time, front: &[u8], back: &[u8]) {
+pub(crate) fn note_lost(
+    path: &[u8],
+    look: Look<'_>,
+    loud: bool,
+    t: Time,
+    front: &[u8],
+    back: &[u8],
+) {
     if !look.sure {
         return;
     }
@@ -200,7 +207,7 @@ pub(crate) fn refuse_record(path: &[u8], n: Refusal, r: &[u8]) -> u8 {
 }
 
 // Says of an image in which no block is accepted that it is shorter than any pool, where it is.
-pub(crate) fn note_short(path: &[u8], look: Look) {
+pub(crate) fn note_short(path: &[u8], look: Look<'_>) {
     let d = look.device;
     if (d.sectors == 0) & (look.sectors < layout::LEAST_SECTORS) {
         note(
@@ -216,7 +223,7 @@ pub(crate) fn note_short(path: &[u8], look: Look) {
 }
 
 // A refusal by discovery: where no block is accepted in an image that is shorter than any pool, that is said.
-pub(crate) fn refuse_found(path: &[u8], look: Look, n: u8) -> u8 {
+pub(crate) fn refuse_found(path: &[u8], look: Look<'_>, n: u8) -> u8 {
     note_short(path, look);
     refuse(path, n)
 }
@@ -231,7 +238,7 @@ pub(crate) fn read_record(front: &[u8], back: &[u8], out: &mut [u8]) -> usize {
 }
 
 // How many segments a record has; 0 where it is not accepted.
-pub(crate) fn segments(look: Look, r: &[u8]) -> u64 {
+pub(crate) fn segments(look: Look<'_>, r: &[u8]) -> u64 {
     let c = record::read_count(look.device, r);
     match c {
         Counted::Refused(_) => 0,
@@ -250,7 +257,14 @@ pub(crate) fn note_record(path: &[u8], n: Refusal, r: &[u8]) {
 }
 
 // What is wrong with a drive whose record was found, as notes.
-pub(crate) fn note_state(path: &[u8], look: Look, step: bool, t: Time, front: &[u8], back: &[u8]) {
+pub(crate) fn note_state(
+    path: &[u8],
+    look: Look<'_>,
+    step: bool,
+    t: Time,
+    front: &[u8],
+    back: &[u8],
+) {
     note_lost(path, look, false, t, front, back);
     if look.sure & !step {
         note(
@@ -295,14 +309,20 @@ fn perhaps(r: Finding, o: Other, unread: bool) -> Text {
 }
 
 // Prints the line for what discovery answers: the dump's, where all that matters was read.
-pub(crate) fn print_answer(ok: bool, look: Look, unread: bool, front: &[u8], back: &[u8]) -> bool {
+pub(crate) fn print_answer(
+    ok: Output,
+    look: Look<'_>,
+    unread: bool,
+    front: &[u8],
+    back: &[u8],
+) -> Output {
     if look.sure {
         let mut line = [0u8; dump_line::LINE_BYTES];
         let w = dump_line::line(front, back, &mut line);
         let Written::Length(k) = w else {
-            return false;
+            return lost(ok);
         };
-        return crate::say::put(ok, endian::window(&line, 0, k));
+        return put(ok, endian::window(&line, 0, k));
     }
     let a = discovery::discover(front, back);
     match a {
@@ -312,12 +332,12 @@ pub(crate) fn print_answer(ok: bool, look: Look, unread: bool, front: &[u8], bac
 }
 
 // Prints a UUID after its first words.
-pub(crate) fn print_uuid(ok: bool, first: Text, uuid: [u8; 32]) -> bool {
+pub(crate) fn print_uuid(ok: Output, first: Text, uuid: [u8; 32]) -> Output {
     print(ok, first.add(&uuid).add(b"\n"))
 }
 
 // Prints the identity that a block says, where it is accepted, each line after its first words.
-pub(crate) fn print_block(ok: bool, first: Text, r: Reading) -> bool {
+pub(crate) fn print_block(ok: Output, first: Text, r: Reading) -> Output {
     let v = r.verdict;
     let Verdict::Accepted(x) = v else {
         return ok;
@@ -352,7 +372,7 @@ pub(crate) fn first_reading(front: &[u8], back: &[u8]) -> Reading {
 }
 
 // Prints the identity of the pool.
-pub(crate) fn print_identity(ok: bool, front: &[u8], back: &[u8]) -> bool {
+pub(crate) fn print_identity(ok: Output, front: &[u8], back: &[u8]) -> Output {
     print_block(ok, Text::new(), first_reading(front, back))
 }
 
@@ -388,28 +408,28 @@ fn area_of(name: Text, x: Area) -> Text {
 
 // Prints an area of a copy whose block is accepted: whether what it uses was read, and is whole.
 pub(crate) fn print_area(
-    ok: bool,
+    ok: Output,
     name: Text,
     f: BlockFields,
     x: Area,
     read: bool,
     whole: bool,
     p: When,
-) -> bool {
+) -> Output {
     print(ok, area_line(area_of(name, x), f, x, read, whole, p))
 }
 
 // Prints that a copy's block is accepted.
-pub(crate) fn print_accepted(ok: bool, name: Text) -> bool {
+pub(crate) fn print_accepted(ok: Output, name: Text) -> Output {
     print(ok, name.add(b" block accepted\n"))
 }
 
 // Prints that a copy's block was not read, or is refused, and that nothing is known of the areas.
-pub(crate) fn print_unread(ok: bool, name: Text) -> bool {
+pub(crate) fn print_unread(ok: Output, name: Text) -> Output {
     print_unknown(print(ok, name.add(b" block unread\n")), name)
 }
 
-pub(crate) fn print_refused(ok: bool, name: Text, n: u8) -> bool {
+pub(crate) fn print_refused(ok: Output, name: Text, n: u8) -> Output {
     let a = print(ok, block_refused(name, n).add(b"\n"));
     print_unknown(a, name)
 }
@@ -419,7 +439,7 @@ pub(crate) fn block_refused(name: Text, n: u8) -> Text {
     sentences::refused(name.add(b" block "), n)
 }
 
-fn print_unknown(ok: bool, name: Text) -> bool {
+fn print_unknown(ok: Output, name: Text) -> Output {
     let a = print(ok, area_of(name, Area::A).add(b"unknown\n"));
     print(a, area_of(name, Area::B).add(b"unknown\n"))
 }

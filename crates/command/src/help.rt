@@ -1,10 +1,10 @@
-// The command's help: a page for all words, and a page for each. Assumes what `libc` and `os` do.
+// The command's help: a page for all words, and a page for each. Assumes what `io` and `std` do.
 use crate::arguments::Word;
-use crate::say::{complain, put};
+use crate::say::{Output, complain, put};
 use crate::{arguments, facts};
 
 // The page for all words. Blanks at the start of a line stand before the end of the one above: after it they are left out.
-fn overview(ok: bool) -> bool {
+fn overview(ok: Output) -> Output {
     let a = put(
         ok,
         b"usage: amseokbin WORD IMAGE ..   IMAGE is a drive image or a block device\n\
@@ -74,10 +74,10 @@ fn put_error(s: &[u8]) -> bool {
 }
 
 // The page of a word.
-fn page(w: Word) -> bool {
+fn page(out: Output, w: Word) -> Output {
     match w {
         Word::Find => put(
-            true,
+            out,
             b"usage: amseokbin find IMAGE\n\
 \n\
 Prints what discovery answers: `found`, the copy (front or back), the area (a or b), the record's bytes, its seconds and\n\
@@ -86,7 +86,7 @@ place of `found` where a sector that matters could not be read. Standard error s
 a newer record that is torn, a record that is no segment record.\n",
         ),
         Word::Check => put(
-            true,
+            out,
             b"usage: amseokbin check IMAGE\n\
 \n\
 Reads both copies and prints for each its block and its two areas: whole, torn, unused, unread or unknown, the bytes\n\
@@ -94,28 +94,28 @@ and the time of each; what is found; whether the record is accepted, and its hea
 mend would do. Status 0 only where all is well.\n",
         ),
         Word::Show => put(
-            true,
+            out,
             b"usage: amseokbin show IMAGE [--plain] [--width N]\n\
 \n\
 Shows the pool for people: identity, time, head, every segment, what is free, and a picture of the drive, as wide as the\n\
 terminal or N characters, 20 to 240. --plain prints one key=value a line instead, for scripts.\n",
         ),
-        Word::Format => format_page(),
+        Word::Format => format_page(out),
         Word::Mend => put(
-            true,
+            out,
             b"usage: amseokbin mend IMAGE [--dry-run] [unreadable]\n\
 \n\
 Brings the two copies in step: keeps the copy with the newest whole record and rewrites the other. --dry-run lists the\n\
 stores and writes nothing. The word unreadable goes on where sectors of the copy that is rewritten could not be read;\n\
 all that matters of the copy that is kept has to be readable.\n",
         ),
-        _ => later_page(w),
+        _ => later_page(out, w),
     }
 }
 
-fn format_page() -> bool {
+fn format_page(out: Output) -> Output {
     put(
-        true,
+        out,
         b"usage: amseokbin format IMAGE [--pool UUID] [--device UUID] [--metadata SIZE] [--reserved SIZE] [--block SIZE]\n                        \
 [--low-water BLOCKS] [--dry-run] [replace]\n\
 \n\
@@ -127,23 +127,23 @@ mark, 0 to 4294967295; without it of kind 16, which has none.\n",
     )
 }
 
-fn later_page(w: Word) -> bool {
+fn later_page(out: Output, w: Word) -> Output {
     match w {
         Word::Allocate => put(
-            true,
+            out,
             b"usage: amseokbin allocate IMAGE KIND SIZE [--dry-run]\n\
 \n\
 Adds a segment at the start of the first free run that is long enough, by an update that survives a power cut. KIND is\n\
 thin-metadata, thin-data, spare or metadata-volume, or 1 to 4; SIZE is in sectors, or has K, M, G or T behind it.\n",
         ),
         Word::Release => put(
-            true,
+            out,
             b"usage: amseokbin release IMAGE POSITION [--dry-run]\n\
 \n\
 Removes the segment at a position, counted from 0 as show lists them, by an update that survives a power cut.\n",
         ),
         Word::Head => put(
-            true,
+            out,
             b"usage: amseokbin head IMAGE up|back [--dry-run]\n\
 \n\
 Moves the record's head, by an update that survives a power cut: up to kind 17, with the low water mark 0, or back to kind\n\
@@ -151,29 +151,29 @@ Moves the record's head, by an update that survives a power cut: up to kind 17, 
 Where the head is of that kind already, nothing is stored.\n",
         ),
         Word::Mark => put(
-            true,
+            out,
             b"usage: amseokbin mark IMAGE BLOCKS [--dry-run]\n\
 \n\
 Sets the low water mark, 0 to 4294967295 blocks, by an update that survives a power cut. Only a head of kind 17 has one:\n\
 amseokbin head IMAGE up makes it. Where the mark is that already, nothing is stored.\n",
         ),
         Word::Update => put(
-            true,
+            out,
             b"usage: amseokbin update IMAGE RECORD [--dry-run]\n\
 \n\
 Puts the record in the file RECORD in place of the present one, in four groups of stores with a flush after each: whenever\n\
 power goes, the old record or the new one is found. --dry-run lists the stores.\n",
         ),
         Word::Record => put(
-            true,
+            out,
             b"usage: amseokbin record IMAGE\n\nPrints the present record's bytes, for a file.\n",
         ),
         Word::Dump => put(
-            true,
+            out,
             b"usage: amseokbin dump IMAGE\n\nPrints both copies' bytes, front and back, as the program dump reads them.\n",
         ),
         Word::Receive => put(
-            true,
+            out,
             b"usage: amseokbin receive [both]\n\
 \n\
 Reads a copy from standard input, in whatever pieces it comes, and keeps none of it. Prints its block, whose pool it is, its\n\
@@ -183,43 +183,41 @@ newer is torn, no byte more comes, and two copies are of one drive, with records
 they are in step only check can tell. From a terminal it ends with the last byte; on one, standard error says how many came.\n",
         ),
         Word::Backup => put(
-            true,
+            out,
             b"usage: amseokbin backup IMAGE FILE\n\nKeeps both copies in a new file. Do that before any repair.\n",
         ),
         Word::Restore => put(
-            true,
+            out,
             b"usage: amseokbin restore IMAGE FILE [--dry-run] [replace]\n\
 \n\
 Puts both copies back as a backup has them. Where the drive has no accepted block of that pool and device, nothing is\n\
 written, unless the word replace is given.\n",
         ),
-        _ => overview(true),
+        _ => overview(out),
     }
 }
 
 // Prints the page of a word; its status.
-pub(crate) fn print_word(w: Word) -> u8 {
-    facts::unless(page(w), facts::FAILED)
+pub(crate) fn print_word(out: Output, w: Word) -> u8 {
+    facts::unless(page(out, w).good, facts::FAILED)
 }
 
 // The word `help`, with the number of the argument that names a word, or 0.
-pub(crate) fn run(i: usize) -> u8 {
+pub(crate) fn run(out: Output, line: &[u8], i: usize) -> u8 {
     if i == 0 {
-        return facts::unless(overview(true), facts::FAILED);
+        return facts::unless(overview(out).good, facts::FAILED);
     }
-    let mut buffer = [0u8; 16];
-    let n = os::arg(i, &mut buffer);
-    let w = arguments::word_of(endian::window(&buffer, 0, n));
+    let w = arguments::word_of(arguments::argument(line, i));
     match w {
-        Word::Unknown => unknown(i),
-        _ => print_word(w),
+        Word::Unknown => unknown(line, i),
+        _ => print_word(out, w),
     }
 }
 
 // The version.
-pub(crate) fn version() -> u8 {
+pub(crate) fn version(out: Output) -> u8 {
     facts::unless(
-        put(true, b"amseokbin 0.4, for the Stratis 0.6 layout\n"),
+        put(out, b"amseokbin 0.4, for the Stratis 0.6 layout\n").good,
         facts::FAILED,
     )
 }
@@ -231,15 +229,14 @@ pub(crate) fn wrong(w: Word) -> u8 {
 }
 
 // A word that is not known, as argument i has it, or none.
-pub(crate) fn unknown(i: usize) -> u8 {
-    let mut buffer = io::buffer();
-    let n = os::arg(i, &mut buffer);
-    if n == 0 {
+pub(crate) fn unknown(line: &[u8], i: usize) -> u8 {
+    let s = arguments::argument(line, i);
+    if s.len() == 0 {
         complain(b"amseokbin: a word is missing\n");
         return wrong(Word::Unknown);
     }
     complain(b"amseokbin: no such word: ");
-    complain(endian::window(&buffer, 0, n));
+    complain(s);
     complain(b"\n");
     wrong(Word::Unknown)
 }

@@ -1,10 +1,13 @@
 // The words `record`, `dump`, `backup` and `restore`: bytes out of the drive, and back. A backup is a page of 512 bytes (its name,
-// the image's sectors, the checksum of all the rest) and then the set of both copies. Assumes what `libc` and `os` do.
+// the image's sectors, the checksum of all the rest) and then the set of both copies. Assumes what `io` and `std` do.
 use crate::copies::Look;
-use crate::say::{complain, note, print, put};
-use crate::{after, change, copies, facts, say, sets};
+use crate::say::{Output, complain, note, print, put};
+use crate::{after, change, copies, facts, files, say, sets};
 use block::{Reading, Verdict};
 use discovery::Answer;
+use std::fs::OpenFile;
+use std::io::{Error, IsTerminal, Read, Write};
+use std::rt::Files;
 use text::Text;
 
 // The bytes of a backup's first page, and of all of it.
@@ -16,8 +19,8 @@ const FILE: usize = PAGE + sets::BYTES;
 const CHECKSUM: usize = 40;
 
 // Whether standard output can take bytes that are no text: not where it is a terminal.
-fn no_terminal() -> bool {
-    if libc::isatty(libc::STDOUT_FILENO) == 1 {
+fn no_terminal(out: Output) -> bool {
+    if out.to.is_terminal() {
         complain(b"amseokbin: what is asked for is no text; send it to a file\n");
         return false;
     }
@@ -25,8 +28,8 @@ fn no_terminal() -> bool {
 }
 
 // The word `record`: the present record's bytes.
-pub(crate) fn record_word(path: &[u8], look: Look, front: &[u8], back: &[u8]) -> u8 {
-    if !no_terminal() {
+pub(crate) fn record_word(path: &[u8], look: Look<'_>, front: &[u8], back: &[u8]) -> u8 {
+    if !no_terminal(look.drive.out) {
         return facts::USAGE;
     }
     let sure = facts::unless(look.sure, facts::FAILED);
@@ -35,14 +38,14 @@ pub(crate) fn record_word(path: &[u8], look: Look, front: &[u8], back: &[u8]) ->
     match a {
         Answer::Refused(n) => facts::worse(sure, facts::refuse_found(path, look, n)),
         Answer::Found(q, _) => {
-            let ok = put(true, endian::window(&r, 0, q.bytes as usize));
-            facts::worse(sure, facts::unless(ok, facts::FAILED))
+            let ok = put(look.drive.out, endian::window(&r, 0, q.bytes as usize));
+            facts::worse(sure, facts::unless(ok.good, facts::FAILED))
         }
     }
 }
 
 // Whether the copies have places: a block is accepted.
-fn placed(path: &[u8], look: Look) -> bool {
+fn placed(path: &[u8], look: Look<'_>) -> bool {
     let d = look.device;
     if d.sectors == 0 {
         facts::refuse_found(path, look, refusal::NO_BLOCK);
@@ -52,8 +55,8 @@ fn placed(path: &[u8], look: Look) -> bool {
 }
 
 // The word `dump`: both copies' bytes.
-pub(crate) fn dump_word(path: &[u8], look: Look, front: &[u8], back: &[u8]) -> u8 {
-    if !no_terminal() {
+pub(crate) fn dump_word(path: &[u8], look: Look<'_>, front: &[u8], back: &[u8]) -> u8 {
+    if !no_terminal(look.drive.out) {
         return facts::USAGE;
     }
     if !change::sure(path, look) {
@@ -62,37 +65,43 @@ pub(crate) fn dump_word(path: &[u8], look: Look, front: &[u8], back: &[u8]) -> u
     if !placed(path, look) {
         return facts::REFUSED;
     }
-    let ok = put(true, front);
-    facts::unless(put(ok, back), facts::FAILED)
+    let ok = put(look.drive.out, front);
+    facts::unless(put(ok, back).good, facts::FAILED)
 }
 
-// Writes a backup to an open file; whether it has reached its device.
-fn write_file(fd: i32, file: &[u8], bytes: &[u8]) -> bool {
-    if !say::write_all(fd, bytes) {
-        os::fail(file);
-        return false;
+// Writes a backup to an open file, and waits until it has reached its device.
+fn write_file<F: Write + OpenFile>(f: &mut F, bytes: &[u8]) -> Result<(), Error> {
+    f.write_all(bytes)?;
+    f.sync_all()
+}
+
+// Writes a backup to an open file, which is then closed; whether it has reached its device.
+fn fill_file<F: Write + OpenFile + Drop>(f: F, file: &[u8], bytes: &[u8]) -> bool {
+    let mut f = f;
+    match write_file(&mut f, bytes) {
+        Ok(()) => true,
+        Err(e) => {
+            say::fail(file, e);
+            false
+        }
     }
-    if libc::fsync(fd) != 0 {
-        os::fail(file);
-        return false;
-    }
-    true
 }
 
 // Makes a file with these bytes; one that is there already is left alone, and one that could not be written whole is removed.
-fn make_file(file: &[u8], bytes: &[u8]) -> bool {
-    let fd = os::create(file);
-    if fd < 0 {
-        os::fail(file);
-        return false;
+fn make_file<R: Files>(rt: &R, file: &[u8], bytes: &[u8]) -> bool {
+    match files::create(rt, file) {
+        Ok(f) => {
+            if fill_file(f, file, bytes) {
+                return true;
+            }
+            files::remove(rt, file);
+            false
+        }
+        Err(e) => {
+            say::fail(file, e);
+            false
+        }
     }
-    let written = write_file(fd, file, bytes);
-    let closed = libc::close(fd) == 0;
-    if !(written & closed) {
-        os::unlink(file);
-        return false;
-    }
-    true
 }
 
 // The checksum of a backup: of all its bytes but the four that have it, from CHECKSUM on.
@@ -111,9 +120,10 @@ fn seal(all: &mut [u8], sectors: u64, set: &[u8]) {
 }
 
 // The word `backup`: both copies into a new file.
-pub(crate) fn backup_word(
+pub(crate) fn backup_word<R: Files>(
+    rt: &R,
     path: &[u8],
-    look: Look,
+    look: Look<'_>,
     file: &[u8],
     front: &[u8],
     back: &[u8],
@@ -127,12 +137,12 @@ pub(crate) fn backup_word(
     sets::fill(&mut set, look.device, front, back, front_marks, back_marks);
     let mut all = [0u8; FILE];
     seal(&mut all, look.sectors, &set);
-    if !make_file(file, &all) {
+    if !make_file(rt, file, &all) {
         return facts::FAILED;
     }
     let n = sets::count(&set);
     let ok = print(
-        true,
+        look.drive.out,
         sets::add_sectors(Text::new().add(b"saved: "), n).add(b"\n"),
     );
     let whole = n == sets::ENTRIES as u64;
@@ -142,35 +152,37 @@ pub(crate) fn backup_word(
             Text::new().add(b"the sectors that could not be read are not in the backup"),
         );
     }
-    facts::unless(ok & whole, facts::FAILED)
+    facts::unless(ok.good & whole, facts::FAILED)
+}
+
+// Reads an open file to out, and one byte more: how many bytes came to out, and how many then.
+fn read_more<F: Read>(f: &mut F, out: &mut [u8]) -> Result<(usize, usize), Error> {
+    let mut more = [0u8; 1];
+    let n = say::read_all(f, out)?;
+    Ok((n, f.read(&mut more)?))
+}
+
+// Opens a file and reads it so.
+fn read_file<R: Files>(rt: &R, file: &[u8], out: &mut [u8]) -> Result<(usize, usize), Error> {
+    let mut f = files::open(rt, file)?;
+    read_more(&mut f, out)
 }
 
 // Reads a file that is a backup by its size: 0, or the status where it is none.
-fn read_backup(file: &[u8], all: &mut [u8]) -> u8 {
-    let fd = os::open_read(file);
-    if fd < 0 {
-        os::fail(file);
-        return facts::FAILED;
+fn read_backup<R: Files>(rt: &R, file: &[u8], all: &mut [u8]) -> u8 {
+    match read_file(rt, file, all) {
+        Ok((bytes, rest)) => {
+            if (bytes == all.len()) & (rest == 0) {
+                return facts::WELL;
+            }
+            note(file, Text::new().add(b"is no backup: it has another size"));
+            facts::REFUSED
+        }
+        Err(e) => {
+            say::fail(file, e);
+            facts::FAILED
+        }
     }
-    let g = say::read_all(fd, all);
-    let mut more = [0u8; 1];
-    let rest = if g.good {
-        libc::read(fd, &mut more)
-    } else {
-        -1
-    };
-    if rest < 0 {
-        os::fail(file);
-    }
-    libc::close(fd);
-    if rest < 0 {
-        return facts::FAILED;
-    }
-    if (g.bytes == all.len()) & (rest == 0) {
-        return facts::WELL;
-    }
-    note(file, Text::new().add(b"is no backup: it has another size"));
-    facts::REFUSED
 }
 
 // Whether bytes are a whole backup.
@@ -224,7 +236,7 @@ fn may_restore(path: &[u8], replace: bool, set: &[u8], front: &[u8], back: &[u8]
 }
 
 // Whether the sectors of a backup are those of its own copies, and lie within the image.
-fn fits(path: &[u8], file: &[u8], look: Look, set: &[u8]) -> bool {
+fn fits(path: &[u8], file: &[u8], look: Look<'_>, set: &[u8]) -> bool {
     let r = backup_reading(set);
     let v = r.verdict;
     let Verdict::Accepted(x) = v else {
@@ -267,7 +279,7 @@ fn note_older(path: &[u8], set: &[u8], front: &[u8], back: &[u8]) {
 }
 
 // Writes the set of a backup and prints what is then found.
-fn restore_set(path: &[u8], look: Look, dry: bool, set: &[u8]) -> u8 {
+fn restore_set(path: &[u8], look: Look<'_>, dry: bool, set: &[u8]) -> u8 {
     let n = sets::count(set);
     if n != sets::ENTRIES as u64 {
         note(
@@ -277,30 +289,32 @@ fn restore_set(path: &[u8], look: Look, dry: bool, set: &[u8]) -> u8 {
             ),
         );
     }
-    let ok = sets::print_count(n);
-    if !ok {
+    let ok = sets::print_count(look.drive.out, n);
+    if !ok.good {
         return facts::nothing_stored(path);
     }
     if dry {
         return facts::WELL;
     }
-    if !sets::write_all(look.fd, path, set) {
-        return after::report_failed(path, look.fd);
+    if !sets::write_all(look.drive.image, path, set) {
+        return after::report_failed(path, look.drive);
     }
     let said = after::said(
         path,
+        look.drive.out,
         sets::add_sectors(Text::new().add(b"restored: "), n).add(b"\n"),
     );
     facts::worse(
-        facts::unless(said, facts::FAILED),
-        after::restored(path, look.fd),
+        facts::unless(said.good, facts::FAILED),
+        after::restored(path, look.drive),
     )
 }
 
 // The word `restore`: both copies as a backup has them.
-pub(crate) fn restore_word(
+pub(crate) fn restore_word<R: Files>(
+    rt: &R,
     path: &[u8],
-    look: Look,
+    look: Look<'_>,
     dry: bool,
     replace: bool,
     file: &[u8],
@@ -308,7 +322,7 @@ pub(crate) fn restore_word(
     back: &[u8],
 ) -> u8 {
     let mut all = [0u8; FILE];
-    let status = read_backup(file, &mut all);
+    let status = read_backup(rt, file, &mut all);
     if status != facts::WELL {
         return status;
     }

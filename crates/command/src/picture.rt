@@ -1,9 +1,9 @@
 // A picture of the drive: a line of characters, each a stretch of sectors; the ends, the free room and a letter for each kind.
-// Assumes what `libc` and `os` do.
+// Assumes what `io` and `std` do.
 ghost use Rattle.std.specs.Prelude.{◌≤◌};
 
 use crate::facts;
-use crate::say::{print, put};
+use crate::say::{Output, print, put};
 use layout::Device;
 use segments::Segment;
 use text::Text;
@@ -12,7 +12,7 @@ use text::Text;
 const WIDEST: u64 = 240;
 
 // How the picture is laid out: the sectors of a character, the characters of an end and of the data range, and where that begins.
-#[derive(Drop)]
+#[derive(Clone, Copy)]
 struct Scale {
     stretch: u64,
     ends: u64,
@@ -22,7 +22,7 @@ struct Scale {
 }
 
 // What lies in a stretch: how many sectors of each kind.
-#[derive(Drop)]
+#[derive(Clone, Copy)]
 struct Stretch {
     covered: u64,
     kinds: u64,
@@ -218,7 +218,7 @@ fn place(i: u64) -> usize {
 }
 
 // The characters of an end.
-fn ends(ok: bool, s: Scale) -> bool {
+fn ends(ok: Output, s: Scale) -> Output {
     let marks = [35u8; 240];
     let n = least(s.ends, WIDEST);
     if WIDEST < n {
@@ -270,7 +270,7 @@ fn add_marks(t: Text, s: Scale, width: u64) -> Text {
 }
 
 // The scale below the picture: a mark at each quarter of its characters, with the size of what lies before it, and the drive's.
-fn print_scale(ok: bool, d: Device, s: Scale, width: u64) -> bool {
+fn print_scale(ok: Output, d: Device, s: Scale, width: u64) -> Output {
     let end = facts::add_size(Text::new(), d.sectors);
     let v = add_marks(Text::new().add(b"0"), s, width);
     print(
@@ -280,7 +280,7 @@ fn print_scale(ok: bool, d: Device, s: Scale, width: u64) -> bool {
 }
 
 // Prints the picture, its scale and what its characters mean.
-pub(crate) fn draw(before: bool, d: Device, columns: u64, r: &[u8]) -> bool {
+pub(crate) fn draw(before: Output, d: Device, columns: u64, r: &[u8]) -> Output {
     let s = scale_of(d, columns);
     let mut line = [0u8; 240];
     let n = fill(&mut line, r, s);

@@ -1,22 +1,20 @@
 // The word `receive`: a copy from standard input, or a front and a back one after the other, in whatever pieces the input brings. Each
-// goes to `receive` as it came, and no copy is kept. Assumes what `io`, `libc` and `os` do.
+// goes to `receive` as it came, and no copy is kept. Assumes what `io` and `std` do.
 use crate::facts::{Torn, When};
-use crate::say::{TURNS, complain, complain_text, note, print};
+use crate::say::{Output, TURNS, complain, complain_text, note, print};
 use crate::{copies, facts, say};
 use block::{BlockFields, Time, Verdict};
 use copy::{CopyReading, Present};
 use layout::Area;
 use receive::Received;
+use std::io::{Error, IsTerminal, Read, Stderr, Stdin};
 use text::Text;
 
 // The bytes of a front and a back.
 const TWO: usize = 2 * copies::BYTES;
 
-// The number of the error of a read that a signal interrupted each time that it was tried (`libc::EINTR`).
-const INTERRUPTED: u64 = 4;
-
 // The name of a copy: by itself, or one of two.
-#[derive(Drop)]
+#[derive(Clone, Copy)]
 enum Name {
     Copy,
     Front,
@@ -24,7 +22,7 @@ enum Name {
 }
 
 // What came of a copy: its state, whether more of it may come, and whether a read failed, with the number of its error.
-#[derive(Drop)]
+#[derive(Clone, Copy)]
 struct Coming {
     received: Received,
     more: bool,
@@ -81,11 +79,12 @@ fn is_whole(x: Coming) -> bool {
 }
 
 // Reads n bytes of standard input at the most to the start of out.
-fn read_some(out: &mut [u8], n: usize) -> isize {
+fn read_some(input: Stdin, out: &mut [u8], n: usize) -> Result<usize, Error> {
+    let mut input = input;
     if out.len() < n {
-        return libc::read(libc::STDIN_FILENO, out);
+        return input.read(out);
     }
-    libc::read(libc::STDIN_FILENO, &mut out[..n])
+    input.read(&mut out[..n])
 }
 
 // A copy after a read that failed with an error.
@@ -97,14 +96,16 @@ fn failed(x: Coming, e: u64) -> Coming {
     q
 }
 
-// A copy after a read that moved nothing: it is tried again where a signal interrupted it; else the input has ended, or the read failed.
-fn stopped(x: Coming, got: isize) -> Coming {
-    if say::interrupted(got) {
+// A copy after a read that failed: it is tried again where a signal interrupted it.
+fn stopped(x: Coming, e: &Error) -> Coming {
+    if say::interrupted(e) {
         return x;
     }
-    if got < 0 {
-        return failed(x, say::error());
-    }
+    failed(x, say::number(e))
+}
+
+// A copy after the input has ended.
+fn ended(x: Coming) -> Coming {
     let mut q = x;
     q.more = false;
     q
@@ -137,36 +138,34 @@ fn print_progress(shown: bool, w: Name, n: usize) {
 }
 
 // One read, and what it brings of a copy.
-fn read_piece(x: Coming, w: Name, shown: bool) -> Coming {
+fn read_piece(input: Stdin, x: Coming, w: Name, shown: bool) -> Coming {
     let mut buffer = io::buffer();
-    let got = read_some(&mut buffer, missing(x));
-    let n = io::count(got, &buffer);
-    if n == 0 {
-        return stopped(x, got);
+    match read_some(input, &mut buffer, missing(x)) {
+        Ok(0) => ended(x),
+        Ok(n) => {
+            let next = with_piece(x, endian::window(&buffer, 0, n));
+            print_progress(shown, w, taken(next));
+            next
+        }
+        Err(e) => stopped(x, &e),
     }
-    let next = with_piece(x, endian::window(&buffer, 0, n));
-    print_progress(shown, w, taken(next));
-    next
 }
 
 // Reads until a copy is whole, the input ends or a read fails.
-fn read_pieces(w: Name, shown: bool) -> Coming {
+fn read_pieces(input: Stdin, w: Name, shown: bool) -> Coming {
     let mut x = nothing();
-    let mut i: u64 = 0;
-    while i < TURNS {
-        let next = read_piece(x, w, shown);
-        x = next;
+    for _ in 0..TURNS {
+        x = read_piece(input, x, w, shown);
         if !x.more {
             return x;
         }
-        i += 1;
     }
-    failed(x, INTERRUPTED)
+    failed(x, say::number(&say::given_up()))
 }
 
 // The same, and ends the line that says how many bytes came.
-fn read_copy(w: Name, shown: bool) -> Coming {
-    let x = read_pieces(w, shown);
+fn read_copy(input: Stdin, w: Name, shown: bool) -> Coming {
+    let x = read_pieces(input, w, shown);
     if shown & (taken(x) != 0) {
         complain(b"\n");
     }
@@ -174,9 +173,9 @@ fn read_copy(w: Name, shown: bool) -> Coming {
 }
 
 // Reads the back, where its front is whole; else nothing comes of it, for the same reason.
-fn read_back(front: Coming, shown: bool) -> Coming {
+fn read_back(input: Stdin, front: Coming, shown: bool) -> Coming {
     if is_whole(front) {
-        return read_copy(Name::Back, shown);
+        return read_copy(input, Name::Back, shown);
     }
     let mut x = nothing();
     x.more = false;
@@ -217,7 +216,7 @@ fn present_line(t: Text, p: Present) -> Text {
 }
 
 // Prints what a copy says: its block, whose pool it is, both areas, and its present record.
-fn print_copy(ok: bool, w: Name, x: Coming, q: CopyReading) -> bool {
+fn print_copy(ok: Output, w: Name, x: Coming, q: CopyReading) -> Output {
     let name = add_name(Text::new(), w);
     let present = name.add(b" present ");
     if x.failed {
@@ -346,38 +345,39 @@ fn add_all(t: Text, both: bool) -> Text {
 }
 
 // What is wrong with what follows the last copy: nothing may. The end of a terminal is not waited for.
-fn judge_rest(x: Coming, both: bool) -> u8 {
+fn judge_rest(input: Stdin, x: Coming, both: bool) -> u8 {
     if !is_whole(x) {
         return facts::WELL;
     }
-    if libc::isatty(libc::STDIN_FILENO) == 1 {
+    if input.is_terminal() {
         return facts::WELL;
     }
     let mut more = [0u8; 1];
-    let g = say::read_all(libc::STDIN_FILENO, &mut more);
-    if !g.good {
-        let e = say::error();
-        let t = add_all(Text::new().add(b"could not be read after "), both);
-        tell(say::reason(t.add(b": "), e));
-        return facts::FAILED;
+    let mut rest = input;
+    match say::read_all(&mut rest, &mut more) {
+        Ok(0) => facts::WELL,
+        Ok(_) => {
+            tell(add_all(Text::new().add(b"more than "), both).add(b" came"));
+            facts::REFUSED
+        }
+        Err(e) => {
+            let t = add_all(Text::new().add(b"could not be read after "), both);
+            tell(say::reason(t.add(b": "), say::number(&e)));
+            facts::FAILED
+        }
     }
-    if g.bytes == 0 {
-        return facts::WELL;
-    }
-    tell(add_all(Text::new().add(b"more than "), both).add(b" came"));
-    facts::REFUSED
 }
 
 // A front and a back.
-fn run_both(shown: bool) -> u8 {
-    let x = read_copy(Name::Front, shown);
-    let y = read_back(x, shown);
+fn run_both(input: Stdin, out: Output, shown: bool) -> u8 {
+    let x = read_copy(input, Name::Front, shown);
+    let y = read_back(input, x, shown);
     let front = reading_of(x);
     let back = reading_of(y);
-    let a = print_copy(true, Name::Front, x, front);
+    let a = print_copy(out, Name::Front, x, front);
     let ok = print_copy(a, Name::Back, y, back);
     let s = facts::worse(
-        facts::unless(ok, facts::FAILED),
+        facts::unless(ok.good, facts::FAILED),
         judge(Name::Front, x, front),
     );
     if !is_whole(x) {
@@ -385,18 +385,21 @@ fn run_both(shown: bool) -> u8 {
     }
     let t = facts::worse(s, judge(Name::Back, y, back));
     let u = facts::worse(t, judge_both(front, back));
-    facts::worse(u, judge_rest(y, true))
+    facts::worse(u, judge_rest(input, y, true))
 }
 
 // Receives a copy, or two; its status.
-pub(crate) fn run(both: bool) -> u8 {
-    let shown = libc::isatty(libc::STDERR_FILENO) == 1;
+pub(crate) fn run(input: Stdin, out: Output, errors: Stderr, both: bool) -> u8 {
+    let shown = errors.is_terminal();
     if both {
-        return run_both(shown);
+        return run_both(input, out, shown);
     }
-    let x = read_copy(Name::Copy, shown);
+    let x = read_copy(input, Name::Copy, shown);
     let q = reading_of(x);
-    let ok = print_copy(true, Name::Copy, x, q);
-    let s = facts::worse(facts::unless(ok, facts::FAILED), judge(Name::Copy, x, q));
-    facts::worse(s, judge_rest(x, false))
+    let ok = print_copy(out, Name::Copy, x, q);
+    let s = facts::worse(
+        facts::unless(ok.good, facts::FAILED),
+        judge(Name::Copy, x, q),
+    );
+    facts::worse(s, judge_rest(input, x, false))
 }

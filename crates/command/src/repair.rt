@@ -1,4 +1,4 @@
-// The word `mend`: brings the two copies in step. Assumes what `libc` and `os` do.
+// The word `mend`: brings the two copies in step. Assumes what `io` and `std` do.
 use crate::copies::Look;
 use crate::say::{note, print};
 use crate::storing::Work;
@@ -27,7 +27,7 @@ pub(crate) fn summary(t: Text, m: Mending) -> Text {
 // that is kept.
 fn allowed(
     path: &[u8],
-    look: Look,
+    look: Look<'_>,
     unreadable: bool,
     p: Rewrite,
     front: &[u8],
@@ -61,7 +61,7 @@ fn allowed(
 }
 
 // Whether both copies' places lie within the image.
-fn within(path: &[u8], look: Look) -> bool {
+fn within(path: &[u8], look: Look<'_>) -> bool {
     let d = look.device;
     if d.sectors <= look.sectors {
         return true;
@@ -76,7 +76,7 @@ fn within(path: &[u8], look: Look) -> bool {
 // Writes a mend that was worked out, or lists its stores, and says what is then found.
 fn store(
     path: &[u8],
-    look: Look,
+    look: Look<'_>,
     m: Mending,
     p: Rewrite,
     dry: bool,
@@ -86,22 +86,23 @@ fn store(
     let w = Work::Repair(m);
     let mut list = [0u8; storing::LIST];
     let all = storing::work_out(w, front, back, &[0u8; 0], &mut list);
-    let ok = print(true, summary(Text::new(), m).add(b"\n"));
+    let out = look.drive.out;
+    let ok = print(out, summary(Text::new(), m).add(b"\n"));
     if dry {
         return facts::unless(
-            storing::print_all(ok, w, p.bytes as u64, &list) & all,
+            storing::print_all(ok, w, p.bytes as u64, &list).good & all,
             facts::FAILED,
         );
     }
-    if !(ok & all) {
+    if !(ok.good & all) {
         return facts::nothing_stored(path);
     }
-    after::carried_out(path, look.fd, w, &list, b"mended: ", after::any())
+    after::carried_out(path, look.drive, w, &list, b"mended: ", after::any())
 }
 
 pub(crate) fn run(
     path: &[u8],
-    look: Look,
+    look: Look<'_>,
     dry: bool,
     unreadable: bool,
     front: &[u8],
@@ -114,8 +115,9 @@ pub(crate) fn run(
     match m {
         Mending::Refused(n) => facts::worse(sure, facts::refuse_found(path, look, n)),
         Mending::InStep => {
-            let ok = print(true, Text::new().add(b"in step: nothing to store\n"));
-            facts::worse(sure, facts::unless(ok, facts::FAILED))
+            let out = look.drive.out;
+            let ok = print(out, Text::new().add(b"in step: nothing to store\n"));
+            facts::worse(sure, facts::unless(ok.good, facts::FAILED))
         }
         Mending::Needed(p) => {
             if !allowed(

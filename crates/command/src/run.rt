@@ -1,37 +1,32 @@
-// What each word does with an open image. Assumes what `io`, `os` and `libc` do.
-use crate::arguments::{Request, Word, at};
+// What each word does with an open image. Assumes what `io` and `std` do.
+use crate::arguments::{Request, Word, argument, at};
 use crate::change::Wish;
 use crate::copies::Look;
 use crate::create::Wanted;
+use crate::image::Drive;
 use crate::say::complain;
 use crate::{arguments, change, check, copies, create, facts, find, keep, repair, show};
 use block::Time;
 use heads::Change;
+use std::random::RandomSource;
+use std::rt::Files;
 use text::Text;
 use words::Number;
 
-// What the machine gives: the open image, the terminal's columns (0 where there is none) and the time.
-#[derive(Drop)]
-pub(crate) struct Given {
-    pub fd: i32,
+// What the machine gives: the open image, all arguments, the terminal's columns (0 where there is none) and the time.
+#[derive(Clone, Copy)]
+pub(crate) struct Given<'a> {
+    pub drive: Drive<'a>,
+    pub line: &'a [u8],
     pub columns: u64,
     pub now: Time,
 }
 
 // An argument that is a number, or another value where it is not given. `good` says whether it is one.
-#[derive(Drop)]
+#[derive(Clone, Copy)]
 struct Size {
     good: bool,
     value: u64,
-}
-
-// An argument by its number, at the start of out; how many bytes it has.
-fn argument(i: usize, out: &mut [u8]) -> usize {
-    let n = os::arg(i, out);
-    if os::errno() != 0 {
-        return 0;
-    }
-    n
 }
 
 // What an argument says: a size in sectors, or a plain number. It is said where it is none.
@@ -59,32 +54,37 @@ fn value_of(s: &[u8], sized: bool) -> Size {
     }
 }
 
+// Number i of numbers with blanks between them.
+pub(crate) fn number_at(s: &[u8], i: usize) -> Option<u64> {
+    let v = words::number(arguments::piece(s, arguments::start_of(s, i, 32), 32));
+    match v {
+        Number::Is(x) => Some(x),
+        _ => None,
+    }
+}
+
 // Reads argument i so; `other` where it is not given.
-fn read_value(i: usize, other: u64, sized: bool) -> Size {
+fn read_value(line: &[u8], i: usize, other: u64, sized: bool) -> Size {
     if i == 0 {
         return Size {
             good: true,
             value: other,
         };
     }
-    let mut buffer = io::buffer();
-    let n = argument(i, &mut buffer);
-    value_of(endian::window(&buffer, 0, n), sized)
+    value_of(argument(line, i), sized)
 }
 
-fn size_of(i: usize, other: u64) -> Size {
-    read_value(i, other, true)
+fn size_of(line: &[u8], i: usize, other: u64) -> Size {
+    read_value(line, i, other, true)
 }
 
-fn number_of(i: usize, other: u64) -> Size {
-    read_value(i, other, false)
+fn number_of(line: &[u8], i: usize, other: u64) -> Size {
+    read_value(line, i, other, false)
 }
 
 // Reads an argument as a kind; 0 where it is none.
-fn kind_of(i: usize) -> u16 {
-    let mut buffer = io::buffer();
-    let n = argument(i, &mut buffer);
-    let s = endian::window(&buffer, 0, n);
+fn kind_of(line: &[u8], i: usize) -> u16 {
+    let s = argument(line, i);
     let k = words::kind(s);
     if k == 0 {
         arguments::bad_value(
@@ -98,8 +98,8 @@ fn kind_of(i: usize) -> u16 {
 }
 
 // Reads an argument as a low water mark in blocks, 0 where it is not given. It is said where it is none.
-fn blocks_of(i: usize) -> Size {
-    let n = number_of(i, 0);
+fn blocks_of(line: &[u8], i: usize) -> Size {
+    let n = number_of(line, i, 0);
     if n.value <= 4294967295 {
         return n;
     }
@@ -110,15 +110,13 @@ fn blocks_of(i: usize) -> Size {
     }
 }
 
-fn mark_of(i: usize) -> u32 {
-    (blocks_of(i).value % 4294967296) as u32
+fn mark_of(line: &[u8], i: usize) -> u32 {
+    (blocks_of(line, i).value % 4294967296) as u32
 }
 
 // Reads an argument as the way that a head is moved: what it asks for. It is said where it is none.
-fn move_of(i: usize) -> Wish {
-    let mut buffer = io::buffer();
-    let n = argument(i, &mut buffer);
-    let s = endian::window(&buffer, 0, n);
+fn move_of(line: &[u8], i: usize) -> Wish {
+    let s = argument(line, i);
     if endian::same(s, b"up") {
         return Wish::Head(Change::Up);
     }
@@ -137,7 +135,7 @@ fn asks(wish: Wish) -> bool {
 }
 
 // 32 random digits; whether there are any.
-#[derive(Drop)]
+#[derive(Clone, Copy)]
 struct Name {
     good: bool,
     digits: [u8; 32],
@@ -148,9 +146,9 @@ fn digit(x: u8) -> u8 {
     if d < 10 { d + 48 } else { d + 87 }
 }
 
-fn made_name() -> Name {
+fn made_name<R: RandomSource>(rt: &R) -> Name {
     let mut bytes = [0u8; 32];
-    if libc::getentropy(&mut bytes) != 0 {
+    if rt.fill_bytes(&mut bytes).is_err() {
         complain(b"amseokbin: no random bytes for a UUID\n");
         return Name {
             good: false,
@@ -166,14 +164,9 @@ fn made_name() -> Name {
     Name { good: true, digits }
 }
 
-// A UUID from an argument, or a new one where it is not given.
-fn name_of(i: usize) -> Name {
-    if i == 0 {
-        return made_name();
-    }
-    let mut buffer = io::buffer();
-    let n = argument(i, &mut buffer);
-    let s = endian::window(&buffer, 0, n);
+// A UUID from an argument.
+fn given_name(line: &[u8], i: usize) -> Name {
+    let s = argument(line, i);
     let u = words::uuid(s);
     let digits = u.digits;
     if !u.given {
@@ -188,27 +181,36 @@ fn name_of(i: usize) -> Name {
     }
 }
 
+// A UUID from an argument, or a new one where it is not given.
+fn name_of<R: RandomSource>(rt: &R, line: &[u8], i: usize) -> Name {
+    if i == 0 {
+        return made_name(rt);
+    }
+    given_name(line, i)
+}
+
 // Whether the values on the command line are what they have to be; said where they are not. Nothing is opened before.
-pub(crate) fn values_good(p: Request) -> bool {
+pub(crate) fn values_good(line: &[u8], p: Request) -> bool {
     let w = p.word;
-    let sizes = size_of(at(p, arguments::METADATA), 0).good
-        & (size_of(at(p, arguments::RESERVED), 0).good & size_of(at(p, arguments::BLOCK), 0).good);
-    let mark = blocks_of(at(p, arguments::LOW_WATER)).good;
-    let names = name_good(at(p, arguments::POOL)) & name_good(at(p, arguments::DEVICE));
-    let width = width_good(at(p, arguments::WIDTH));
+    let sizes = size_of(line, at(p, arguments::METADATA), 0).good
+        & (size_of(line, at(p, arguments::RESERVED), 0).good
+            & size_of(line, at(p, arguments::BLOCK), 0).good);
+    let mark = blocks_of(line, at(p, arguments::LOW_WATER)).good;
+    let names = name_good(line, at(p, arguments::POOL)) & name_good(line, at(p, arguments::DEVICE));
+    let width = width_good(line, at(p, arguments::WIDTH));
     let own = match w {
-        Word::Allocate => (kind_of(at(p, arguments::SECOND)) != 0)
-            & size_of(at(p, arguments::THIRD), 0).good,
-        Word::Release => number_of(at(p, arguments::SECOND), 0).good,
-        Word::Head => asks(move_of(at(p, arguments::SECOND))),
-        Word::Mark => blocks_of(at(p, arguments::SECOND)).good,
+        Word::Allocate => (kind_of(line, at(p, arguments::SECOND)) != 0)
+            & size_of(line, at(p, arguments::THIRD), 0).good,
+        Word::Release => number_of(line, at(p, arguments::SECOND), 0).good,
+        Word::Head => asks(move_of(line, at(p, arguments::SECOND))),
+        Word::Mark => blocks_of(line, at(p, arguments::SECOND)).good,
         _ => true,
     };
     ((sizes & mark) & names) & (width & own)
 }
 
-fn width_good(i: usize) -> bool {
-    let n = number_of(i, 80);
+fn width_good(line: &[u8], i: usize) -> bool {
+    let n = number_of(line, i, 80);
     if (20 <= n.value) & (n.value <= 240) {
         return true;
     }
@@ -218,17 +220,18 @@ fn width_good(i: usize) -> bool {
     false
 }
 
-fn name_good(i: usize) -> bool {
+fn name_good(line: &[u8], i: usize) -> bool {
     if i == 0 {
         return true;
     }
-    name_of(i).good
+    given_name(line, i).good
 }
 
 // The word `format`.
-fn format_word(path: &[u8], p: Request, g: Given) -> u8 {
-    let pool = name_of(at(p, arguments::POOL));
-    let device = name_of(at(p, arguments::DEVICE));
+fn format_word<R: RandomSource>(rt: &R, path: &[u8], p: Request, g: Given<'_>) -> u8 {
+    let line = g.line;
+    let pool = name_of(rt, line, at(p, arguments::POOL));
+    let device = name_of(rt, line, at(p, arguments::DEVICE));
     if !(pool.good & device.good) {
         return facts::FAILED;
     }
@@ -236,47 +239,46 @@ fn format_word(path: &[u8], p: Request, g: Given) -> u8 {
     let b = device.digits;
     let now = g.now;
     let w = Wanted {
-        metadata: size_of(at(p, arguments::METADATA), 2040).value,
-        reserved: size_of(at(p, arguments::RESERVED), 0).value,
-        block: size_of(at(p, arguments::BLOCK), 128).value,
+        metadata: size_of(line, at(p, arguments::METADATA), 2040).value,
+        reserved: size_of(line, at(p, arguments::RESERVED), 0).value,
+        block: size_of(line, at(p, arguments::BLOCK), 128).value,
         marked: at(p, arguments::LOW_WATER) != 0,
-        mark: mark_of(at(p, arguments::LOW_WATER)),
+        mark: mark_of(line, at(p, arguments::LOW_WATER)),
         replace: p.replace,
         dry: p.dry,
         now: now,
         pool: a,
         device: b,
     };
-    create::run(path, g.fd, w)
+    create::run(path, g.drive, w)
 }
 
 // The words that read the copies first and take a file.
-fn with_file(
+fn with_file<R: Files>(
+    rt: &R,
     path: &[u8],
     p: Request,
-    now: Time,
-    look: Look,
+    g: Given<'_>,
+    look: Look<'_>,
     front: &[u8],
     back: &[u8],
     fm: &[u8],
     bm: &[u8],
 ) -> u8 {
-    let mut buffer = io::buffer();
-    let n = argument(at(p, arguments::SECOND), &mut buffer);
-    let file = endian::window(&buffer, 0, n);
+    let file = argument(g.line, at(p, arguments::SECOND));
     let w = p.word;
     match w {
-        Word::Update => change::update_word(path, look, now, p.dry, file, front, back),
-        Word::Backup => keep::backup_word(path, look, file, front, back, fm, bm),
-        Word::Restore => keep::restore_word(path, look, p.dry, p.replace, file, front, back),
+        Word::Update => change::update_word(rt, path, look, g.now, p.dry, file, front, back),
+        Word::Backup => keep::backup_word(rt, path, look, file, front, back, fm, bm),
+        Word::Restore => keep::restore_word(rt, path, look, p.dry, p.replace, file, front, back),
         _ => facts::USAGE,
     }
 }
 
 // The columns of the picture: as asked for, or the terminal's, or 80.
-fn columns_of(p: Request, g: Given) -> u64 {
+fn columns_of(p: Request, g: Given<'_>) -> u64 {
     if at(p, arguments::WIDTH) != 0 {
-        return number_of(at(p, arguments::WIDTH), 80).value;
+        return number_of(g.line, at(p, arguments::WIDTH), 80).value;
     }
     if g.columns == 0 {
         return 80;
@@ -285,11 +287,12 @@ fn columns_of(p: Request, g: Given) -> u64 {
 }
 
 // The words that read the copies first.
-fn with_copies(
+fn with_copies<R: Files>(
+    rt: &R,
     path: &[u8],
     p: Request,
-    g: Given,
-    look: Look,
+    g: Given<'_>,
+    look: Look<'_>,
     front: &[u8],
     back: &[u8],
     fm: &[u8],
@@ -297,6 +300,7 @@ fn with_copies(
 ) -> u8 {
     let w = p.word;
     let now = g.now;
+    let line = g.line;
     match w {
         Word::Find => find::run(path, look, front, back, fm, bm),
         Word::Check => check::run(path, look, front, back, fm, bm),
@@ -304,48 +308,46 @@ fn with_copies(
         Word::Mend => repair::run(path, look, p.dry, p.unreadable, front, back, fm, bm),
         Word::Allocate => {
             let wish = Wish::Allocate(
-                kind_of(at(p, arguments::SECOND)),
-                size_of(at(p, arguments::THIRD), 0).value,
+                kind_of(line, at(p, arguments::SECOND)),
+                size_of(line, at(p, arguments::THIRD), 0).value,
             );
             change::wish_word(path, look, now, p.dry, wish, front, back)
         }
         Word::Release => {
-            let wish = Wish::Release(number_of(at(p, arguments::SECOND), 0).value);
+            let wish = Wish::Release(number_of(line, at(p, arguments::SECOND), 0).value);
             change::wish_word(path, look, now, p.dry, wish, front, back)
         }
         Word::Head => {
-            let wish = move_of(at(p, arguments::SECOND));
+            let wish = move_of(line, at(p, arguments::SECOND));
             change::wish_word(path, look, now, p.dry, wish, front, back)
         }
         Word::Mark => {
-            let wish = Wish::Head(Change::Mark(mark_of(at(p, arguments::SECOND))));
+            let wish = Wish::Head(Change::Mark(mark_of(line, at(p, arguments::SECOND))));
             change::wish_word(path, look, now, p.dry, wish, front, back)
         }
         Word::Record => keep::record_word(path, look, front, back),
         Word::Dump => keep::dump_word(path, look, front, back),
-        _ => with_file(path, p, now, look, front, back, fm, bm),
+        _ => with_file(rt, path, p, g, look, front, back, fm, bm),
     }
 }
 
 // Reads the copies of the image and does what a word asks for.
-fn read_copies(path: &[u8], p: Request, g: Given) -> u8 {
+fn read_copies<R: Files>(rt: &R, path: &[u8], p: Request, g: Given<'_>) -> u8 {
     let mut front = [0u8; copies::BYTES];
     let mut back = [0u8; copies::BYTES];
     let mut fm = [0u8; copies::SECTORS];
     let mut bm = [0u8; copies::SECTORS];
-    let look = copies::read(g.fd, &mut front, &mut back, &mut fm, &mut bm);
+    let look = copies::read(g.drive, &mut front, &mut back, &mut fm, &mut bm);
     copies::note_unread(path, look, &fm, &bm);
-    with_copies(path, p, g, look, &front, &back, &fm, &bm)
+    with_copies(rt, path, p, g, look, &front, &back, &fm, &bm)
 }
 
 // Does what is asked for; its status.
-pub(crate) fn run(p: Request, g: Given) -> u8 {
-    let mut buffer = io::buffer();
-    let n = argument(at(p, arguments::IMAGE), &mut buffer);
-    let path = endian::window(&buffer, 0, n);
+pub(crate) fn run<R: Files + RandomSource>(rt: &R, p: Request, g: Given<'_>) -> u8 {
+    let path = argument(g.line, at(p, arguments::IMAGE));
     let w = p.word;
     match w {
-        Word::Format => format_word(path, p, g),
-        _ => read_copies(path, p, g),
+        Word::Format => format_word(rt, path, p, g),
+        _ => read_copies(rt, path, p, g),
     }
 }

@@ -1,86 +1,91 @@
-// Lines on standard output and standard error. Assumes what `libc` and `os` do.
+// Lines on standard output and standard error. Assumes what `io` and `std` do.
+use std::fmt::InlineText;
+use std::io::{Error, ErrorKind, Print, Read, Stdout};
 use text::Text;
 
 // How often one transfer is taken up again, after a call that moved a part or that a signal interrupted.
 pub(crate) const TURNS: u64 = 100000;
 
-// The number of the error that a call has just failed with.
-pub(crate) fn error() -> u64 {
-    let e = os::errno();
-    if e < 0 {
-        return 0;
-    }
-    e as u64
-}
+// The number of the error of a call that a signal interrupted.
+const INTERRUPTED: i32 = 4;
 
-// Whether a call that answered `got` is to be tried again: a signal interrupted it.
-pub(crate) fn interrupted(got: isize) -> bool {
-    if got >= 0 {
-        return false;
-    }
-    os::errno() == libc::EINTR
-}
+// The descriptor of standard error.
+const ERRORS: i32 = 2;
 
-// Writes all of s, by as many calls as that takes; whether it did.
-pub(crate) fn write_all(fd: i32, s: &[u8]) -> bool {
-    let mut done = 0;
-    let mut turns: u64 = 0;
-    while done < s.len() {
-        if turns == TURNS {
-            return false;
-        }
-        turns += 1;
-        let rest = &s[done..];
-        let got = libc::write(fd, rest);
-        let more = io::count(got, rest);
-        if (more == 0) & !interrupted(got) {
-            return false;
-        }
-        done += more;
-    }
-    true
-}
-
-// What was read of a file: how many bytes, and whether that is all of it or as much as there was room for.
-#[derive(Drop)]
-pub(crate) struct Got {
-    pub bytes: usize,
+// Standard output, and whether everything before was written to it.
+#[derive(Clone, Copy)]
+pub(crate) struct Output {
+    pub to: Stdout,
     pub good: bool,
 }
 
-// Reads until out is full or the file ends.
-pub(crate) fn read_all(fd: i32, out: &mut [u8]) -> Got {
-    let n = out.len();
+// The error of a call that was interrupted each time that it was tried.
+pub(crate) fn given_up() -> Error {
+    Error::from_raw_os_error(INTERRUPTED)
+}
+
+// The number of an error; 0 where it has none.
+pub(crate) fn number(e: &Error) -> u64 {
+    match e.raw_os_error() {
+        Some(n) => u64::try_from(n).unwrap_or(0),
+        None => 0,
+    }
+}
+
+// Whether a call that failed so is to be tried again: a signal interrupted it.
+pub(crate) fn interrupted(e: &Error) -> bool {
+    e.kind() == ErrorKind::Interrupted
+}
+
+// Writes all of s to standard output, by as many calls as that takes; where that fails, the number of the error.
+fn write_all(to: Stdout, s: &[u8]) -> Result<(), u64> {
     let mut done = 0;
-    let mut turns: u64 = 0;
-    while done < n {
-        if turns == TURNS {
-            return Got {
-                bytes: done,
-                good: false,
-            };
+    for _ in 0..TURNS {
+        if s.len() <= done {
+            return Ok(());
         }
-        turns += 1;
-        let rest = &mut out[done..];
-        let got = libc::read(fd, rest);
-        let more = io::count(got, rest);
-        if (more == 0) & !interrupted(got) {
-            return Got {
-                bytes: done,
-                good: got == 0,
-            };
+        match to.write_some(&s[done..]) {
+            Ok(0) => return Err(0),
+            Ok(more) => done += more,
+            Err(e) => {
+                if !interrupted(&e) {
+                    return Err(number(&e));
+                }
+            }
         }
-        done += more;
     }
-    Got {
-        bytes: done,
-        good: true,
+    if s.len() <= done {
+        return Ok(());
     }
+    Err(number(&given_up()))
+}
+
+// Reads until out is full or the file ends; how many bytes, or the error of a read that failed.
+pub(crate) fn read_all<F: Read>(file: &mut F, out: &mut [u8]) -> Result<usize, Error> {
+    let mut done = 0;
+    for _ in 0..TURNS {
+        if out.len() <= done {
+            return Ok(done);
+        }
+        match file.read(&mut out[done..]) {
+            Ok(0) => return Ok(done),
+            Ok(more) => done += more,
+            Err(e) => {
+                if !interrupted(&e) {
+                    return Err(e);
+                }
+            }
+        }
+    }
+    if out.len() <= done {
+        return Ok(done);
+    }
+    Err(given_up())
 }
 
 // A text on standard error. Where that fails there is nobody to tell.
 pub(crate) fn complain(s: &[u8]) {
-    write_all(libc::STDERR_FILENO, s);
+    io::write_all(ERRORS, s);
 }
 
 // The same, of a text in the making.
@@ -96,25 +101,50 @@ pub(crate) fn note(path: &[u8], t: Text) {
     complain_text(t.add(b"\n"));
 }
 
+// How many bytes of the text of an error are its words: its number stands behind them.
+fn words(all: &str) -> usize {
+    match all.find(" (os error ") {
+        Some(n) => n,
+        None => all.len(),
+    }
+}
+
+// A line on standard error about a file at a path: the words of the error of a call that failed.
+pub(crate) fn fail(path: &[u8], e: Error) {
+    let all: InlineText<96> = InlineText::of(e);
+    let s = all.as_str();
+    complain(path);
+    complain(b": ");
+    complain(endian::window(s.as_bytes(), 0, words(s)));
+    complain(b"\n");
+}
+
+// What stands when not everything was written.
+pub(crate) fn lost(ok: Output) -> Output {
+    Output {
+        to: ok.to,
+        good: false,
+    }
+}
+
 // Bytes on standard output, where everything before them was written; whether these were too. The first that is not is said.
-pub(crate) fn put(ok: bool, s: &[u8]) -> bool {
-    if !ok {
-        return false;
+pub(crate) fn put(ok: Output, s: &[u8]) -> Output {
+    if !ok.good {
+        return ok;
     }
-    if write_all(libc::STDOUT_FILENO, s) {
-        return true;
-    }
-    let e = error();
+    let Err(e) = write_all(ok.to, s) else {
+        return ok;
+    };
     complain_text(reason(
         Text::new().add(b"amseokbin: standard output could not be written: "),
         e,
     )
     .add(b"\n"));
-    false
+    lost(ok)
 }
 
 // The same, of a text in the making.
-pub(crate) fn print(ok: bool, t: Text) -> bool {
+pub(crate) fn print(ok: Output, t: Text) -> Output {
     let bytes = t.bytes;
     put(ok, endian::window(&bytes, 0, t.used))
 }

@@ -1,10 +1,11 @@
 // A set of sectors in memory: both copies, 80 entries, each the sector's number, its mark and its 512 bytes. Formatting and
-// restoring write one to the drive, a backup keeps one in a file. Assumes what `libc` and `os` do.
+// restoring write one to the drive, a backup keeps one in a file. Assumes what `io` and `std` do.
 ghost use Rattle.std.specs.Prelude.{◌≤◌, ◌<◌, ◌^◌};
 
-use crate::say::print;
+use crate::say::{Output, print};
 use crate::{copies, storing};
 use layout::{Device, Side};
+use std::fs::File;
 use text::Text;
 
 // Entries, the bytes of one, and the bytes of a set.
@@ -125,21 +126,21 @@ pub(crate) fn placed(set: &[u8], d: Device) -> bool {
 
 // Writes the entry of a step, in the order of formatting's stores, where it was read, with a flush where one is due; whether that went
 // well.
-fn write_step(fd: i32, path: &[u8], set: &[u8], step: usize) -> bool {
+fn write_step(image: &File, path: &[u8], set: &[u8], step: usize) -> bool {
     let k = format::position(step as u64);
     if was_read(set, k) {
-        if !storing::write(fd, path, sector_of(set, k), bytes_at(set, k)) {
+        if !storing::write(image, path, sector_of(set, k), bytes_at(set, k)) {
             return false;
         }
     }
-    storing::flush(fd, path, format::flush(step as u64))
+    storing::flush(image, path, format::flush(step as u64))
 }
 
 // Writes a set to the drive, up to the first write or flush that fails; whether all went well.
-pub(crate) fn write_all(fd: i32, path: &[u8], set: &[u8]) -> bool {
+pub(crate) fn write_all(image: &File, path: &[u8], set: &[u8]) -> bool {
     let mut step = 0;
     while step < ENTRIES {
-        if !write_step(fd, path, set, step) {
+        if !write_step(image, path, set, step) {
             return false;
         }
         step += 1;
@@ -171,6 +172,6 @@ pub(crate) fn add_sectors(t: Text, n: u64) -> Text {
 }
 
 // Prints the first line of a word that writes a set.
-pub(crate) fn print_count(n: u64) -> bool {
-    print(true, add_sectors(Text::new(), n).add(b" to write\n"))
+pub(crate) fn print_count(out: Output, n: u64) -> Output {
+    print(out, add_sectors(Text::new(), n).add(b" to write\n"))
 }

@@ -1,7 +1,7 @@
 // The word `show`: the pool for people, with every segment, the free room and a picture; or, with `--plain`, one key and value a
-// line. Assumes what `libc` and `os` do.
+// line. Assumes what `io` and `std` do.
 use crate::copies::Look;
-use crate::say::print;
+use crate::say::{Output, print};
 use crate::{copies, facts, picture, sentences};
 use allocation::{FreeTotal, RunCount};
 use block::Reading;
@@ -16,7 +16,7 @@ use text::Text;
 const RUNS: usize = 2 * (copies::RECORD / items::ITEM_BYTES + 1);
 
 // What is known of the record that is shown.
-#[derive(Drop)]
+#[derive(Clone, Copy)]
 pub(crate) struct Shown {
     pub found: Finding,
     pub other: Other,
@@ -32,7 +32,7 @@ fn add_yes(t: Text, yes: bool) -> Text {
 }
 
 // The number of free runs of an accepted record, and of its free sectors; 0 of any other.
-fn run_count(look: Look, r: &[u8]) -> u64 {
+fn run_count(look: Look<'_>, r: &[u8]) -> u64 {
     let n = allocation::count_runs(look.device, r);
     match n {
         RunCount::Runs(k) => k,
@@ -40,7 +40,7 @@ fn run_count(look: Look, r: &[u8]) -> u64 {
     }
 }
 
-fn free_sectors(look: Look, r: &[u8]) -> u64 {
+fn free_sectors(look: Look<'_>, r: &[u8]) -> u64 {
     let n = allocation::free_total(look.device, r);
     match n {
         FreeTotal::Sectors(k) => k,
@@ -71,12 +71,12 @@ fn run_of(table: &[u64], i: u64) -> Run {
 }
 
 // A key with a number, as a line.
-fn pair(ok: bool, key: &[u8], n: u64) -> bool {
+fn pair(ok: Output, key: &[u8], n: u64) -> Output {
     print(ok, Text::new().add(key).add(b"=").decimal(n).add(b"\n"))
 }
 
 // A key with a number in its middle.
-fn item(ok: bool, first: &[u8], i: u64, last: &[u8], n: u64) -> bool {
+fn item(ok: Output, first: &[u8], i: u64, last: &[u8], n: u64) -> Output {
     print(
         ok,
         Text::new()
@@ -91,20 +91,20 @@ fn item(ok: bool, first: &[u8], i: u64, last: &[u8], n: u64) -> bool {
     )
 }
 
-fn plain_segment(ok: bool, r: &[u8], i: usize) -> bool {
+fn plain_segment(ok: Output, r: &[u8], i: usize) -> Output {
     let g = items::segment_at(r, i);
     let k = item(ok, b"segment", i as u64, b"kind", g.kind as u64);
     let s = item(k, b"segment", i as u64, b"start", g.start);
     item(s, b"segment", i as u64, b"sectors", g.sectors)
 }
 
-fn plain_run(ok: bool, i: u64, g: Run) -> bool {
+fn plain_run(ok: Output, i: u64, g: Run) -> Output {
     let s = item(ok, b"free", i, b"start", g.start);
     item(s, b"free", i, b"sectors", g.sectors)
 }
 
 // The lines of all segments, for people or plain.
-fn segments(before: bool, plain: bool, r: &[u8]) -> bool {
+fn segments(before: Output, plain: bool, r: &[u8]) -> Output {
     let n = items::count_of(r);
     let mut ok = before;
     let mut i = 0;
@@ -116,7 +116,7 @@ fn segments(before: bool, plain: bool, r: &[u8]) -> bool {
     ok
 }
 
-fn segment_line(ok: bool, plain: bool, r: &[u8], i: usize) -> bool {
+fn segment_line(ok: Output, plain: bool, r: &[u8], i: usize) -> Output {
     if plain {
         return plain_segment(ok, r, i);
     }
@@ -144,13 +144,13 @@ fn row(t: Text, start: u64, sectors: u64) -> Text {
 }
 
 // The lines of all free runs: one more than segments at the most.
-fn runs(before: bool, plain: bool, look: Look, r: &[u8]) -> bool {
+fn runs(before: Output, plain: bool, look: Look<'_>, r: &[u8]) -> Output {
     let mut table = [0u64; RUNS];
     allocation::free_run_numbers(look.device, r, &mut table);
     run_lines(before, plain, run_count(look, r), &table)
 }
 
-fn run_lines(before: bool, plain: bool, n: u64, table: &[u64]) -> bool {
+fn run_lines(before: Output, plain: bool, n: u64, table: &[u64]) -> Output {
     let mut ok = before;
     let mut i = 0;
     while i < n {
@@ -161,7 +161,7 @@ fn run_lines(before: bool, plain: bool, n: u64, table: &[u64]) -> bool {
     ok
 }
 
-fn run_line(ok: bool, plain: bool, i: u64, g: Run) -> bool {
+fn run_line(ok: Output, plain: bool, i: u64, g: Run) -> Output {
     if plain {
         return plain_run(ok, i, g);
     }
@@ -170,14 +170,14 @@ fn run_line(ok: bool, plain: bool, i: u64, g: Run) -> bool {
 }
 
 // The sectors of the data range that are in a segment.
-fn allocated(look: Look, r: &[u8]) -> u64 {
+fn allocated(look: Look<'_>, r: &[u8]) -> u64 {
     let d = look.device;
     let data = picture::less(layout::data_end(d), layout::data_start(d));
     picture::less(data, free_sectors(look, r))
 }
 
 // Prints UUIDs.
-fn uuids(ok: bool, first: &[u8], second: &[u8], q: Reading) -> bool {
+fn uuids(ok: Output, first: &[u8], second: &[u8], q: Reading) -> Output {
     let pool = q.pool;
     let uuid = q.blockdev;
     let a = facts::print_uuid(ok, Text::new().add(first), pool);
@@ -185,12 +185,12 @@ fn uuids(ok: bool, first: &[u8], second: &[u8], q: Reading) -> bool {
 }
 
 // The first lines of the plain form: identity, place and time.
-fn plain_first(look: Look, s: Shown, q: Reading) -> bool {
+fn plain_first(look: Look<'_>, s: Shown, q: Reading) -> Output {
     let d = look.device;
     let f = s.found;
     let side = f.side;
     let area = f.area;
-    let u = uuids(true, b"pool=", b"device=", q);
+    let u = uuids(look.drive.out, b"pool=", b"device=", q);
     let n = pair(u, b"sectors", d.sectors);
     let m = pair(n, b"metadata", d.metadata as u64);
     let e = pair(m, b"reserved", d.reserved as u64);
@@ -208,7 +208,7 @@ fn plain_first(look: Look, s: Shown, q: Reading) -> bool {
 }
 
 // The next lines: the other copy, in step, sure, the record's number, and which segments clash.
-fn plain_state(ok: bool, look: Look, s: Shown) -> bool {
+fn plain_state(ok: Output, look: Look<'_>, s: Shown) -> Output {
     let o = s.other;
     let a = print(
         ok,
@@ -221,7 +221,7 @@ fn plain_state(ok: bool, look: Look, s: Shown) -> bool {
 }
 
 // The line of the two segments that share a sector, where a record is refused for that.
-fn plain_clash(ok: bool, n: Refusal) -> bool {
+fn plain_clash(ok: Output, n: Refusal) -> Output {
     if n.number != refusal::SEGMENT_CLASH {
         return ok;
     }
@@ -237,7 +237,7 @@ fn plain_clash(ok: bool, n: Refusal) -> bool {
 }
 
 // The lines of the head of an accepted record.
-fn plain_head(ok: bool, h: Head) -> bool {
+fn plain_head(ok: Output, h: Head) -> Output {
     let a = pair(ok, b"head", items::head_kind(h) as u64);
     let b = pair(a, b"block-size", items::block_size(h) as u64);
     match h {
@@ -247,7 +247,7 @@ fn plain_head(ok: bool, h: Head) -> bool {
 }
 
 // The lines of an accepted record.
-fn plain_record(ok: bool, look: Look, r: &[u8]) -> bool {
+fn plain_record(ok: Output, look: Look<'_>, r: &[u8]) -> Output {
     let a = plain_head(ok, items::head_of(r));
     let b = pair(a, b"segments", items::count_of(r) as u64);
     let c = segments(b, true, r);
@@ -257,7 +257,7 @@ fn plain_record(ok: bool, look: Look, r: &[u8]) -> bool {
     runs(f, true, look, r)
 }
 
-fn plain(look: Look, s: Shown, q: Reading, r: &[u8]) -> bool {
+fn plain(look: Look<'_>, s: Shown, q: Reading, r: &[u8]) -> Output {
     let a = plain_first(look, s, q);
     let b = plain_state(a, look, s);
     let n = s.refusal;
@@ -268,9 +268,9 @@ fn plain(look: Look, s: Shown, q: Reading, r: &[u8]) -> bool {
 }
 
 // The first lines for people.
-fn people_first(look: Look, s: Shown, q: Reading) -> bool {
+fn people_first(look: Look<'_>, s: Shown, q: Reading) -> Output {
     let d = look.device;
-    let u = uuids(true, b"pool      ", b"device    ", q);
+    let u = uuids(look.drive.out, b"pool      ", b"device    ", q);
     let n = amount(u, Text::new().add(b"drive     "), d.sectors);
     let e = facts::add_count(
         Text::new().add(b"ends      metadata "),
@@ -282,7 +282,7 @@ fn people_first(look: Look, s: Shown, q: Reading) -> bool {
 }
 
 // The lines of the found record.
-fn people_record(ok: bool, look: Look, s: Shown) -> bool {
+fn people_record(ok: Output, look: Look<'_>, s: Shown) -> Output {
     let f = s.found;
     let side = f.side;
     let area = f.area;
@@ -304,13 +304,13 @@ fn people_record(ok: bool, look: Look, s: Shown) -> bool {
 }
 
 // A line with a number of sectors and their size.
-fn amount(ok: bool, t: Text, sectors: u64) -> bool {
+fn amount(ok: Output, t: Text, sectors: u64) -> Output {
     let u = facts::add_count(t, sectors, b"sector").add(b", ");
     print(ok, facts::add_size(u, sectors).add(b"\n"))
 }
 
 // The lines of an accepted record, and the picture.
-fn people_content(ok: bool, look: Look, columns: u64, r: &[u8]) -> bool {
+fn people_content(ok: Output, look: Look<'_>, columns: u64, r: &[u8]) -> Output {
     let e = print(
         ok,
         sentences::add_head(Text::new().add(b"head      "), r).add(b"\n"),
@@ -334,7 +334,7 @@ fn people_content(ok: bool, look: Look, columns: u64, r: &[u8]) -> bool {
 }
 
 // The line of a record that is not accepted; where two segments share a sector, a line for each and one for what both hold.
-fn people_refused(ok: bool, n: Refusal, r: &[u8]) -> bool {
+fn people_refused(ok: Output, n: Refusal, r: &[u8]) -> Output {
     let a = print(
         ok,
         sentences::refused_record(Text::new().add(b"content   "), n, r).add(b"\n"),
@@ -352,7 +352,7 @@ fn people_refused(ok: bool, n: Refusal, r: &[u8]) -> bool {
 }
 
 // The line of one of two segments that share a sector: its row, and its last sector.
-fn clash_line(ok: bool, i: u64, g: Segment) -> bool {
+fn clash_line(ok: Output, i: u64, g: Segment) -> Output {
     print(
         ok,
         segment_row(i, g)
@@ -378,7 +378,7 @@ fn add_shared(t: Text, g: Segment, h: Segment) -> Text {
     facts::add_count(u, n, b"sector")
 }
 
-fn people(look: Look, s: Shown, q: Reading, r: &[u8]) -> bool {
+fn people(look: Look<'_>, s: Shown, q: Reading, r: &[u8]) -> Output {
     let a = people_first(look, s, q);
     let n = s.refusal;
     if n.number != 0 {
@@ -390,7 +390,7 @@ fn people(look: Look, s: Shown, q: Reading, r: &[u8]) -> bool {
 // Shows a record that was found.
 fn show_found(
     path: &[u8],
-    look: Look,
+    look: Look<'_>,
     as_plain: bool,
     s: Shown,
     front: &[u8],
@@ -408,14 +408,14 @@ fn show_found(
     facts::note_state(path, look, s.step, facts::record_time(f), front, back);
     facts::worse(
         facts::unless(n.number == 0, facts::REFUSED),
-        facts::unless(ok, facts::FAILED),
+        facts::unless(ok.good, facts::FAILED),
     )
 }
 
 // The word `show`.
 pub(crate) fn run(
     path: &[u8],
-    look: Look,
+    look: Look<'_>,
     as_plain: bool,
     columns: u64,
     front: &[u8],

@@ -1,11 +1,12 @@
 // The stores of an update or of a mend: all worked out first, then listed, or written group by group with a flush after each
-// group, and none after one that failed. Assumes what `libc` and `os` do.
+// group, and none after one that failed. Assumes what `io` and `std` do.
 ghost use Rattle.std.specs.Prelude.{◌<◌, ◌^◌};
 
 use crate::image;
-use crate::say::{note, print, reason};
+use crate::say::{Output, note, print, reason};
 use block::{BlockFields, Entry, Verdict};
 use mend::Mending;
+use std::fs::File;
 use stores::Given;
 use text::Text;
 use update::Plan;
@@ -19,7 +20,7 @@ pub(crate) const STRIDE: usize = 8 + layout::SECTOR_BYTES;
 pub(crate) const LIST: usize = MOST as usize * STRIDE;
 
 // What is stored: an update with its record's length, or a mend.
-#[derive(Drop)]
+#[derive(Clone, Copy)]
 pub(crate) enum Work {
     Change(Plan),
     Repair(Mending),
@@ -111,8 +112,8 @@ fn add_reason(t: Text, e: u64) -> Text {
 }
 
 // Writes a sector; whether it was written.
-pub(crate) fn write(fd: i32, path: &[u8], sector: u64, s: &[u8]) -> bool {
-    let e = image::write(fd, sector, s);
+pub(crate) fn write(image: &File, path: &[u8], sector: u64, s: &[u8]) -> bool {
+    let e = image::write(image, sector, s);
     if e == image::DONE {
         return true;
     }
@@ -121,11 +122,11 @@ pub(crate) fn write(fd: i32, path: &[u8], sector: u64, s: &[u8]) -> bool {
 }
 
 // Waits for the device, where that is due; whether that went well.
-pub(crate) fn flush(fd: i32, path: &[u8], due: bool) -> bool {
+pub(crate) fn flush(image: &File, path: &[u8], due: bool) -> bool {
     if !due {
         return true;
     }
-    let e = image::flush(fd);
+    let e = image::flush(image);
     if e == image::DONE {
         return true;
     }
@@ -135,30 +136,30 @@ pub(crate) fn flush(fd: i32, path: &[u8], due: bool) -> bool {
 }
 
 // Writes a store of the list, with a flush after the last of its group; whether that went well.
-fn write_store(fd: i32, path: &[u8], w: Work, i: u64, list: &[u8]) -> bool {
+fn write_store(image: &File, path: &[u8], w: Work, i: u64, list: &[u8]) -> bool {
     let at = place(i);
     let sector = endian::read_u64(list, at);
     if !write(
-        fd,
+        image,
         path,
         sector,
         endian::window(list, at + 8, layout::SECTOR_BYTES),
     ) {
         return false;
     }
-    flush(fd, path, flush_after(w, i))
+    flush(image, path, flush_after(w, i))
 }
 
 // Writes all stores of the list, up to the first that fails; whether all went well. A flush comes first, so that what the copies were
 // read from has landed too.
-pub(crate) fn write_all(fd: i32, path: &[u8], w: Work, list: &[u8]) -> bool {
+pub(crate) fn write_all(image: &File, path: &[u8], w: Work, list: &[u8]) -> bool {
     let n = count(w);
-    if !flush(fd, path, true) {
+    if !flush(image, path, true) {
         return false;
     }
     let mut i = 0;
     while i < n {
-        if !write_store(fd, path, w, i, list) {
+        if !write_store(image, path, w, i, list) {
             return false;
         }
         i += 1;
@@ -262,7 +263,7 @@ fn add_store(t: Text, w: Work, i: u64, n: u64, s: &[u8]) -> Text {
 }
 
 // Prints the line of a store of the list; n is the record's length.
-fn print_store(ok: bool, w: Work, i: u64, n: u64, list: &[u8]) -> bool {
+fn print_store(ok: Output, w: Work, i: u64, n: u64, list: &[u8]) -> Output {
     let at = place(i);
     let bytes = endian::window(list, at + 8, layout::SECTOR_BYTES);
     let t = Text::new()
@@ -278,7 +279,7 @@ fn print_store(ok: bool, w: Work, i: u64, n: u64, list: &[u8]) -> bool {
 }
 
 // Prints a line for each store of the list.
-pub(crate) fn print_all(before: bool, w: Work, n: u64, list: &[u8]) -> bool {
+pub(crate) fn print_all(before: Output, w: Work, n: u64, list: &[u8]) -> Output {
     let k = count(w);
     let mut ok = before;
     let mut i = 0;

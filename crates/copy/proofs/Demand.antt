@@ -32,7 +32,7 @@ use Rattle.block.proofs.Demand as Block
 use Rattle.copy.specs.declared.Present.{Present}
 use Rattle.copy.specs.declared.Present.TheVariants.{Nothing, At}
 use Rattle.copy.specs.declared.CopyReading.{CopyReading}
-use Rattle.copy.specs.Copy.{is_copy, area_bytes, entry_in, whole_entry, whole, newer, newest, present, current, copy_reading_of, copy_reading}
+use Rattle.copy.specs.Copy.{is_copy, area_bytes, entry_in, whole_entry, whole, newer, newest, present, copy_reading_of, copy_reading}
 use Rattle.copy.specs.Demand.{Sized, signature_block, first_bytes, entry_for, moment, AcceptedCopy, WholeArea, PresentRecord, LaterEntry, Reads, Exactly}
 use Rattle.copy.proofs.Latest.{Latest, present_latest, present-nothing}
 use Rattle.copy.proofs.Newness.{current-whole}

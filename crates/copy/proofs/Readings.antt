@@ -12,12 +12,10 @@ use Rattle.layout.specs.Places.{copy_bytes}
 use Rattle.block.specs.declared.BlockFields.{BlockFields}
 use Rattle.block.specs.declared.Reading.{Reading}
 use Rattle.block.specs.declared.Verdict.{Verdict}
-use Rattle.block.specs.declared.Verdict.TheVariants as Verdict
 use Rattle.block.specs.Block.{refused_reading}
 use Rattle.copy.specs.declared.Present.{Present}
 use Rattle.copy.specs.declared.Present.TheVariants.{Nothing}
 use Rattle.copy.specs.declared.CopyReading.{CopyReading}
-use Rattle.copy.specs.declared.PresentReading.{PresentReading}
 use Rattle.copy.specs.Copy.{is_copy, by_area, other_area, whole, newest, choose, present, present_by, reading_in, sized_reading, whole_for, present_for, copy_reading_of, copy_reading, present_reading_of}
 
 module _ (c : List ℕ) where

@@ -1,5 +1,5 @@
 -- The numbers of an answer: the refusal number, 0 for none, and the values of each case.
-use Rattle.std.specs.Prelude.{ℕ, Bool, true, false, List, [], ◌∷◌}
+use Rattle.std.specs.Prelude.{ℕ, List, [], ◌∷◌}
 use Rattle.layout.specs.Answers.{area_number}
 use Rattle.block.specs.Answers.{verdict_number}
 use Rattle.copy.specs.declared.Present.{Present}

@@ -1,7 +1,7 @@
 -- One copy as it is lent: what reading it answers, its whole areas and its present record. docs/FORMAT.md, 'Where things lie' and
 -- 'Discovery'.
-use Rattle.std.specs.Prelude.{ℕ, Bool, true, false, cond, ◌&&◌, List, eqb, length}
-use Rattle.endian.specs.Bytes.{window, same, zeros, splice}
+use Rattle.std.specs.Prelude.{ℕ, Bool, true, false, cond, List, eqb, length}
+use Rattle.endian.specs.Bytes.{window, zeros, splice}
 use Rattle.checksum.specs.Crc.{checksum}
 use Rattle.refusal.specs.Numbers.{slice_size}
 use Rattle.layout.specs.Limits.{sector_bytes, block_offset}
@@ -11,7 +11,6 @@ use Rattle.layout.specs.declared.Side.{Side}
 use Rattle.layout.specs.declared.Side.TheVariants.{Front, Back}
 use Rattle.layout.specs.declared.Area.{Area}
 use Rattle.layout.specs.declared.Area.TheVariants.{A, B}
-use Rattle.block.specs.declared.Holding.{Holding}
 use Rattle.block.specs.declared.Entry.{Entry}
 use Rattle.block.specs.declared.Entry.TheVariants.{Unused, Used}
 use Rattle.block.specs.declared.BlockFields.{BlockFields}

@@ -1,5 +1,7 @@
 // One copy of the metadata, as it is lent: the header's 8 sectors, with the signature block in sector 1, then as much of each
 // area as a record can fill. What reading it answers, which of its areas are whole, and its present record.
+#![tactic(auto)]
+
 ghost use Rattle.std.specs.Prelude.{◌≡◌, true, ◌+◌, length};
 ghost use Rattle.layout.specs.declared.Area.TheVariants.{A, B};
 ghost use Rattle.layout.specs.Places.{copy_bytes};
@@ -10,14 +12,14 @@ use block::{BlockFields, Entry, Holding, Reading, Verdict};
 use layout::{Area, Side};
 
 // A copy's present record: the area that holds it and what its entry says.
-#[derive(Drop)]
+#[derive(Clone, Copy)]
 pub enum Present {
     Nothing,
     At(Area, Holding),
 }
 
 // What reading a copy answers: its block's fields or refusal number, whether areas a and b are whole, and its present record.
-#[derive(Drop)]
+#[derive(Clone, Copy)]
 pub struct CopyReading {
     pub block: Reading,
     pub a: bool,
@@ -26,7 +28,7 @@ pub struct CopyReading {
 }
 
 // The part of that which says what is present.
-#[derive(Drop)]
+#[derive(Clone, Copy)]
 pub struct PresentReading {
     pub block: Reading,
     pub present: Present,

@@ -7,7 +7,6 @@ use Rattle.endian.proofs.Tests.{and_left, and_right}
 use Rattle.refusal.specs.Numbers.{slice_size}
 use Rattle.block.specs.declared.BlockFields.{BlockFields}
 use Rattle.block.specs.declared.Verdict.{Verdict}
-use Rattle.block.specs.declared.Verdict.TheVariants as Verdict
 use Rattle.copy.specs.declared.Present.{Present}
 use Rattle.copy.specs.declared.CopyReading.{CopyReading}
 use Rattle.copy.specs.Copy.{is_copy, present, reading_in, present_for, copy_reading}

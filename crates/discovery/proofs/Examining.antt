@@ -10,22 +10,20 @@ use Rattle.layout.specs.declared.Area.{Area}
 use Rattle.block.specs.declared.Holding.{Holding}
 use Rattle.block.specs.declared.BlockFields.{BlockFields}
 use Rattle.block.specs.declared.Verdict.{Verdict}
-use Rattle.block.specs.declared.Verdict.TheVariants as Verdict
 use Rattle.block.specs.Answers.{verdict_number}
 use Rattle.block.specs.Entry.{same_time, time_of}
 use Rattle.block.specs.Writing.{holding_of}
 use Rattle.copy.specs.declared.Present.{Present}
-use Rattle.copy.specs.declared.Present.TheVariants.{Nothing, At}
+use Rattle.copy.specs.declared.Present.TheVariants.{At}
 use Rattle.copy.specs.declared.CopyReading.{CopyReading}
 use Rattle.copy.specs.declared.PresentReading.{PresentReading}
-use Rattle.copy.specs.Copy.{is_copy, area_bytes, entry_in, whole, newest, present, reading_in, present_for, copy_reading, present_reading_of, current}
+use Rattle.copy.specs.Copy.{is_copy, area_bytes, entry_in, whole, newest, present, reading_in, present_for, copy_reading, present_reading_of}
 use Rattle.copy.proofs.Presence.{present-newest}
 use Rattle.copy.proofs.Newness.{current-whole}
 use Rattle.copy.proofs.Readings.{sized-read}
 use Rattle.discovery.specs.declared.Answer.{Answer}
 use Rattle.discovery.specs.declared.Answer.TheVariants.{Refused}
-use Rattle.discovery.specs.declared.Examined.{Examined}
-use Rattle.discovery.specs.Discovery.{newest_of, together_of, same_device, same_uuids, decide, sized, discovery, agree, stepped, in_step_of, is_in_step, examined}
+use Rattle.discovery.specs.Discovery.{newest_of, together_of, same_device, same_uuids, decide, sized, agree, stepped, in_step_of, is_in_step, examined}
 use Rattle.discovery.specs.Examine.{one_time, is_found, step_both, step_with, examine_of}
 use Rattle.discovery.specs.Demand.{Examines}
 use Rattle.discovery.proofs.Deciding.{discovery_unsized, discovery-sized, back_alone}

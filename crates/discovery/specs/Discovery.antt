@@ -1,5 +1,5 @@
 -- Discovery over two copies, in step, and reading the found record: docs/FORMAT.md, 'Discovery'.
-use Rattle.std.specs.Prelude.{ℕ, Bool, true, false, cond, ◌&&◌, List, eqb, leb}
+use Rattle.std.specs.Prelude.{ℕ, Bool, false, cond, ◌&&◌, List, eqb, leb}
 use Rattle.endian.specs.Bytes.{same, splice}
 use Rattle.refusal.specs.Numbers.{slice_size, no_block, identity, no_record, two_records}
 use Rattle.layout.specs.declared.Side.{Side}
@@ -9,14 +9,12 @@ use Rattle.block.specs.declared.Holding.{Holding}
 use Rattle.block.specs.declared.BlockFields.{BlockFields}
 use Rattle.block.specs.declared.Reading.{Reading}
 use Rattle.block.specs.declared.Verdict.{Verdict}
-use Rattle.block.specs.declared.Verdict.TheVariants as Verdict
 use Rattle.block.specs.Entry.{later_than, same_time, time_of}
 use Rattle.block.specs.Writing.{holding_of}
 use Rattle.copy.specs.declared.Present.{Present}
 use Rattle.copy.specs.declared.Present.TheVariants.{Nothing, At}
 use Rattle.copy.specs.declared.CopyReading.{CopyReading}
 use Rattle.discovery.specs.declared.Finding.{Finding}
-use Rattle.discovery.specs.declared.Other.{Other}
 use Rattle.discovery.specs.declared.Other.TheVariants.{Both, One}
 use Rattle.discovery.specs.declared.Answer.{Answer}
 use Rattle.discovery.specs.declared.Answer.TheVariants.{Found, Refused}

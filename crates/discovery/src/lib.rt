@@ -1,5 +1,7 @@
 // Discovery: the newest whole record of two copies, or the number by which there is none; reading it; whether the copies
 // are in step. A copy is lent as the header's 8 sectors and as much of each area as a record can fill.
+#![tactic(auto)]
+
 ghost use Rattle.std.specs.Prelude.{◌≡◌, true, false, [], length};
 ghost use Rattle.endian.specs.Bytes.{same, splice};
 ghost use Rattle.layout.specs.declared.Side.TheVariants as Side;
@@ -16,7 +18,7 @@ use copy::{Present, PresentReading};
 use layout::{Area, Side};
 
 // Where a record was found, its length and its time, and the fields of that copy's block.
-#[derive(Drop)]
+#[derive(Clone, Copy)]
 pub struct Finding {
     pub side: Side,
     pub area: Area,
@@ -27,21 +29,21 @@ pub struct Finding {
 }
 
 // The other copy: accepted too, with these fields, or refused with a number.
-#[derive(Drop)]
+#[derive(Clone, Copy)]
 pub enum Other {
     Both(BlockFields),
     One(u8),
 }
 
 // What discovery answers.
-#[derive(Drop)]
+#[derive(Clone, Copy)]
 pub enum Answer {
     Found(Finding, Other),
     Refused(u8),
 }
 
 // What is seen of two copies at once: what discovery answers, and whether they are in step (`step`).
-#[derive(Drop)]
+#[derive(Clone, Copy)]
 pub struct Examined {
     pub answer: Answer,
     pub step: bool,

@@ -1,6 +1,8 @@
 // Checks a dump. Reads standard input, the front copy and then the back, and prints one line: what discovery answers for
 // them. The files stdin and stdout beside src/ have a sample and what is printed for it. What the line says is proved in
 // `dump_line`. Assumes what `io` and `libc` do.
+#![tactic(auto)]
+
 use dump_line::Written;
 
 const IN: i32 = 0;

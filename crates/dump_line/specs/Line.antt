@@ -15,7 +15,6 @@ use Rattle.discovery.specs.declared.Answer.TheVariants.{Found, Refused}
 use Rattle.discovery.specs.Discovery.{discovery}
 use Rattle.text.specs.Decimal.{decimal}
 use Rattle.dump_line.specs.declared.Written.{Written}
-use Rattle.dump_line.specs.declared.Written.TheVariants as Written
 
 -- "front " or "back "
 abbrev pub side_word : Side → List ℕ

@@ -1,5 +1,7 @@
 // The line that the dump program prints for two copies: what discovery answers, in words and decimal numbers.
 // Every call is total.
+#![tactic(auto)]
+
 ghost use Rattle.std.specs.Prelude.{◌≡◌};
 ghost use Rattle.endian.specs.Bytes.{splice};
 ghost use Rattle.discovery.specs.declared.Answer.TheVariants as Answer;
@@ -15,7 +17,7 @@ use text::Text;
 pub const LINE_BYTES: usize = 128;
 
 // What the calls that write a line answer: its length, with its end, or the refusal number.
-#[derive(Drop)]
+#[derive(Clone, Copy)]
 pub enum Written {
     Length(usize),
     Refused(u8),

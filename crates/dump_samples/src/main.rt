@@ -1,6 +1,8 @@
 // Runs the dump program's line over many dumps. Standard input has the samples, packed by samples/dumps.py; for each, its
 // name and its line are printed. The file stdout beside src/ has what that script says must be printed. Assumes what `io`
 // and `libc` do.
+#![tactic(auto)]
+
 ghost use Rattle.std.specs.Prelude.{◌≤◌, ◌<◌, length};
 ghost use Rattle.sampling.specs.Laying.{input_bytes};
 

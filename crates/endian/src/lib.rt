@@ -1,5 +1,7 @@
 // Bytes in a slice: little-endian numbers of 2, 4 and 8 bytes, parts, copies and comparisons, at any offset.
 // Every call is total: nothing is asked of the slice or of the offset.
+#![tactic(auto)]
+
 ghost use Rattle.std.specs.Prelude.{◌≡◌, ◌^◌, ◌≤◌, ◌<◌, length};
 ghost use Rattle.endian.specs.Bytes.{le, to_le, window, splice, write_number, same, zeros};
 

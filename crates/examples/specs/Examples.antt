@@ -21,17 +21,12 @@ use Rattle.items.specs.Items.{segments}
 use Rattle.items.specs.Making.{record_of}
 use Rattle.record.specs.Accept.{record_tests, named}
 use Rattle.allocation.specs.declared.RunCount.{RunCount}
-use Rattle.allocation.specs.declared.RunCount.TheVariants as RunCount
 use Rattle.allocation.specs.declared.RunFound.{RunFound}
-use Rattle.allocation.specs.declared.RunFound.TheVariants as RunFound
 use Rattle.allocation.specs.declared.FreeTotal.{FreeTotal}
-use Rattle.allocation.specs.declared.FreeTotal.TheVariants as FreeTotal
 use Rattle.allocation.specs.declared.Allocation.{Allocation}
-use Rattle.allocation.specs.declared.Allocation.TheVariants as Allocation
 use Rattle.allocation.specs.Answers.{runs_answer, run_answer, total_answer}
 use Rattle.allocation.specs.Change.{allocate_answer}
 use Rattle.update.specs.declared.Planned.{Planned}
-use Rattle.update.specs.declared.Planned.TheVariants as Planned
 use Rattle.update.specs.Plan.{planned, stores_in}
 use Rattle.format.specs.Format.{formatted_copy}
 

@@ -22,7 +22,6 @@ use Rattle.layout.specs.Places.{copy_bytes, area_offset}
 use Rattle.discovery.specs.Discovery.{sized}
 use Rattle.copy.specs.Copy.{is_copy}
 use Rattle.stores.specs.declared.Given.{Given}
-use Rattle.stores.specs.declared.Given.TheVariants as Given
 use Rattle.stores.specs.Given.{lent_right}
 use Rattle.sectors.specs.Sectors.{copy_sectors, area_start, sector_at}
 use Rattle.sectors.specs.Demand.{nth_sector}

@@ -20,14 +20,13 @@ use Rattle.block.specs.declared.Time.{Time}
 use Rattle.block.specs.Block.{is_hex}
 use Rattle.block.proofs.Exactly.{hex_bytes, bytes_hex}
 use Rattle.record.specs.Accept.{content_tests, record_tests}
-use Rattle.record.specs.Demand.{RightBytes}
 use Rattle.record.proofs.Demand as Records
 use Rattle.record.proofs.Right.{right_content}
 use Rattle.items.specs.Head.{head_of}
 use Rattle.items.specs.Items.{segments}
 use Rattle.discovery.specs.Discovery.{sized}
 use Rattle.format.specs.Format.{format_tests, format_number, formatted_copy, formatted}
-use Rattle.format.specs.Demand.{Formattable, Exactly, Asked, Content, Leaves, Leaving}
+use Rattle.format.specs.Demand.{Formattable, Exactly, Asked, Content, Leaving}
 use Rattle.format.proofs.Checking.{format_ascending}
 
 -- the tests before the record's

@@ -27,7 +27,6 @@ use Rattle.crash.specs.Crash.{Sectors, Sound, Store, store_in, group_start, land
 use Rattle.crash.proofs.Copies.{limit_small, length-copy}
 use Rattle.crash.proofs.Landing.{landed_old, landed-new, landed-size}
 use Rattle.stores.specs.declared.Given.{Given}
-use Rattle.stores.specs.declared.Given.TheVariants as Given
 use Rattle.stores.specs.Given.{lent_right}
 use Rattle.stores.specs.States.{Ready}
 use Rattle.stores.proofs.Choosing.{lent_right_lem}

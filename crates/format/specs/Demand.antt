@@ -1,6 +1,6 @@
 -- What holds of formatted copies, and of the stores that write two copies. `proofs/Exactly.antt` proves `Exactly`, `Content` and `Leaving`,
 -- `proofs/Demand.antt` `Lowest`, `Naming`, `Formatting` and `Zero`, `proofs/Starting.antt` `Placing`, `Starting` and `Possible`, `proofs/Writing.antt` the rest.
-use Rattle.std.specs.Prelude.{ℕ, suc, ◌+◌, ◌^◌, ◌≤◌, ◌<◌, ◌≡◌, ◌⊎◌, ◌↔◌, true, false, List, ◌++◌, leb, length, get_or}
+use Rattle.std.specs.Prelude.{ℕ, suc, ◌+◌, ◌^◌, ◌≤◌, ◌<◌, ◌≡◌, ◌⊎◌, ◌↔◌, true, false, List, ◌++◌, length, get_or}
 use Rattle.endian.specs.Bytes.{Bytes}
 use Rattle.refusal.specs.Numbers.{no_such_store}
 use Rattle.refusal.specs.Tests.{first, Fails}

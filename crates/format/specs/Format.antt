@@ -1,5 +1,5 @@
 -- Formatting: its refusals and what it leaves. docs/FORMAT.md, 'Formatting'.
-use Rattle.std.specs.Prelude.{ℕ, cond, ◌&&◌, List, ◌∷◌, leb, eqb, length}
+use Rattle.std.specs.Prelude.{ℕ, cond, ◌&&◌, List, ◌∷◌, eqb, length}
 use Rattle.endian.specs.Bytes.{splice, all_pass, zeros}
 use Rattle.refusal.specs.Numbers.{slice_size, device_size, uuid_byte, metadata_size, reserved_size, area_entry}
 use Rattle.refusal.specs.Tests.{Test, ◌else_refuse◌, first}

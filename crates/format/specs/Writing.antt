@@ -12,7 +12,6 @@ use Rattle.layout.specs.Limits.{device_tests, sector_bytes, header_sectors}
 use Rattle.layout.specs.Places.{header_sector, area_sector, area_offset}
 use Rattle.crash.specs.Crash.{Store, Groups, stores_from, area_sectors}
 use Rattle.stores.specs.declared.Given.{Given}
-use Rattle.stores.specs.declared.Given.TheVariants as Given
 use Rattle.stores.specs.Given.{lent_right}
 use Rattle.sectors.specs.Sectors.{copy_sectors, area_start, sector_at}
 use Rattle.sectors.specs.Demand.{nth_sector}

@@ -1,5 +1,7 @@
 // Formatting: both copies of a device's metadata filled anew, with a first record in area a; and the stores that write both
 // to a device. The copies are lent as discovery takes them.
+#![tactic(auto)]
+
 ghost use Rattle.std.specs.Prelude.{◌≡◌, true, ◌<◌, length};
 ghost use Rattle.endian.specs.Bytes.{splice};
 ghost use Rattle.refusal.specs.Tests.{first};

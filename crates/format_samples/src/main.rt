@@ -3,6 +3,8 @@
 // Before each sample the copies hold bytes of the input. What must be printed is the file stdout; that script makes both
 // and shares nothing with the library. That the program is safe and ends is proved; that it prints the right thing is
 // tested. Assumes what `io` and `libc` do.
+#![tactic(auto)]
+
 ghost use Rattle.std.specs.Prelude.{◌+◌, ◌≤◌, ◌<◌, length};
 ghost use Rattle.sampling.specs.Laying.{input_bytes};
 

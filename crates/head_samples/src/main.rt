@@ -3,6 +3,8 @@
 // head gives. Standard input has the samples: the bytes lent in 2 bytes, a block size in 4, a mark in 4, the record's length in 2, then the record.
 // What must be printed is the file stdout; samples/heads.py makes both and shares nothing with the library. That the program is safe and ends is
 // proved; that it prints the right thing is tested. Assumes what `io` and `libc` do.
+#![tactic(auto)]
+
 ghost use Rattle.std.specs.Prelude.{◌≤◌, ◌<◌, length};
 ghost use Rattle.sampling.specs.Laying.{input_bytes};
 

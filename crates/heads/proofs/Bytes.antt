@@ -1,10 +1,10 @@
 -- A change of a head byte for byte: a known head's bytes, and anything after them.
-use Prim.Native.Nat.{ℕ, ◌^◌, ◌<◌}
+use Prim.Native.Nat.{ℕ}
 use mathlib.Core.Path.{◌≡◌, refl, sym, ap, ◌∙◌}
 use mathlib.Core.Bool.{true, true≢false}
 use mathlib.Core.List.{List, [], ◌∷◌, ◌++◌}
 use native.Mathlib.Omega.{arith}
-use lib.ListN.{length, take, drop, get_or}
+use lib.ListN.{take, drop, get_or}
 use Rattle.endian.specs.Bytes.{le, to_le}
 use Rattle.endian.proofs.Numbers.{le-to_le}
 use Rattle.layout.specs.declared.Device.{Device}
@@ -12,10 +12,8 @@ use Rattle.items.specs.declared.Head.{Head}
 use Rattle.items.specs.declared.Head.TheVariants.{Plain, Marked, Unknown}
 use Rattle.items.specs.Head.{head_kind, head_bytes, head_size, head_right, low_water}
 use Rattle.items.proofs.Heads.{right_marked, unknown-wrong}
-use Rattle.record.specs.Demand.{four_bytes}
 use Rattle.record.proofs.Demand.{four}
 use Rattle.heads.specs.declared.Change.{Change}
-use Rattle.heads.specs.declared.Change.TheVariants as Change
 use Rattle.heads.specs.Changing.{raised, lowered, remarked, head_after}
 use Rattle.heads.specs.Demand.{Movable, KindBytes, ByteForByte}
 use Rattle.heads.proofs.Heads.{not_plain}

@@ -1,11 +1,11 @@
 -- What a change of a head answers and leaves, test by test, as the code has it.
 use Prim.Native.Nat.{ℕ, ◌+◌, ◌-◌, ◌*◌, ◌≤◌, ◌<◌}
 use mathlib.Core.Path.{◌≡◌, refl, sym, ap, ◌∙◌}
-use mathlib.Core.Bool.{Bool, true, false}
+use mathlib.Core.Bool.{true, false}
 use mathlib.Core.List.{List, [], ◌++◌}
 use native.Mathlib.Omega.{arith}
-use borrow.Author.Tests.{eq-eqb, ne_eqb, le-leb, lt-leb}
-use lib.Dec.{lit<, leb, eqb}
+use borrow.Author.Tests.{le-leb, lt-leb}
+use lib.Dec.{lit<, leb}
 use lib.ListN.{length, length-append}
 use Rattle.endian.specs.Bytes.{splice}
 use Rattle.endian.proofs.Parts.{splice_next}
@@ -17,7 +17,7 @@ use Rattle.refusal.proofs.Order.{first-nil, first-pass, first_fail, first-zero, 
 use Rattle.layout.specs.declared.Device.{Device}
 use Rattle.layout.specs.Limits.{record_limit}
 use Rattle.items.specs.declared.Head.{Head}
-use Rattle.items.specs.Head.{head_of, head_kind, head_bytes, head_size, low_water, item_bytes}
+use Rattle.items.specs.Head.{head_of, head_bytes, head_size, item_bytes}
 use Rattle.items.specs.Items.{items_of, segments}
 use Rattle.items.proofs.Heads.{length-head, head_small}
 use Rattle.items.proofs.Items.{length_items, formed}
@@ -27,9 +27,7 @@ use Rattle.record.proofs.Naming.{named_other, refuse_no, refuse-yes}
 use Rattle.record.proofs.Accepted.{accepted}
 use Rattle.record.proofs.Right.{accepted-right}
 use Rattle.heads.specs.declared.Change.{Change}
-use Rattle.heads.specs.declared.Change.TheVariants as Change
 use Rattle.heads.specs.declared.Changed.{Changed}
-use Rattle.heads.specs.declared.Changed.TheVariants as Changed
 use Rattle.heads.specs.Changing.{head_after, record_after, keeps, has_mark, head_tests, room_tests, change_tests, change_answer, change_left}
 
 -- the number of the head's test, in each case

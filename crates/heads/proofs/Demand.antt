@@ -33,9 +33,7 @@ use Rattle.record.proofs.Right.{accepted_made, accepted-right, read_head, read_s
 use Rattle.record.proofs.Demand.{refusal_of, heads, head_says}
 use Rattle.allocation.specs.Answers.{free_runs}
 use Rattle.heads.specs.declared.Change.{Change}
-use Rattle.heads.specs.declared.Change.TheVariants as Change
 use Rattle.heads.specs.declared.Changed.{Changed}
-use Rattle.heads.specs.declared.Changed.TheVariants as Changed
 use Rattle.heads.specs.Changing.{head_after, record_after, head_tests, room_tests, change_tests, change_left, changed_refusal}
 use Rattle.heads.specs.Demand.{FourBytes, Becomes, KindBytes, ByteForByte, Moved, Changes, Same, Returns, UpAndBack, BackAndUp, Loses, TwentyFour, LosesBytes, Movable, head_bytes_after, Owned, RecordFirst, Refusing, Numbered as AllNumbered, Existing}
 use Rattle.heads.proofs.Calls.{up_number, back_lost, back_kept, mark_no, mark_yes, head-ascending, length-after}

@@ -1,5 +1,5 @@
 -- Laws of heads after a change: what later papers change of them stands here and in `items`.
-use Prim.Native.Nat.{ℕ, ◌+◌, ◌*◌, ◌≤◌, ◌<◌}
+use Prim.Native.Nat.{ℕ, ◌+◌, ◌*◌, ◌≤◌}
 use mathlib.Core.Path.{◌≡◌, refl, sym, ap, ◌∙◌, subst}
 use mathlib.Core.Bool.{true, true≢false}
 use mathlib.Core.List.{List, ◌++◌}
@@ -23,7 +23,6 @@ use Rattle.record.specs.Accept.{record_tests}
 use Rattle.record.specs.Demand.{Right}
 use Rattle.record.proofs.Right.{accepted-right}
 use Rattle.heads.specs.declared.Change.{Change}
-use Rattle.heads.specs.declared.Change.TheVariants as Change
 use Rattle.heads.specs.Changing.{raised, lowered, remarked, head_after, record_after}
 use Rattle.heads.specs.Demand.{FourBytes, Becomes, Nothing, Movable, head_bytes_after}
 

@@ -13,9 +13,7 @@ use Rattle.items.specs.Items.{items_of}
 use Rattle.items.specs.Making.{unless}
 use Rattle.record.specs.Accept.{record_tests, named}
 use Rattle.heads.specs.declared.Change.{Change}
-use Rattle.heads.specs.declared.Change.TheVariants as Change
 use Rattle.heads.specs.declared.Changed.{Changed}
-use Rattle.heads.specs.declared.Changed.TheVariants as Changed
 
 -- moved up: kind 17 with the mark 0; one of kind 17 stays
 unfoldable pub raised : Head → Head

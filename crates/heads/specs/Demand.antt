@@ -17,7 +17,6 @@ use Rattle.record.specs.Demand.{RightBytes, BlockSize, four_bytes}
 use Rattle.allocation.specs.Answers.{runs_in}
 use Rattle.allocation.specs.Change.{runs_for}
 use Rattle.heads.specs.declared.Change.{Change}
-use Rattle.heads.specs.declared.Change.TheVariants as Change
 use Rattle.heads.specs.declared.Changed.TheVariants as Changed
 use Rattle.heads.specs.Changing.{change_tests, change_answer, change_left, changed_refusal}
 

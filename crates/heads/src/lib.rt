@@ -1,5 +1,7 @@
 // The head of a segment record, changed: moved up to kind 17, moved back to kind 16, or with another low water mark. Every change checks the
 // device numbers and the record first, as allocation does; the items after the head stay, byte for byte.
+#![tactic(auto)]
+
 ghost use Rattle.std.specs.Prelude.{◌≡◌, length};
 ghost use Rattle.refusal.specs.Tests.{first};
 ghost use Rattle.heads.specs.Changing.{raised, lowered, remarked, head_after, keeps, has_mark, head_tests, change_answer, change_left};
@@ -9,7 +11,7 @@ use layout::Device;
 use refusal::Refusal;
 
 // What is asked of a head: up, from kind 16 to kind 17 with the mark 0; back, from kind 17 to kind 16; or this low water mark in blocks.
-#[derive(Drop)]
+#[derive(Clone, Copy)]
 pub enum Change {
     Up,
     Back,
@@ -17,7 +19,7 @@ pub enum Change {
 }
 
 // What `rewrite` answers: the new record's length in bytes.
-#[derive(Drop)]
+#[derive(Clone, Copy)]
 pub enum Changed {
     Length(usize),
     Refused(Refusal),

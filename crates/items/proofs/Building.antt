@@ -1,5 +1,5 @@
 -- A record made step by step.
-use Prim.Native.Nat.{ℕ, ◌+◌, ◌*◌, ◌≤◌, ◌<◌}
+use Prim.Native.Nat.{ℕ, ◌+◌, ◌*◌, ◌≤◌}
 use mathlib.Core.Path.{◌≡◌, refl, sym, ap, ap₂, ◌∙◌}
 use mathlib.Core.Bool.{true, false, ◌&&◌}
 use mathlib.Core.List.{List, [], ◌∷◌, ◌++◌, append_assoc, append-nil}
@@ -16,7 +16,6 @@ use Rattle.refusal.proofs.Order.{first_holds, answer_no, answer-yes}
 use Rattle.segments.specs.declared.Segment.{Segment}
 use Rattle.items.specs.declared.Head.{Head}
 use Rattle.items.specs.declared.Put.{Put}
-use Rattle.items.specs.declared.Put.TheVariants as Put
 use Rattle.items.specs.Head.{head_of, head_bytes, head_size, head_allowed, item_bytes}
 use Rattle.items.specs.Making.{segment_bytes, all_bytes, record_of, place, begins, begin_tests, begun, put_answer, put_left}
 use Rattle.items.specs.Demand.{Holds, Beginning, Starting, Building}

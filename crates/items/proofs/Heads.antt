@@ -1,5 +1,5 @@
 -- Laws of heads and kinds: what callers know of them without looking inside.
-use Prim.Native.Nat.{ℕ, ◌+◌, ◌-◌, ◌*◌, ◌%◌, ◌^◌, ◌≤◌, ◌<◌}
+use Prim.Native.Nat.{ℕ, ◌+◌, ◌*◌, ◌%◌, ◌^◌, ◌≤◌, ◌<◌}
 use mathlib.Core.Path.{◌≡◌, refl, sym, ap, ◌∙◌}
 use mathlib.Core.Bool.{true, false, ◌&&◌, true≢false}
 use mathlib.Core.List.{List, [], ◌++◌, append_assoc}
@@ -17,7 +17,6 @@ use Rattle.endian.proofs.Tests.{and_left, and_right, and_both}
 use Rattle.layout.specs.declared.Device.{Device}
 use Rattle.layout.specs.Limits.{record_limit}
 use Rattle.items.specs.declared.Item.{Item}
-use Rattle.items.specs.declared.Item.TheVariants as Item
 use Rattle.items.specs.declared.Head.{Head}
 use Rattle.items.specs.declared.Head.TheVariants.{Plain, Marked, Unknown}
 use Rattle.items.specs.Head.{plain_kind, marked_kind, item_of, is_segment, head_as, head_of, head_bytes, head_size, block_size_allowed, mark_allowed, head_allowed, head_right, allows, item_bytes, data_range, range_for, most_segments, most_of_any}

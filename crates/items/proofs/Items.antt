@@ -1,28 +1,25 @@
 -- Laws of a record's items: what is read, by position and as a list.
-use Prim.Native.Nat.{ℕ, zero, suc, ◌+◌, ◌-◌, ◌*◌, ◌/◌, ◌%◌, ◌^◌, ◌≤◌, ◌<◌, min}
+use Prim.Native.Nat.{ℕ, zero, suc, ◌+◌, ◌-◌, ◌*◌, ◌/◌, ◌%◌, ◌^◌, ◌≤◌, ◌<◌}
 use mathlib.Core.Path.{◌≡◌, refl, sym, ap, ◌∙◌}
 use mathlib.Core.Bool.{Bool, true, false, ◌&&◌}
-use mathlib.Core.List.{List, [], ◌∷◌, ◌++◌}
-use native.Mathlib.Decide.{dec_le}
+use mathlib.Core.List.{List, []}
 use native.Mathlib.Nat.{div-add-mod', not-suc-le-zero, le_of_suc-le-suc}
 use native.Mathlib.Omega.{arith}
 use borrow.Author.Tests.{leb-true, eqb-true, le-leb, eq-eqb, lt-leb}
 use lib.Dec.{leb, eqb}
-use lib.ListN.{length, get_or, take, drop, length-drop, get_or-eq_default, drop_of_length-le}
+use lib.ListN.{length, take, drop, length-drop, get_or-eq_default, drop_of_length-le}
 use lib.Seq.{drop-drop}
 use Rattle.endian.specs.Bytes.{le, window}
 use Rattle.endian.proofs.Numbers.{le_bound}
-use Rattle.endian.proofs.Parts.{length-window, window-past, window-window}
+use Rattle.endian.proofs.Parts.{length-window, window-window}
 use Rattle.endian.proofs.Tests.{and_left, and_right, and_both}
 use Rattle.search.specs.Search.{every}
 use Rattle.search.proofs.Search.{every-at, every_all, and_false-right, and_false-left}
 use Rattle.layout.specs.declared.Device.{Device}
 use Rattle.segments.specs.declared.Segment.{Segment}
 use Rattle.segments.specs.Segments.{none, nth}
-use Rattle.items.specs.declared.Head.{Head}
 use Rattle.items.specs.Head.{head_of, head_size, head_right, allows, item_bytes}
 use Rattle.items.specs.Items.{items_of, segment_of, read_items, segments_in, segments, size_in, item_right, framed, well_formed}
-use Rattle.items.specs.Making.{place}
 
 -- a part of what is left after the first k
 pub window-drop : (s : List ℕ) (k at n : ℕ) → window (drop k s) at n ≡ window s (k + at) n

@@ -19,7 +19,6 @@ use Rattle.layout.specs.declared.Device.{Device}
 use Rattle.segments.specs.declared.Segment.{Segment}
 use Rattle.segments.specs.Segments.{none, nth}
 use Rattle.items.specs.declared.Item.{Item}
-use Rattle.items.specs.declared.Item.TheVariants as Item
 use Rattle.items.specs.declared.Head.{Head}
 use Rattle.items.specs.declared.Head.TheVariants.{Plain, Marked, Unknown}
 use Rattle.items.specs.Head.{plain_kind, marked_kind, item_of, head_as, head_of, head_bytes, head_size, head_allowed, head_right, allows, item_bytes}

@@ -1,6 +1,6 @@
 -- A segment put at a position, test by test, as the code has it.
 use Prim.Native.Nat.{ℕ, ◌+◌, ◌≤◌, ◌<◌, min}
-use mathlib.Core.Path.{◌≡◌, refl, sym, ap, subst, ◌∙◌}
+use mathlib.Core.Path.{◌≡◌, refl, sym, ap, ◌∙◌}
 use mathlib.Core.Bool.{Bool, true, false, cond}
 use mathlib.Core.List.{List, []}
 use native.Mathlib.Decide.{dec_le}
@@ -13,7 +13,6 @@ use Rattle.endian.specs.Bytes.{splice, fits, write_number}
 use Rattle.endian.proofs.Parts.{splice-short, write-fits, write-short}
 use Rattle.segments.specs.declared.Segment.{Segment}
 use Rattle.items.specs.declared.Put.{Put}
-use Rattle.items.specs.declared.Put.TheVariants as Put
 use Rattle.items.specs.Head.{item_bytes}
 use Rattle.items.specs.Making.{segment_bytes, place, begins, put_tests, put_answer, put_left}
 use Rattle.items.proofs.Making.{length-segment}

@@ -7,7 +7,6 @@ use Rattle.layout.specs.Limits.{record_limit}
 use Rattle.layout.specs.Places.{data_start, data_end}
 use Rattle.segments.specs.declared.Range.{Range}
 use Rattle.items.specs.declared.Item.{Item}
-use Rattle.items.specs.declared.Item.TheVariants as Item
 use Rattle.items.specs.declared.Head.{Head}
 use Rattle.items.specs.declared.Head.TheVariants.{Plain, Marked, Unknown}
 

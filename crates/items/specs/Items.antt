@@ -1,6 +1,6 @@
 -- The items of a segment record, as docs/FORMAT.md, 'Segment record', lays them out: each with its length first (two bytes, whole item), then a two-byte
 -- kind, then the body. Bytes that are not there count as zero, so that each definition has a value at every list.
-use Rattle.std.specs.Prelude.{ℕ, zero, suc, ◌+◌, ◌-◌, ◌*◌, ◌/◌, ◌%◌, Bool, ◌&&◌, List, [], ◌∷◌, leb, eqb, length, drop}
+use Rattle.std.specs.Prelude.{ℕ, zero, suc, ◌-◌, ◌*◌, ◌/◌, ◌%◌, Bool, ◌&&◌, List, [], ◌∷◌, leb, eqb, length, drop}
 use Rattle.endian.specs.Bytes.{le, window}
 use Rattle.layout.specs.declared.Device.{Device}
 use Rattle.search.specs.Search.{every}

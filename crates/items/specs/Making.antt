@@ -6,7 +6,6 @@ use Rattle.endian.specs.Bytes.{le, to_le, window, splice, fits}
 use Rattle.segments.specs.declared.Segment.{Segment}
 use Rattle.items.specs.declared.Head.{Head}
 use Rattle.items.specs.declared.Put.{Put}
-use Rattle.items.specs.declared.Put.TheVariants as Put
 use Rattle.items.specs.Head.{head_of, head_bytes, head_size, head_allowed, item_bytes}
 
 -- length 20, kind, start, length

@@ -1,5 +1,7 @@
 // The items of a segment record: a head, then segments, each with its length first, then its kind. Read and made; what depends on
 // the head's kind is here, and what changes it in `heads`.
+#![tactic(auto)]
+
 ghost use Rattle.std.specs.Prelude.{◌≡◌, ◌*◌, ◌/◌, ◌<◌, ◌≤◌, min, length};
 ghost use Rattle.refusal.specs.Tests.{first};
 ghost use Rattle.endian.specs.Bytes.{le, window, write_number, splice};
@@ -31,7 +33,7 @@ pub const MARKED_KIND: u16 = 17;
 pub const MOST_SEGMENTS: usize = (layout::RECORD_LIMIT as usize - HEAD_BYTES) / ITEM_BYTES;
 
 // What an item's kind says it is.
-#[derive(Drop)]
+#[derive(Clone, Copy)]
 pub enum Item {
     ThinMetadata,
     ThinData,
@@ -44,7 +46,7 @@ pub enum Item {
 
 // The head of a record: of kind 16, with the data block size in sectors; of kind 17, with that and the low water mark in blocks; or none that is
 // known.
-#[derive(Drop)]
+#[derive(Clone, Copy)]
 pub enum Head {
     Plain(u32),
     Marked(u32, u32),
@@ -52,7 +54,7 @@ pub enum Head {
 }
 
 // What `put_at` answers: a record's length in bytes.
-#[derive(Drop)]
+#[derive(Clone, Copy)]
 pub enum Put {
     Length(usize),
     Refused(u8),

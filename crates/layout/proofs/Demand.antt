@@ -11,7 +11,7 @@ use Rattle.layout.specs.declared.Device.{Device}
 use Rattle.layout.specs.Limits.{record_limit, device_tests}
 use Rattle.layout.specs.declared.BlocksLocated.TheVariants as BlocksLocated
 use Rattle.layout.specs.Places.{area_offset, copy_bytes, map_of, located_at, blocks_located}
-use Rattle.layout.specs.Demand.{Sizes, Allowed, Exactly, Tiled, Mapped, Tiling, Begins, Beginning}
+use Rattle.layout.specs.Demand.{Sizes, Allowed, Exactly, Tiled, Mapped, Tiling, Beginning}
 use Rattle.layout.proofs.Laws.{metadata_facts, metadata_test}
 
 pub sizes : Sizes

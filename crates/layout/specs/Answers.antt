@@ -9,7 +9,6 @@ use Rattle.layout.specs.declared.DeviceMap.{DeviceMap}
 use Rattle.layout.specs.declared.Located.{Located}
 use Rattle.layout.specs.declared.Located.TheVariants.{At, Refused}
 use Rattle.layout.specs.declared.BlocksLocated.{BlocksLocated}
-use Rattle.layout.specs.declared.BlocksLocated.TheVariants as BlocksLocated
 
 -- a side and an area as numbers
 abbrev pub side_number : Side → ℕ

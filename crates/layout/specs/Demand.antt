@@ -1,6 +1,6 @@
 -- The sizes and limits in the format's numbers, where things lie on its example device with 100 reserved sectors at each end, which
 -- device numbers are allowed, where things lie on every such device, and where to look first. `proofs/Demand.antt` proves it.
-use Rattle.std.specs.Prelude.{ℕ, ◌+◌, ◌/◌, ◌%◌, ◌≤◌, ◌<◌, ◌≡◌, ◌↔◌, List, [], ◌∷◌}
+use Rattle.std.specs.Prelude.{ℕ, ◌+◌, ◌/◌, ◌%◌, ◌≤◌, ◌<◌, ◌≡◌, ◌↔◌, [], ◌∷◌}
 use Rattle.refusal.specs.Tests.{first}
 use Rattle.layout.specs.declared.Device.{Device}
 use Rattle.layout.specs.declared.Side.TheVariants.{Front, Back}

@@ -1,6 +1,6 @@
 -- Where things lie: docs/FORMAT.md, 'Where things lie', in its order. Differences of numbers stop at 0; with device numbers
 -- that are allowed none does.
-use Rattle.std.specs.Prelude.{ℕ, ◌+◌, ◌-◌, ◌*◌, ◌/◌, cond, eqb}
+use Rattle.std.specs.Prelude.{ℕ, ◌+◌, ◌-◌, ◌/◌, cond, eqb}
 use Rattle.refusal.specs.Tests.{first}
 use Rattle.layout.specs.declared.Device.{Device}
 use Rattle.layout.specs.declared.Side.{Side}
@@ -12,7 +12,6 @@ use Rattle.layout.specs.declared.DeviceMap.{DeviceMap}
 use Rattle.layout.specs.declared.Located.{Located}
 use Rattle.layout.specs.declared.Located.TheVariants.{At, Refused}
 use Rattle.layout.specs.declared.BlocksLocated.{BlocksLocated}
-use Rattle.layout.specs.declared.BlocksLocated.TheVariants as BlocksLocated
 use Rattle.refusal.specs.Numbers.{device_size}
 use Rattle.layout.specs.Limits.{size_allowed, device_tests, header_sectors, header_bytes, record_limit}
 

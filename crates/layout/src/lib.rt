@@ -1,6 +1,8 @@
 // Where things lie on a device, from its three numbers: S sectors in all, L of the metadata areas of a copy (L / 2 each), R of
 // reserved space. The sizes of what lies there, and their limits.
 // Sectors are u64, and nothing wraps for any S.
+#![tactic(auto)]
+
 ghost use Rattle.std.specs.Prelude.{◌≡◌, ◌-◌};
 ghost use Rattle.refusal.specs.Tests.{first};
 ghost use Rattle.layout.specs.Limits.{size_allowed, metadata_allowed, reserved_allowed, length_allowed, device_tests};
@@ -38,7 +40,7 @@ pub const MOST_NANOSECONDS: u32 = 999999999;
 
 // The device's numbers, as the signature block has them.
 #[repr(C)]
-#[derive(Drop)]
+#[derive(Clone, Copy)]
 pub struct Device {
     // S, in sectors.
     pub sectors: u64,
@@ -49,14 +51,14 @@ pub struct Device {
 }
 
 // The two copies of the metadata.
-#[derive(Drop)]
+#[derive(Clone, Copy)]
 pub enum Side {
     Front,
     Back,
 }
 
 // The two metadata areas of a copy.
-#[derive(Drop)]
+#[derive(Clone, Copy)]
 pub enum Area {
     A,
     B,
@@ -64,7 +66,7 @@ pub enum Area {
 
 // First sectors of a copy's parts.
 #[repr(C)]
-#[derive(Drop)]
+#[derive(Clone, Copy)]
 pub struct CopyMap {
     pub header: u64,
     pub block: u64,
@@ -75,7 +77,7 @@ pub struct CopyMap {
 
 // Both copies, and the data range: from start up to, not including, end.
 #[repr(C)]
-#[derive(Drop)]
+#[derive(Clone, Copy)]
 pub struct DeviceMap {
     pub front: CopyMap,
     pub back: CopyMap,
@@ -84,14 +86,14 @@ pub struct DeviceMap {
 }
 
 // What `locate` answers.
-#[derive(Drop)]
+#[derive(Clone, Copy)]
 pub enum Located {
     At(DeviceMap),
     Refused(u8),
 }
 
 // What `locate_blocks` answers: the sectors of the front's signature block and of the back's.
-#[derive(Drop)]
+#[derive(Clone, Copy)]
 pub enum BlocksLocated {
     At(u64, u64),
     Refused(u8),

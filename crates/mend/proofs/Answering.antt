@@ -5,17 +5,13 @@ use mathlib.Core.Bool.{Bool, true, false, cond, true≢false}
 use mathlib.Core.List.{List}
 use native.Mathlib.Omega.{arith}
 use Rattle.layout.specs.declared.Side.{Side}
-use Rattle.discovery.specs.declared.Finding.{Finding}
-use Rattle.discovery.specs.declared.Other.{Other}
 use Rattle.discovery.specs.declared.Answer.{Answer}
-use Rattle.discovery.specs.declared.Answer.TheVariants as Answer
 use Rattle.discovery.specs.Discovery.{discovery, is_in_step, copy_on}
 use Rattle.discovery.proofs.Latest.{refused_found}
 use Rattle.stores.proofs.InStep.{in_step_facts}
 use Rattle.stores.proofs.States.{stepped-found}
 use Rattle.mend.specs.declared.Rewrite.{Rewrite}
 use Rattle.mend.specs.declared.Mending.{Mending}
-use Rattle.mend.specs.declared.Mending.TheVariants as Mending
 use Rattle.mend.specs.Plan.{rewrite_of, mending_after, mending}
 use Rattle.mend.specs.Demand.{MendAnswers, Answering}
 

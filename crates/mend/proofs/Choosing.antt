@@ -24,13 +24,11 @@ use Rattle.copy.specs.Copy.{block_in, area_bytes, entry_in, other_area, other_si
 use Rattle.discovery.specs.Discovery.{sized, copy_on}
 use Rattle.stores.specs.declared.Part.{Part}
 use Rattle.stores.specs.declared.Given.{Given}
-use Rattle.stores.specs.declared.Given.TheVariants as Given
 use Rattle.stores.specs.Stores.{sectors_of, with_entry}
 use Rattle.stores.specs.Given.{plan_tests, block_given, block_left, part_given, part_left}
 use Rattle.stores.proofs.Choosing.{plan_sizes, test_fails, test_holds}
 use Rattle.mend.specs.declared.Rewrite.{Rewrite}
 use Rattle.mend.specs.declared.Mending.{Mending}
-use Rattle.mend.specs.declared.Mending.TheVariants as Mending
 use Rattle.mend.specs.Mend.{emptied}
 use Rattle.mend.specs.Plan.{plan_stores, stores_in, group_in, group_of, flush_after, part_for, rewrite_answer, rewrite_bytes, needed_tests, needed_answer, needed_bytes, none_number, store_answer, store_bytes}
 

@@ -14,7 +14,7 @@ use Rattle.layout.specs.declared.Side.{Side}
 use Rattle.layout.specs.declared.Side.TheVariants.{Front, Back}
 use Rattle.layout.specs.declared.Area.{Area}
 use Rattle.layout.specs.declared.Area.TheVariants.{A}
-use Rattle.layout.specs.Places.{block_sector, area_sector, copy_bytes}
+use Rattle.layout.specs.Places.{block_sector, copy_bytes}
 use Rattle.block.specs.declared.Time.{Time}
 use Rattle.block.specs.declared.Holding.{Holding}
 use Rattle.block.specs.declared.Entry.TheVariants.{Unused, Used}
@@ -50,7 +50,6 @@ use Rattle.stores.proofs.OneCopy.{stepped-held}
 use Rattle.stores.proofs.Places.{Sizes, sizes_accepted, area_below, block_below}
 use Rattle.mend.specs.Mend.{block_like, emptied, refilled, blanked, later_whole, rewriting, groups_after, mend_groups}
 use Rattle.mend.specs.declared.Mending.{Mending}
-use Rattle.mend.specs.declared.Mending.TheVariants as Mending
 use Rattle.mend.specs.Plan.{rewrite_of, mending_after, mending, store_answer, store_bytes}
 use Rattle.mend.specs.Demand.{after, Serving, Mended, Counts, Counting, BlockFor, Rewrites, Rewriting, Goes, Touching, GivenAfter, NoneAfter, GoesOn, Going}
 use Rattle.mend.proofs.Giving.{none_number_lem, given, past}

@@ -28,13 +28,11 @@ use Rattle.block.specs.Writing.{holding_of}
 use Rattle.discovery.specs.declared.Finding.{Finding}
 use Rattle.discovery.specs.declared.Other.{Other}
 use Rattle.discovery.specs.declared.Answer.{Answer}
-use Rattle.discovery.specs.declared.Answer.TheVariants as Answer
 use Rattle.copy.specs.Copy.{is_copy, block_in, entry_in, other_area, other_side, newest, device_in}
 use Rattle.discovery.specs.Discovery.{sized, discovery, is_in_step, copy_on, record_bytes}
 use Rattle.crash.specs.Crash.{Store, Groups, stores, store_in, group_start}
 use Rattle.stores.specs.declared.Part.{Part}
 use Rattle.stores.specs.declared.Given.{Given}
-use Rattle.stores.specs.declared.Given.TheVariants as Given
 use Rattle.stores.specs.Stores.{sectors_of, with_entry}
 use Rattle.stores.specs.Given.{block_given, block_left, part_given, part_left, lent_right}
 use Rattle.stores.proofs.Blocks.{number_fits}
@@ -43,7 +41,6 @@ use Rattle.stores.proofs.Places.{Sizes, sizes_accepted, device-accepted, area_be
 use Rattle.stores.proofs.Choosing.{lent_right_lem, block_given_lem, area_given, part_given_lem}
 use Rattle.mend.specs.declared.Rewrite.{Rewrite}
 use Rattle.mend.specs.declared.Mending.{Mending}
-use Rattle.mend.specs.declared.Mending.TheVariants as Mending
 use Rattle.mend.specs.Mend.{block_like, emptied, blanked, later_whole, rewriting, groups_after, mend_groups}
 use Rattle.mend.specs.Plan.{rewrite_of, mending_after, mending, plan_stores, stores_in, group_in, group_of, flush_after, part_for, rewrite_answer, rewrite_bytes, needed_tests, needed_answer, needed_bytes, none_number, store_answer, store_bytes}
 use Rattle.mend.specs.Demand.{MendGives, Giving}

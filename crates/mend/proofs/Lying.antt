@@ -19,7 +19,6 @@ use Rattle.copy.specs.Copy.{block_in, area_bytes, entry_in, other_area, other_si
 use Rattle.discovery.specs.Discovery.{copy_on}
 use Rattle.stores.specs.declared.Part.{Part}
 use Rattle.stores.specs.declared.Given.{Given}
-use Rattle.stores.specs.declared.Given.TheVariants as Given
 use Rattle.stores.specs.Stores.{sectors_of, with_entry}
 use Rattle.stores.specs.Given.{block_given, part_given}
 use Rattle.stores.specs.States.{Lies}

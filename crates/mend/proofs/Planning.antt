@@ -13,13 +13,11 @@ use Rattle.block.specs.declared.BlockFields.{BlockFields}
 use Rattle.discovery.specs.declared.Finding.{Finding}
 use Rattle.discovery.specs.declared.Other.{Other}
 use Rattle.discovery.specs.declared.Answer.{Answer}
-use Rattle.discovery.specs.declared.Answer.TheVariants as Answer
 use Rattle.copy.specs.Copy.{entry_in, newest, same_area}
 use Rattle.discovery.specs.Discovery.{discovery, is_in_step}
 use Rattle.stores.specs.declared.Part.{Part}
 use Rattle.mend.specs.declared.Rewrite.{Rewrite}
 use Rattle.mend.specs.declared.Mending.{Mending}
-use Rattle.mend.specs.declared.Mending.TheVariants as Mending
 use Rattle.mend.specs.Plan.{rewrite_of, mending_after, mending, part_for}
 
 pub rewrite_made : (q : Finding) (y : Area) (t : Bool) → y ≡ newest q.fields → t ≡ same_area q.area y

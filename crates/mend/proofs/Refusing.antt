@@ -16,7 +16,6 @@ use Rattle.stores.specs.Given.{block_given, block_left, part_given, part_left}
 use Rattle.stores.proofs.Refusing.{either, block_refuses, part_refuses}
 use Rattle.mend.specs.declared.Rewrite.{Rewrite}
 use Rattle.mend.specs.declared.Mending.{Mending}
-use Rattle.mend.specs.declared.Mending.TheVariants as Mending
 use Rattle.mend.specs.Mend.{emptied}
 use Rattle.mend.specs.Plan.{part_for, rewrite_answer, rewrite_bytes, needed_tests, needed_answer, needed_bytes}
 use Rattle.mend.specs.Demand.{Refusing}

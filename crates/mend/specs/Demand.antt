@@ -29,7 +29,6 @@ use Rattle.stores.specs.Stores.{sectors_of, sector_of, holding_for, with_entry}
 use Rattle.stores.specs.States.{Ready, Answered, Lies, AllFit}
 use Rattle.mend.specs.declared.Rewrite.{Rewrite}
 use Rattle.mend.specs.declared.Mending.{Mending}
-use Rattle.mend.specs.declared.Mending.TheVariants as Mending
 use Rattle.mend.specs.Mend.{later_whole, mend_groups}
 use Rattle.mend.specs.Plan.{mending, stores_in, group_of, flush_after, store_answer, store_bytes}
 

@@ -11,7 +11,6 @@ use Rattle.block.specs.declared.BlockFields.{BlockFields}
 use Rattle.block.specs.Block.{pool_of, blockdev_of, fields_of}
 use Rattle.block.specs.Writing.{block_of}
 use Rattle.discovery.specs.declared.Answer.{Answer}
-use Rattle.discovery.specs.declared.Answer.TheVariants as Answer
 use Rattle.copy.specs.Copy.{block_in, entry_in, other_side, whole, newest, device_in}
 use Rattle.discovery.specs.Discovery.{discovery, is_in_step, copy_on, record_bytes}
 use Rattle.crash.specs.Crash.{Groups}

@@ -16,16 +16,13 @@ use Rattle.block.specs.Writing.{holding_of}
 use Rattle.copy.specs.Copy.{block_in, area_bytes, entry_in, other_area, other_side, newest, same_area, device_in}
 use Rattle.discovery.specs.declared.Finding.{Finding}
 use Rattle.discovery.specs.declared.Answer.{Answer}
-use Rattle.discovery.specs.declared.Answer.TheVariants as Answer
 use Rattle.discovery.specs.Discovery.{sized, discovery, is_in_step, copy_on}
 use Rattle.stores.specs.declared.Part.{Part}
 use Rattle.stores.specs.declared.Given.{Given}
-use Rattle.stores.specs.declared.Given.TheVariants as Given
 use Rattle.stores.specs.Stores.{sectors_of, with_entry}
 use Rattle.stores.specs.Given.{plan_tests, block_given, block_left, part_given, part_left}
 use Rattle.mend.specs.declared.Rewrite.{Rewrite}
 use Rattle.mend.specs.declared.Mending.{Mending}
-use Rattle.mend.specs.declared.Mending.TheVariants as Mending
 use Rattle.mend.specs.Mend.{emptied, refilled}
 
 -- what is stored where the copy with the found record q is kept: there is a last store where the kept copy's later entry is not whole,

@@ -1,4 +1,6 @@
 // Mending: brings two copies in step on the record that discovery finds in them. The copies are lent as discovery takes them.
+#![tactic(auto)]
+
 ghost use Rattle.std.specs.Prelude.{◌≡◌, List};
 ghost use Rattle.mend.specs.declared.Mending.TheVariants.{Needed};
 ghost use Rattle.mend.specs.Plan.{rewrite_of, mending, plan_stores, stores_in, group_in, group_of, flush_after, part_for, rewrite_answer, rewrite_bytes, needed_answer, needed_bytes, none_number, store_answer, store_bytes};
@@ -10,7 +12,7 @@ use stores::{Given, Part};
 
 // What a mend stores: the side whose copy is kept, the area of that copy with the found record, the record's length, and whether a
 // last store blanks the other entry of the kept block. All else is read from the kept copy when a store is asked for.
-#[derive(Drop)]
+#[derive(Clone, Copy)]
 pub struct Rewrite {
     pub kept: Side,
     pub area: Area,
@@ -19,7 +21,7 @@ pub struct Rewrite {
 }
 
 // What `work_out` answers: nothing to store, what to store, or discovery's refusal number.
-#[derive(Drop)]
+#[derive(Clone, Copy)]
 pub enum Mending {
     InStep,
     Needed(Rewrite),

@@ -6,6 +6,8 @@
 // plans that nobody worked out have their stores printed. Standard input has the samples, packed by samples/mends.py. What must be printed is the file stdout; that
 // script makes both and shares nothing with the library. That the program is safe and ends is proved; that it prints the
 // right thing is tested. Assumes what `io` and `libc` do.
+#![tactic(auto)]
+
 ghost use Rattle.std.specs.Prelude.{◌≤◌, ◌<◌, length};
 ghost use Rattle.sampling.specs.Laying.{input_bytes};
 

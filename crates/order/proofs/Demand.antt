@@ -1,19 +1,18 @@
 -- What the search for two segments that clash answers, proved: the names of specs/Demand.antt.
-use Rattle.std.proofs.Common.{◌≡◌, ℕ, ◌<◌, ◌≤◌, Bool, true, false, cond, ◌&&◌, leb, List, length, sym, refl, ap, ◌∙◌, subst, true≢false, arith}
+use Rattle.std.proofs.Common.{◌≡◌, ℕ, ◌<◌, ◌≤◌, Bool, true, false, List, length, sym, refl, ap, ◌∙◌, subst, true≢false, arith}
 use native.Mathlib.Decide.{dec_lt}
 use Rattle.endian.proofs.Tests.{and_right}
 use Rattle.segments.specs.declared.Segment.{Segment}
 use Rattle.segments.specs.Clash.{later_of, earlier_of, apart}
 use Rattle.segments.specs.Demand.{Share, FirstPair}
 use Rattle.segments.specs.Order.{all_some, orderly}
-use Rattle.segments.proofs.Clash.{earlier_le, apart_none, none_apart}
+use Rattle.segments.proofs.Clash.{earlier_le, apart_none}
 use Rattle.segments.proofs.Pairs.{apart_share, share_apart, share_found, first-pair, one-pair}
 use Rattle.items.specs.Head.{most_of_any}
 use Rattle.order.specs.declared.Order.{Order}
-use Rattle.order.specs.declared.Clash.{Clash}
 use Rattle.order.specs.declared.Clash.TheVariants.{Pair, Nothing}
 use Rattle.order.specs.Ordering.{first_clash, order}
-use Rattle.order.specs.Demand.{Finds, Finding}
+use Rattle.order.specs.Demand.{Finding}
 use Rattle.order.proofs.Ordering.{clash_pair, clash_nothing, clash_is, order_many, order_not, order-yes}
 
 module _ (gs : List Segment) where

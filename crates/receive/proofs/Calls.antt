@@ -19,7 +19,6 @@ use Rattle.layout.specs.declared.Area.{Area}
 use Rattle.block.specs.declared.Holding.{Holding}
 use Rattle.block.specs.declared.BlockFields.{BlockFields}
 use Rattle.block.specs.declared.Reading.{Reading}
-use Rattle.block.specs.declared.Verdict.{Verdict}
 use Rattle.block.specs.declared.Verdict.TheVariants.{Accepted, Refused}
 use Rattle.block.specs.Block.{fields_of, reading, refused_reading}
 use Rattle.block.specs.Writing.{holding_of}

@@ -18,7 +18,6 @@ use Rattle.block.specs.declared.Entry.TheVariants.{Used}
 use Rattle.block.specs.Block.{fields_of}
 use Rattle.block.specs.Writing.{holding_of}
 use Rattle.block.specs.Accepted.{Accepted}
-use Rattle.copy.specs.declared.Present.{Present}
 use Rattle.copy.specs.declared.Present.TheVariants.{Nothing, At}
 use Rattle.copy.specs.Copy.{entry_in, other_area, by_area, newest, choose, present_by}
 use Rattle.copy.specs.Demand.{signature_block, entry_for, moment, AcceptedCopy}

@@ -7,7 +7,7 @@ use lib.ListN.{length}
 use Rattle.copy.specs.Copy.{copy_reading}
 use Rattle.copy.specs.Demand.{Reads}
 use Rattle.copy.proofs.Demand as Copy
-use Rattle.receive.specs.Receive.{fresh, part, ending}
+use Rattle.receive.specs.Receive.{fresh, ending}
 use Rattle.receive.specs.Demand.{bytes_taken, AllTaken, answered, size, CutAnywhere, AtOnce, NoCopy, Pieces}
 use Rattle.receive.proofs.Joined.{window-joined}
 use Rattle.receive.proofs.Following.{after-fresh, any_state, no_trace, none-refused, passing}

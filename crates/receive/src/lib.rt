@@ -1,5 +1,7 @@
 // One copy received in pieces, cut anywhere: a state that is handed on by value, a call that takes a piece, a call that ends. A piece is
 // not needed again: of the areas nothing is kept but the checksums of what came.
+#![tactic(auto)]
+
 ghost use Rattle.std.specs.Prelude.{◌≡◌, ◌-◌};
 ghost use Rattle.receive.specs.Receive.{part, block_with, used_in, sum_with, fresh, fits_in, taking, sum_right, ending};
 
@@ -12,7 +14,7 @@ const AREA_BYTES: usize = layout::RECORD_LIMIT as usize;
 
 // The state between two pieces.
 #[repr(C)]
-#[derive(Drop)]
+#[derive(Clone, Copy)]
 pub struct Received {
     // How many of the copy's bytes were taken.
     pub taken: usize,
@@ -24,7 +26,7 @@ pub struct Received {
 }
 
 // What a piece is answered with: 0, or the refusal number, and the state from here on.
-#[derive(Drop)]
+#[derive(Clone, Copy)]
 pub struct Taking {
     pub number: u8,
     pub received: Received,

@@ -1,13 +1,13 @@
 -- What it means that a record is accepted, both ways, and what follows for its segments.
-use Prim.Native.Nat.{ℕ, zero, suc, ◌+◌, ◌-◌, ◌*◌, ◌/◌, ◌%◌, ◌≤◌, ◌<◌}
-use mathlib.Core.Path.{◌≡◌, refl, sym, ap, subst, ◌∙◌}
-use mathlib.Core.Bool.{Bool, true, false, ◌&&◌}
-use mathlib.Core.List.{List, ◌++◌}
+use Prim.Native.Nat.{ℕ, zero, suc, ◌+◌, ◌*◌, ◌%◌, ◌≤◌, ◌<◌}
+use mathlib.Core.Path.{◌≡◌, subst}
+use mathlib.Core.Bool.{true, ◌&&◌}
+use mathlib.Core.List.{List}
 use native.Mathlib.Omega.{arith}
-use borrow.Author.Tests.{le-leb, leb-true}
+use borrow.Author.Tests.{leb-true}
 use lib.Dec.{leb, eqb}
 use lib.ListN.{length}
-use Rattle.endian.proofs.Tests.{and_left, and_right, and_both}
+use Rattle.endian.proofs.Tests.{and_right}
 use Rattle.refusal.specs.Tests.{first, AllHold}
 use Rattle.refusal.proofs.Order.{first-zero, first_all}
 use Rattle.layout.specs.declared.Device.{Device}
@@ -23,10 +23,10 @@ use Rattle.segments.proofs.Segments.{in_range_lem, in_range-back}
 use Rattle.segments.proofs.Sectors.{Laid, laid_by}
 use Rattle.segments.proofs.Order.{laid-orderly}
 use Rattle.items.specs.declared.Head.{Head}
-use Rattle.items.specs.Head.{head_of, head_size, head_right, data_range, range_for, item_bytes, most_segments, most_of_any}
+use Rattle.items.specs.Head.{head_of, head_size, data_range, range_for, item_bytes, most_segments, most_of_any}
 use Rattle.items.specs.Items.{segments, well_formed}
 use Rattle.items.proofs.Heads.{one_range, most-most, room_most}
-use Rattle.items.proofs.Items.{Formed, formed, formed_back}
+use Rattle.items.proofs.Items.{formed}
 use Rattle.record.specs.Accept.{range_at, all_in_range, record_tests}
 use Rattle.record.proofs.Testing.{record_ascending}
 

@@ -129,7 +129,7 @@ cases d s h x l =
     inside p q =
         let o : held_by (segments s) x + one (is_free (data_range d) (segments s) x) ≡ 1 = Sectors.once (data_range d) (segments s) w x p q in
         elim (ℕ_discrete (held_by (segments s) x) 0) [
-          | yes e ↦ inr (Sectors.is_free (data_range d) (segments s) x p q e)
+          | yes e ↦ inr (Sectors.is_free_lem (data_range d) (segments s) x p q e)
           | no e ↦ inl (Sectors.holder (data_range d) (segments s) w x (let u : held_by (segments s) x ≡ 1 = omega arith in u))
         ]
 

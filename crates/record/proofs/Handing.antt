@@ -21,7 +21,6 @@ use Rattle.segments.specs.Segments.{none, nth}
 use Rattle.items.specs.Items.{items_of, segments_in, segments}
 use Rattle.items.specs.Making.{unless}
 use Rattle.record.specs.declared.Counted.{Counted}
-use Rattle.record.specs.declared.Counted.TheVariants as Counted
 use Rattle.record.specs.Accept.{record_tests, named}
 use Rattle.record.specs.Answers.{segment_values, all_values, handed_on, some_room, segments_answer, segments_left}
 use Rattle.record.proofs.Naming.{named_other, number_is, named_again, refuse_no, refuse-yes}

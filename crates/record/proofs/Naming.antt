@@ -11,7 +11,6 @@ use Rattle.refusal.specs.Numbers.{segment_clash}
 use Rattle.refusal.specs.Refusals.{plain}
 use Rattle.refusal.proofs.Order.{answer_no, answer-yes}
 use Rattle.refusal.proofs.Refusals.{but_number, but_there, but_other}
-use Rattle.segments.specs.declared.Segment.{Segment}
 use Rattle.segments.specs.Clash.{later_of, earlier_of, apart}
 use Rattle.segments.proofs.Clash.{apart_not}
 use Rattle.items.specs.Items.{segments}

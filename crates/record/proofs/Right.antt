@@ -1,18 +1,14 @@
 -- A head and segments that are right make an accepted record, and an accepted record is made of such.
-use Prim.Native.Nat.{ℕ, zero, suc, ◌+◌, ◌-◌, ◌*◌, ◌/◌, ◌^◌, ◌≤◌, ◌<◌}
-use mathlib.Core.Path.{◌≡◌, refl, sym, ap, ◌∙◌, subst}
-use mathlib.Core.Bool.{Bool, true, false}
-use mathlib.Core.Logic.{◌⊎◌, inl, inr, ⊎_elim}
+use Prim.Native.Nat.{ℕ, ◌+◌, ◌*◌, ◌^◌, ◌≤◌, ◌<◌}
+use mathlib.Core.Path.{◌≡◌, ◌∙◌, subst}
+use mathlib.Core.Bool.{true}
 use mathlib.Core.List.{List, [], ◌∷◌, ◌++◌}
-use native.Mathlib.Decide.{dec_lt}
 use native.Mathlib.Nat.{not-suc-le-zero}
 use native.Mathlib.Omega.{arith}
 use borrow.Author.Tests.{le-leb, leb-true}
 use lib.Dec.{leb}
-use lib.ListN.{length, get_or, take, drop, length-append, length-drop, get_or-append}
-use lib.Seq.{get_or_at, get_or-append-add, length-take-le, get_or-take, get_or-drop}
-use Rattle.endian.specs.Bytes.{Bytes}
-use Rattle.endian.proofs.Tests.{and_left, and_right, and_both}
+use lib.ListN.{length}
+use Rattle.endian.proofs.Tests.{and_right, and_both}
 use Rattle.refusal.specs.Numbers.{record_length, record_form, segment_place, segment_clash}
 use Rattle.refusal.specs.Tests.{Test, ◌else_refuse◌, first, AllHold}
 use Rattle.refusal.proofs.Order.{first-nil, first-pass, first-zero, first-after}
@@ -21,16 +17,16 @@ use Rattle.layout.specs.Limits.{length_allowed, record_limit, device_tests}
 use Rattle.layout.specs.Places.{data_start, data_end}
 use Rattle.segments.specs.declared.Segment.{Segment}
 use Rattle.segments.specs.declared.Range.{Range}
-use Rattle.segments.specs.Segments.{none, nth, end_of, InRange}
+use Rattle.segments.specs.Segments.{nth, end_of, InRange}
 use Rattle.segments.specs.Clash.{apart}
 use Rattle.segments.proofs.Pairs.{apart_share, share_apart}
 use Rattle.items.specs.declared.Head.{Head}
-use Rattle.items.specs.Head.{head_of, head_size, head_right, allows, data_range, range_for, item_bytes, most_segments}
+use Rattle.items.specs.Head.{head_of, head_size, head_right, data_range, range_for, item_bytes}
 use Rattle.items.specs.Items.{segments, well_formed}
 use Rattle.items.specs.Making.{record_of}
 use Rattle.items.proofs.Heads.{kind-small, head_small, right-fits, right-some, one_range}
-use Rattle.items.proofs.Items.{Fit, Formed, formed}
-use Rattle.items.proofs.Making.{AllFit, length_record, head_record, segments_record, formed_record, record_again}
+use Rattle.items.proofs.Items.{Formed, formed}
+use Rattle.items.proofs.Making.{AllFit, length_record, head_record, segments_record, formed_record}
 use Rattle.record.specs.Accept.{all_in_range, content_tests, record_tests}
 use Rattle.record.specs.Demand.{Right, EachRight, RightBytes}
 use Rattle.record.proofs.Testing.{device-ascending, record_ascending}

@@ -3,7 +3,7 @@ use Rattle.std.specs.Prelude.{ℕ, Bool, cond, List, [], ◌∷◌, ◌++◌, eq
 use Rattle.refusal.specs.Numbers.{record_length, record_form, segment_place, segment_clash}
 use Rattle.refusal.specs.declared.Refusal.{Refusal}
 use Rattle.refusal.specs.Refusals.{plain, plain_but}
-use Rattle.refusal.specs.Tests.{Test, ◌else_refuse◌, first}
+use Rattle.refusal.specs.Tests.{Test, ◌else_refuse◌}
 use Rattle.layout.specs.declared.Device.{Device}
 use Rattle.layout.specs.Limits.{device_tests, length_allowed}
 use Rattle.search.specs.Search.{every}
@@ -13,7 +13,6 @@ use Rattle.segments.specs.Clash.{later_of, earlier_of, apart}
 use Rattle.items.specs.declared.Head.{Head}
 use Rattle.items.specs.Head.{head_of, range_for}
 use Rattle.items.specs.Items.{segments, well_formed}
-use Rattle.order.specs.declared.Order.{Order}
 use Rattle.order.specs.declared.Clash.{Clash}
 use Rattle.order.specs.declared.Clash.TheVariants.{Pair, Nothing}
 use Rattle.order.specs.Ordering.{no_order, order}

@@ -12,11 +12,8 @@ use Rattle.items.specs.Head.{head_of}
 use Rattle.items.specs.Items.{segments}
 use Rattle.items.specs.Making.{unless}
 use Rattle.record.specs.declared.Found.{Found}
-use Rattle.record.specs.declared.Found.TheVariants as Found
 use Rattle.record.specs.declared.Counted.{Counted}
-use Rattle.record.specs.declared.Counted.TheVariants as Counted
 use Rattle.record.specs.declared.Heading.{Heading}
-use Rattle.record.specs.declared.Heading.TheVariants as Heading
 use Rattle.record.specs.Accept.{record_tests, named}
 
 -- there is a segment at position p, counted from 0

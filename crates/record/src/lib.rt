@@ -1,4 +1,6 @@
 // The segment record: checked against a device's numbers, and read.
+#![tactic(auto)]
+
 ghost use Rattle.std.specs.Prelude.{◌≡◌, [], ◌++◌, ◌+◌, ◌*◌, ◌≤◌, min, length, take, drop};
 ghost use Rattle.refusal.specs.Tests.{first};
 ghost use Rattle.refusal.specs.Refusals.{plain};
@@ -15,28 +17,28 @@ use segments::Segment;
 
 // What `check_in_order` answers: the refusal, with number 0 of an accepted record, and the order of an accepted record's segments; no order of
 // a refused one.
-#[derive(Drop)]
+#[derive(Clone, Copy)]
 pub struct Checked {
     pub refusal: Refusal,
     pub order: Order,
 }
 
 // What `read_segment` answers.
-#[derive(Drop)]
+#[derive(Clone, Copy)]
 pub enum Found {
     At(Segment),
     Refused(Refusal),
 }
 
 // What `read_count` and `read_segments` answer.
-#[derive(Drop)]
+#[derive(Clone, Copy)]
 pub enum Counted {
     Segments(usize),
     Refused(Refusal),
 }
 
 // What `read_head` answers.
-#[derive(Drop)]
+#[derive(Clone, Copy)]
 pub enum Heading {
     Of(Head),
     Refused(Refusal),

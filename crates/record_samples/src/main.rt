@@ -1,6 +1,8 @@
 // Runs the format's printed record, its examples 9 to 11, and records and requests that are refused, and prints a line
 // each. The file stdout beside src/ has what must be printed; samples/records.py makes it and shares nothing with the library.
 // Assumes what `io` and `libc` do.
+#![tactic(auto)]
+
 ghost use Rattle.std.specs.Prelude.{◌≤◌};
 
 use allocation::{Allocation, FreeTotal, Released, RunCount, RunFound};

@@ -2,14 +2,14 @@
 use Prim.Native.Nat.{ℕ, zero, suc, ◌+◌, ◌≤◌, ◌<◌}
 use mathlib.Core.Path.{◌≡◌, refl, sym, ap, ◌∙◌}
 use mathlib.Core.Bool.{Bool, true, false, not, ◌&&◌, ◌||◌, true≢false}
-use mathlib.Core.List.{List, ◌++◌}
+use mathlib.Core.List.{List}
 use native.Mathlib.Decide.{dec_le}
 use native.Mathlib.Omega.{arith}
 use borrow.Author.Tests.{leb-true, lt-leb}
 use lib.Dec.{leb}
 use lib.ListN.{length, take, drop, length-replicate, get_or-eq_default}
 use lib.Seq.{take_at}
-use Rattle.endian.specs.Bytes.{same, all_pass, splice, zeros}
+use Rattle.endian.specs.Bytes.{same, all_pass, zeros}
 use Rattle.endian.proofs.Tests.{and_left, and_right, equal_same}
 use Rattle.endian.proofs.Parts.{splice-fits, length-splice}
 use Rattle.refusal.specs.Words.{table, known, not_known, ascii, line_of, most_bytes, words_of}

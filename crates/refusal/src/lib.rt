@@ -1,5 +1,7 @@
 // The refusal numbers (docs/FORMAT.md, 'Refusal numbers'), in one place, and the words of each. A number that a later paper adds gets its
 // constant, its name in specs/Numbers.antt, its line in specs/Words.antt and its arm below.
+#![tactic(auto)]
+
 ghost use Rattle.std.specs.Prelude.{◌≡◌};
 ghost use Rattle.refusal.specs.Words.{laid, words_of};
 ghost use Rattle.refusal.specs.Refusals.{plain};
@@ -57,7 +59,7 @@ pub const HEAD_MOVE: u8 = 24;
 // A refusal: its number, 0 for none, and what stands beside it. Beside 19 these are the positions, counted from 0, of the two segments that clash;
 // beside every other number both are zero.
 #[repr(C)]
-#[derive(Drop)]
+#[derive(Clone, Copy)]
 pub struct Refusal {
     pub number: u8,
     pub first: u64,
@@ -80,7 +82,7 @@ pub const WORDS_BYTES: usize = 80;
 
 // Words in ASCII: the first `used` of the bytes; the rest are zero.
 #[repr(C)]
-#[derive(Drop)]
+#[derive(Clone, Copy)]
 pub struct Words {
     pub bytes: [u8; WORDS_BYTES],
     pub used: usize,

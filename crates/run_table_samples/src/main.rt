@@ -1,6 +1,8 @@
 // Fills tables of three entries with the free runs of records, and prints for each what was answered and the three entries
 // afterwards. Entry k of a table starts as (7, k). The file stdout beside src/ has what must be printed;
 // samples/runs.py makes it and shares nothing with the library. Assumes what `io` and `libc` do.
+#![tactic(auto)]
+
 ghost use Rattle.std.specs.Prelude.{◌≡◌, length};
 ghost use Rattle.allocation.specs.Answers.{table_answer, table_left};
 
@@ -10,7 +12,7 @@ use runs::Run;
 use sampling::{number, one, print, put_segment, refusal, say, two};
 
 // What was answered, and the table afterwards.
-#[derive(Drop)]
+#[derive(Clone, Copy)]
 struct Filled {
     answer: RunCount,
     table: [Run; 3],

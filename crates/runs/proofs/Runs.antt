@@ -9,7 +9,6 @@ use native.Mathlib.Omega.{arith}
 use borrow.Author.Tests.{lt-ltb, le-ltb, le-leb, leb-true, not-true, not-false}
 use lib.Dec.{leb}
 use Rattle.endian.proofs.Tests.{and_left, and_right, and_both}
-use Rattle.search.specs.Search.{least}
 use Rattle.search.proofs.Search.{not_true-false, both, least-le, least-holds, least-below, least-same}
 use Rattle.runs.specs.declared.Run.{Run}
 use Rattle.runs.specs.Runs.{passes_from, next_free, next_taken, run_to, runs_from, runs_of}

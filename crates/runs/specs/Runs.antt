@@ -1,5 +1,5 @@
 -- Document 01's 'free runs', the longest runs of free sectors, ascending: of any test p of sectors, below an end e.
-use Rattle.std.specs.Prelude.{ℕ, zero, suc, ◌-◌, Bool, cond, not, ◌&&◌, List, [], ◌∷◌, leb, ltb, length, get_or}
+use Rattle.std.specs.Prelude.{ℕ, zero, suc, ◌-◌, Bool, cond, not, ◌&&◌, List, [], ◌∷◌, leb, ltb, get_or}
 use Rattle.search.specs.Search.{least}
 use Rattle.runs.specs.declared.Run.{Run}
 

@@ -1,10 +1,10 @@
 -- Laws of patches: one turn of the loop that lays them.
 use Prim.Native.Nat.{ℕ, zero, suc, ◌+◌, ◌-◌, ◌≤◌, ◌<◌}
-use mathlib.Core.Path.{◌≡◌, refl, sym, ap, ◌∙◌}
+use mathlib.Core.Path.{◌≡◌, refl, ap, ◌∙◌}
 use mathlib.Core.List.{List}
 use native.Mathlib.Nat.{not-suc-le-zero}
 use native.Mathlib.Omega.{arith}
-use lib.ListN.{length, take, drop, length-drop}
+use lib.ListN.{length, drop, length-drop}
 use lib.Seq.{take_all, drop-drop}
 use Rattle.endian.specs.Bytes.{le, window, splice}
 use Rattle.sampling.specs.Laying.{past, patch_offset, patch_length, patch_bytes, next_patch, patches_end, patched}

@@ -1,5 +1,7 @@
 // What the sample programs share: their input, patches and segments laid into bytes, pieces of lines, and printing. Every call is total. What is
 // read and printed passes through system calls, of which no contract can speak. Assumes what `io` and `libc` do.
+#![tactic(auto)]
+
 mod lines;
 
 ghost use Rattle.std.specs.Prelude.{◌≡◌, [], ◌∷◌, ◌≤◌, length};
@@ -12,11 +14,14 @@ use items::Head;
 pub use lines::{beside, long_hex, number, print, refusal, say, short_hex, sum};
 use segments::Segment;
 
+// Standard input.
+const IN: i32 = 0;
+
 // The most bytes of input.
 pub const INPUT_BYTES: usize = 131072;
 
 // Standard input: the first `used` of the bytes.
-#[derive(Drop)]
+#[derive(Clone, Copy)]
 pub struct Input {
     pub bytes: [u8; INPUT_BYTES],
     pub used: usize,
@@ -34,7 +39,7 @@ pub fn fetch() -> Input
     ensures { (length result.bytes ≡ input_bytes) × IsPrefixLen result.used result.bytes }
 {
     let mut bytes = zeros();
-    let used = io::read_full(libc::STDIN_FILENO, &mut bytes);
+    let used = io::read_full(IN, &mut bytes);
     Input { bytes, used }
 }
 

@@ -18,7 +18,6 @@ use Rattle.block.specs.declared.Holding.{Holding}
 use Rattle.block.specs.declared.BlockFields.{BlockFields}
 use Rattle.block.specs.declared.Reading.{Reading}
 use Rattle.block.specs.declared.Verdict.{Verdict}
-use Rattle.block.specs.declared.Verdict.TheVariants as Verdict
 use Rattle.block.specs.Accepted.{Accepted, Within}
 use Rattle.block.specs.Block.{fields_of, reading}
 use Rattle.block.specs.Writing.{holding_of}

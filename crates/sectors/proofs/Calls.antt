@@ -17,13 +17,12 @@ use Rattle.layout.specs.Places.{header_sector, area_sector}
 use Rattle.block.specs.declared.Entry.{Entry}
 use Rattle.block.specs.declared.BlockFields.{BlockFields}
 use Rattle.block.specs.declared.Verdict.{Verdict}
-use Rattle.block.specs.declared.Verdict.TheVariants as Verdict
 use Rattle.search.specs.Search.{every}
 use Rattle.copy.specs.declared.PresentReading.{PresentReading}
 use Rattle.copy.specs.Copy.{entry_in, sized_reading, present_for, copy_reading, present_reading_of}
 use Rattle.copy.proofs.Newness.{current-whole}
 use Rattle.crash.specs.Crash.{area_sectors}
-use Rattle.sectors.specs.Sectors.{copy_sectors, area_start, by_part, below, place_of, sector_at, named, named_in, matters_for, current_for, newest_whole, is_read, passes, known}
+use Rattle.sectors.specs.Sectors.{copy_sectors, area_start, by_part, below, place_of, sector_at, named, named_in, current_for, newest_whole, is_read, passes, known}
 
 pub below-past : (s n : ℕ) → s ≤ n → s ≡ below s n
 unfolding below

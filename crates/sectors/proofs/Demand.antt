@@ -15,7 +15,6 @@ use Rattle.layout.specs.Places.{copy_bytes}
 use Rattle.block.specs.declared.BlockFields.{BlockFields}
 use Rattle.block.specs.declared.Reading.{Reading}
 use Rattle.block.specs.declared.Verdict.{Verdict}
-use Rattle.block.specs.declared.Verdict.TheVariants as Verdict
 use Rattle.block.specs.Entry.{later_than, same_time, time_of}
 use Rattle.block.specs.Writing.{holding_of}
 use Rattle.copy.specs.declared.Present.{Present}

@@ -1,5 +1,5 @@
 -- What matters at most.
-use Prim.Native.Nat.{ℕ, ◌+◌, ◌-◌, ◌*◌, ◌≤◌, ◌<◌}
+use Prim.Native.Nat.{ℕ, ◌+◌, ◌*◌, ◌≤◌, ◌<◌}
 use mathlib.Core.Path.{◌≡◌, refl, sym, ap, ap₂, ◌∙◌}
 use mathlib.Core.Bool.{Bool, true, false, not, ◌&&◌, ◌||◌}
 use mathlib.Core.List.{List}
@@ -11,7 +11,6 @@ use Rattle.block.specs.declared.Entry.{Entry}
 use Rattle.block.specs.declared.Entry.TheVariants.{Unused, Used}
 use Rattle.block.specs.declared.BlockFields.{BlockFields}
 use Rattle.block.specs.declared.Verdict.{Verdict}
-use Rattle.block.specs.declared.Verdict.TheVariants as Verdict
 use Rattle.block.specs.Writing.{holding_of}
 use Rattle.search.proofs.Search.{and_false-right}
 use Rattle.copy.specs.Copy.{entry_in, other_area, whole, newest, sized_reading}

@@ -10,7 +10,6 @@ use Rattle.block.specs.declared.Entry.{Entry}
 use Rattle.block.specs.declared.Entry.TheVariants.{Unused, Used}
 use Rattle.block.specs.declared.BlockFields.{BlockFields}
 use Rattle.block.specs.declared.Verdict.{Verdict}
-use Rattle.block.specs.declared.Verdict.TheVariants as Verdict
 use Rattle.search.specs.Search.{every}
 use Rattle.copy.specs.declared.Present.{Present}
 use Rattle.copy.specs.Copy.{entry_in, other_area, whole, newest, sized_reading, current}

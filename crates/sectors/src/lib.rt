@@ -1,6 +1,8 @@
 // A copy read sector by sector: where each of its sectors lies, and whether those that could not be read matter to what
 // discovery answers; and a store applied to two copies in memory. A copy is lent as discovery takes it, with any bytes in place of a
 // sector that could not be read; marks have a byte a sector, 0 where it was read.
+#![tactic(auto)]
+
 ghost use Rattle.std.specs.Prelude.{◌≡◌, true, ◌+◌, ◌-◌, ◌*◌, ◌≤◌, ◌<◌};
 ghost use Rattle.refusal.specs.Tests.{first};
 ghost use Rattle.layout.specs.declared.Side.TheVariants.{Front, Back};

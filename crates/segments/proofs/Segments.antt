@@ -1,15 +1,14 @@
 -- Laws of a segment, alone and beside another.
 use Prim.Native.Nat.{ℕ, ◌+◌, ◌-◌, ◌≤◌, ◌<◌, max}
-use mathlib.Core.Path.{◌≡◌, refl, sym, ap, ◌∙◌}
-use mathlib.Core.Bool.{Bool, true, false, ◌&&◌, true≢false}
+use mathlib.Core.Path.{◌≡◌, sym, ap, ◌∙◌}
+use mathlib.Core.Bool.{Bool, true, false, ◌&&◌}
 use mathlib.Core.Logic.{◌⊎◌, inl, inr, ⊎_elim}
 use native.Mathlib.Decide.{dec_le, dec_lt}
 use native.Mathlib.Omega.{arith}
-use borrow.Author.Tests.{lt-ltb, le-ltb, le-leb, lt-leb, ltb-true, ltb-false, leb-true}
+use borrow.Author.Tests.{lt-ltb, le-ltb, le-leb, lt-leb, leb-true}
 use lib.Dec.{leb, ltb}
 use Rattle.endian.proofs.Tests.{and_left, and_right, and_both}
-use Rattle.search.specs.Search.{within}
-use Rattle.search.proofs.Search.{and_false-left, and_false-right, not_true-false, both, in_within, below-within, past-within, within_low, within_high}
+use Rattle.search.proofs.Search.{and_false-right, not_true-false, both, in_within, below-within, past-within, within_low, within_high}
 use Rattle.segments.specs.declared.Segment.{Segment}
 use Rattle.segments.specs.declared.Range.{Range}
 use Rattle.segments.specs.Segments.{end_of, holds, meets, in_range, InRange}

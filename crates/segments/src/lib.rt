@@ -1,11 +1,13 @@
 // A segment of a record, and when two of them share a sector or one lies in a range. The definitions over lists of segments, and
 // their laws, are here too: which sectors are held, which are free, the order of the segments.
+#![tactic(auto)]
+
 ghost use Rattle.std.specs.Prelude.{◌≡◌, ◌+◌, max, ltb};
 ghost use Rattle.segments.specs.Segments.{holds, meets, in_range};
 
 // A segment: its kind's number, its first sector, and its length in sectors.
 #[repr(C)]
-#[derive(Drop)]
+#[derive(Clone, Copy)]
 pub struct Segment {
     pub kind: u16,
     pub start: u64,
@@ -13,7 +15,7 @@ pub struct Segment {
 }
 
 // Sectors from a start up to, not including, an end.
-#[derive(Drop)]
+#[derive(Clone, Copy)]
 pub struct Range {
     pub start: u64,
     pub end: u64,

@@ -1,6 +1,8 @@
 // The checksum's lookup table, which samples/table.py makes: a function for each row. It gives what is left of a number's lowest byte, or
 // of half of it, in the register once so many bits have gone. The entries follow from the polynomial; the proofs compute each of them.
 // A `match` is compiled to constant data. A row that is asked for in one place alone is then a load there.
+#![tactic(auto, unfolding(crate::specs::Shifts::polynomial, crate::specs::Shifts::shift, crate::specs::Shifts::shifts))]
+
 ghost use Rattle.std.specs.Prelude.{◌≡◌, ◌%◌};
 ghost use Rattle.shifts.specs.Shifts.{shifts};
 

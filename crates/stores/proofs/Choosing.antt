@@ -20,7 +20,6 @@ use Rattle.copy.specs.Copy.{is_copy, block_in}
 use Rattle.discovery.specs.Discovery.{sized}
 use Rattle.stores.specs.declared.Part.{Part}
 use Rattle.stores.specs.declared.Given.{Given}
-use Rattle.stores.specs.declared.Given.TheVariants as Given
 use Rattle.stores.specs.Stores.{sector_of}
 use Rattle.stores.specs.Given.{sector_in, within, unless_refused, block_answer, block_bytes, block_given, block_left, part_answer, part_bytes, part_tests, part_given, part_left, lent_right}
 use Rattle.stores.proofs.Padding.{sector_laid}

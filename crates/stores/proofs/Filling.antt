@@ -1,6 +1,6 @@
 -- A record's sectors and a laid record, byte by byte.
 use Prim.Native.Nat.{ℕ, ◌+◌, ◌-◌, ◌*◌, ◌≤◌, ◌<◌}
-use mathlib.Core.Path.{◌≡◌, refl, sym, ap, ap₂, ◌∙◌}
+use mathlib.Core.Path.{◌≡◌, sym, ap, ap₂, ◌∙◌}
 use mathlib.Core.Bool.{Bool, cond}
 use mathlib.Core.List.{List, ◌++◌}
 use native.Mathlib.Decide.{dec_lt}
@@ -14,13 +14,12 @@ use Rattle.endian.proofs.Parts.{splice-fits, length-splice}
 use Rattle.endian.proofs.Tests.{length-zeros}
 use Rattle.refusal.specs.Tests.{first, Ascending}
 use Rattle.refusal.proofs.Order.{first-zero}
-use Rattle.layout.specs.declared.Area.{Area}
 use Rattle.layout.specs.Limits.{record_limit}
 use Rattle.layout.specs.Places.{area_offset, copy_bytes}
 use Rattle.layout.proofs.Laws.{length_facts}
 use Rattle.stores.specs.Stores.{sectors_of, sector_of}
 use Rattle.stores.specs.Given.{lay_tests, laid}
-use Rattle.stores.specs.Demand.{Fewest, Sectored, Sectoring, Lays, Laying}
+use Rattle.stores.specs.Demand.{Fewest, Sectoring, Lays, Laying}
 use Rattle.stores.proofs.Padding.{length_sector, sectors-enough, padded-within}
 use Rattle.stores.proofs.Whole.{area_fits}
 

@@ -23,7 +23,6 @@ use Rattle.crash.specs.Crash.{area_sectors}
 use Rattle.crash.proofs.Copies.{limit_small}
 use Rattle.stores.specs.declared.Part.{Part}
 use Rattle.stores.specs.declared.Given.{Given}
-use Rattle.stores.specs.declared.Given.TheVariants as Given
 use Rattle.stores.specs.Stores.{sectors_of}
 use Rattle.stores.specs.Given.{within, block_answer, block_given, part_answer, part_tests, part_given, plan_tests}
 use Rattle.stores.specs.States.{Lies}

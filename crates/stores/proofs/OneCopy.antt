@@ -5,29 +5,22 @@ use mathlib.Core.Path.{◌≡◌, refl, sym, ap, ◌∙◌}
 use mathlib.Core.Bool.{true}
 use mathlib.Core.List.{List}
 use native.Mathlib.Omega.{arith}
-use borrow.Author.Tests.{eqb-true}
 use lib.ListN.{length, take}
-use Rattle.endian.proofs.Parts.{length-window-fits}
-use Rattle.endian.proofs.Tests.{and_left}
 use Rattle.checksum.specs.Crc as Crc
 use Rattle.refusal.specs.Tests.{first}
 use Rattle.layout.specs.declared.Device.{Device}
 use Rattle.layout.specs.declared.Side.{Side}
 use Rattle.layout.specs.declared.Side.TheVariants.{Front, Back}
 use Rattle.layout.specs.declared.Area.{Area}
-use Rattle.layout.specs.declared.Area.TheVariants.{A, B}
-use Rattle.layout.specs.Limits.{record_limit, length_allowed, nanoseconds_allowed}
-use Rattle.layout.specs.Places.{header_sector, block_sector, area_sector, area_offset, copy_bytes}
-use Rattle.layout.proofs.Laws.{length_facts}
+use Rattle.layout.specs.Limits.{record_limit}
+use Rattle.layout.specs.Places.{header_sector, block_sector, area_sector}
 use Rattle.block.specs.declared.Holding.{Holding}
-use Rattle.block.specs.declared.Entry.{Entry}
 use Rattle.block.specs.declared.Entry.TheVariants.{Used}
 use Rattle.block.specs.declared.BlockFields.{BlockFields}
 use Rattle.block.specs.declared.Verdict.TheVariants as Verdict
-use Rattle.block.specs.Entry.{entry_allowed}
 use Rattle.block.specs.Block.{pool_of, blockdev_of, fields_of, read_tests, reading}
 use Rattle.block.proofs.Readings.{accepted_reading_lem}
-use Rattle.copy.specs.Copy.{block_in, entry_in, whole_entry, whole, newest}
+use Rattle.copy.specs.Copy.{block_in, entry_in, whole, newest}
 use Rattle.crash.specs.Crash.{Sectors, Sound, gather, area_sectors, copy_from}
 use Rattle.crash.proofs.Copies.{length-copy, copy_block, copy_area, gather-same}
 use Rattle.stores.proofs.Holding.{held_in, record_in, Holds}

@@ -1,6 +1,6 @@
 -- A refused call changes no lent byte: an answer and the bytes that go with it are chosen by the same tests.
 use Prim.Native.Nat.{ℕ, ◌+◌, ◌-◌, ◌*◌}
-use mathlib.Core.Path.{◌≡◌, refl, sym, ap}
+use mathlib.Core.Path.{◌≡◌, refl, ap}
 use mathlib.Core.Bool.{Bool, true, false, cond}
 use mathlib.Core.List.{List, ◌++◌}
 use native.Mathlib.Omega.{arith}
@@ -18,7 +18,6 @@ use Rattle.block.specs.Writing.{block_of, write_tests, written}
 use Rattle.copy.specs.Copy.{is_copy, block_in}
 use Rattle.stores.specs.declared.Part.{Part}
 use Rattle.stores.specs.declared.Given.{Given}
-use Rattle.stores.specs.declared.Given.TheVariants as Given
 use Rattle.stores.specs.Given.{sector_in, within, block_answer, block_bytes, block_given, block_left, part_answer, part_bytes, part_tests, part_given, part_left, lay_tests, laid}
 use Rattle.stores.specs.Stores.{sectors_of}
 use Rattle.stores.specs.Demand.{Refusing}

@@ -1,6 +1,6 @@
 -- The states of a device, from the copies that hold a record there.
 use Prim.Native.Nat.{ℕ}
-use mathlib.Core.Path.{◌≡◌, refl, sym, ap, ap₂, ◌∙◌}
+use mathlib.Core.Path.{◌≡◌, refl, sym, ap, ◌∙◌}
 use mathlib.Core.Bool.{true}
 use mathlib.Core.List.{List}
 use borrow.Author.Tests.{eqb-true, eq-eqb}
@@ -15,8 +15,7 @@ use Rattle.block.specs.declared.Time.{Time}
 use Rattle.block.specs.declared.Holding.{Holding}
 use Rattle.block.specs.declared.BlockFields.{BlockFields}
 use Rattle.block.specs.declared.Reading.{Reading}
-use Rattle.block.specs.declared.Verdict.TheVariants as Verdict
-use Rattle.block.specs.Entry.{same_time, time_of}
+use Rattle.block.specs.Entry.{time_of}
 use Rattle.block.specs.Block.{pool_of, blockdev_of, fields_of}
 use Rattle.copy.specs.declared.CopyReading.{CopyReading}
 use Rattle.copy.specs.declared.Present.TheVariants.{At}
@@ -28,15 +27,15 @@ use Rattle.discovery.specs.declared.Finding.{Finding}
 use Rattle.discovery.specs.declared.Other.{Other}
 use Rattle.discovery.specs.declared.Other.TheVariants.{Both}
 use Rattle.discovery.specs.declared.Answer.TheVariants.{Found}
-use Rattle.discovery.specs.Discovery.{finding_of, same_device, sized, discovery, is_in_step, copy_on}
+use Rattle.discovery.specs.Discovery.{finding_of, discovery, copy_on}
 use Rattle.discovery.proofs.Latest.{found-same}
 use Rattle.crash.specs.Crash.{Sectors, Sound, copy_from}
 use Rattle.crash.proofs.Copies.{length-copy}
-use Rattle.stores.specs.States.{Presents, Gives, InStepOn, Ready, Answered}
+use Rattle.stores.specs.States.{Presents, Gives, Ready, Answered}
 use Rattle.stores.proofs.Holding.{held_in, record_in, Holds, holds_presents}
-use Rattle.stores.proofs.Discovering.{gives, both_found}
+use Rattle.stores.proofs.Discovering.{gives}
 use Rattle.stores.proofs.InStep.{Stepped, verdict_facts, in_step_facts, same_device_test}
-use Rattle.stores.proofs.Facts.{renamed, same_time-refl, sized_copies}
+use Rattle.stores.proofs.Facts.{renamed, sized_copies}
 use Rattle.stores.proofs.Whole.{holds-newest, presents_newest}
 use Rattle.stores.proofs.Agreeing.{found_front, agree-in_step}
 

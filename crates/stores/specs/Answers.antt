@@ -1,7 +1,6 @@
 -- The numbers of an answer: the refusal number, 0 for none, and the values of each case.
 use Rattle.std.specs.Prelude.{ℕ, List, [], ◌∷◌}
 use Rattle.stores.specs.declared.Given.{Given}
-use Rattle.stores.specs.declared.Given.TheVariants as Given
 
 -- a store: its sector
 abbrev pub given_number : Given → ℕ

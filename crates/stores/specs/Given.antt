@@ -14,7 +14,6 @@ use Rattle.copy.specs.Copy.{is_copy, block_in}
 use Rattle.discovery.specs.Discovery.{sized}
 use Rattle.stores.specs.declared.Part.{Part}
 use Rattle.stores.specs.declared.Given.{Given}
-use Rattle.stores.specs.declared.Given.TheVariants as Given
 use Rattle.stores.specs.Stores.{sectors_of}
 
 -- a sector of the record and zeros after it; zeros alone where it has no room

@@ -1,5 +1,7 @@
 // What stores are made of: a record's sectors, a signature block with the UUIDs of a copy's, and a record laid into a lent copy. Updating,
 // formatting and mending stand on this.
+#![tactic(auto)]
+
 ghost use Rattle.std.specs.Prelude.{◌≡◌, length};
 ghost use Rattle.endian.specs.Bytes.{zeros, splice};
 ghost use Rattle.refusal.specs.Tests.{first};
@@ -10,7 +12,7 @@ use block::{BlockFields, Entry, Holding, Time};
 use layout::{Area, Device};
 
 // What is stored on one side: the record from sector `area` on, then at sector `block` a block with these numbers.
-#[derive(Drop)]
+#[derive(Clone, Copy)]
 pub struct Part {
     pub area: u64,
     pub block: u64,
@@ -18,7 +20,7 @@ pub struct Part {
 }
 
 // A store: the sector that the lent bytes go to, or a refusal number.
-#[derive(Drop)]
+#[derive(Clone, Copy)]
 pub enum Given {
     At(u64),
     Refused(u8),

@@ -1,5 +1,5 @@
 -- A text in the making, and what adding to it gives.
-use Rattle.std.specs.Prelude.{ℕ, ◌+◌, ◌-◌, cond, List, [], ◌∷◌, ◌++◌, leb, length, take, replicate}
+use Rattle.std.specs.Prelude.{ℕ, ◌+◌, ◌-◌, cond, List, ◌++◌, leb, length, take, replicate}
 use Rattle.text.specs.declared.Text.{Text}
 
 -- the bytes that a text has room for

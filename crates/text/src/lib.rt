@@ -1,18 +1,20 @@
 // A text in the making, by value: pieces and decimal numbers are added to it, and what has no room is left out.
 // Every call is total.
+#![tactic(auto)]
+
 ghost use Rattle.std.specs.Prelude.{◌≡◌, [], ◌+◌, ◌<◌, length, drop};
 ghost use Rattle.text.specs.Decimal.{decimal};
 ghost use Rattle.text.specs.Text.{text, added, filled};
 
 // A text in the making: the first `used` of its bytes.
-#[derive(Drop)]
+#[derive(Clone, Copy)]
 pub struct Text {
     pub bytes: [u8; 256],
     pub used: usize,
 }
 
 // The digits of a number: its bytes from `at` on.
-#[derive(Drop)]
+#[derive(Clone, Copy)]
 struct Row {
     bytes: [u8; 20],
     at: usize,

@@ -1,7 +1,7 @@
 -- An update's number, in other words than its tests.
-use Prim.Native.Nat.{ℕ, ◌^◌, ◌≤◌, ◌<◌}
-use mathlib.Core.Path.{◌≡◌, refl, sym, ap, subst, ◌∙◌}
-use mathlib.Core.Bool.{true, false}
+use Prim.Native.Nat.{ℕ, ◌^◌, ◌<◌}
+use mathlib.Core.Path.{◌≡◌, sym, ap, subst, ◌∙◌}
+use mathlib.Core.Bool.{true}
 use mathlib.Core.List.{List}
 use borrow.Author.Tests.{leb-true, le-leb, lt-leb, eqb-true}
 use lib.ListN.{length}
@@ -25,10 +25,7 @@ use Rattle.record.proofs.Right.{right_content}
 use Rattle.record.proofs.Demand as Records
 use Rattle.copy.specs.Copy.{is_copy, device_in, block_in, newest}
 use Rattle.discovery.specs.declared.Finding.{Finding}
-use Rattle.discovery.specs.declared.Other.{Other}
-use Rattle.discovery.specs.declared.Other.TheVariants.{Both}
 use Rattle.discovery.specs.declared.Answer.{Answer}
-use Rattle.discovery.specs.declared.Answer.TheVariants as Answer
 use Rattle.discovery.specs.Discovery.{finding_of, discovery, is_in_step, copy_on}
 use Rattle.discovery.specs.Newest.{time_at}
 use Rattle.discovery.proofs.Latest.{found-same}

@@ -18,7 +18,6 @@ use Rattle.block.specs.declared.Entry.TheVariants.{Used}
 use Rattle.block.specs.declared.BlockFields.{BlockFields}
 use Rattle.block.specs.Block.{signature_bytes, pool_of, blockdev_of, fields_of}
 use Rattle.block.specs.Writing.{holding_of, body_fields, block_of}
-use Rattle.block.proofs.Readings.{accepted-length}
 use Rattle.block.proofs.Written.{written-accepted}
 use Rattle.block.proofs.Demand.{write-after-read}
 use Rattle.copy.specs.Copy.{block_in, entry_in}

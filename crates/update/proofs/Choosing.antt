@@ -16,7 +16,6 @@ use Rattle.block.specs.Block.{fields_of}
 use Rattle.copy.specs.Copy.{block_in, device_in}
 use Rattle.stores.specs.declared.Part.{Part}
 use Rattle.stores.specs.declared.Given.{Given}
-use Rattle.stores.specs.declared.Given.TheVariants as Given
 use Rattle.stores.specs.Given.{plan_tests, part_given, part_left}
 use Rattle.update.specs.declared.Plan.{Plan}
 use Rattle.update.specs.Plan.{sectors_in, stores_in, group_of, flush_after, part_of, part_on, copy_of, store_tests, sides_answer, sides_bytes, store_answer, store_bytes}

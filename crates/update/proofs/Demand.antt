@@ -49,7 +49,6 @@ use Rattle.crash.proofs.Landing.{landed-size}
 use Rattle.crash.proofs.Copies.{limit_small}
 use Rattle.stores.specs.declared.Part.{Part}
 use Rattle.stores.specs.declared.Given.{Given}
-use Rattle.stores.specs.declared.Given.TheVariants as Given
 use Rattle.stores.specs.Stores.{sectors_of, sector_of, holding_for, with_entry}
 use Rattle.stores.specs.Given.{part_given, part_left, lent_right}
 use Rattle.stores.specs.States.{Gives, Ready, Answered, Excused, Fits}

@@ -11,7 +11,6 @@ use Rattle.layout.specs.declared.Side.TheVariants.{Front, Back}
 use Rattle.copy.specs.Copy.{device_in}
 use Rattle.stores.specs.declared.Part.{Part}
 use Rattle.stores.specs.declared.Given.{Given}
-use Rattle.stores.specs.declared.Given.TheVariants as Given
 use Rattle.stores.specs.Given.{plan_tests, part_given}
 use Rattle.stores.specs.States.{Lies}
 use Rattle.stores.proofs.Lying.{by_test, no_place, part-place, part_lies}

@@ -8,7 +8,6 @@ use Rattle.refusal.specs.Tests.{first}
 use Rattle.layout.specs.declared.Device.{Device}
 use Rattle.layout.specs.declared.Side.{Side}
 use Rattle.layout.specs.declared.Area.{Area}
-use Rattle.layout.specs.declared.Area.TheVariants.{A}
 use Rattle.layout.specs.Limits.{record_limit, length_allowed, nanoseconds_allowed}
 use Rattle.layout.specs.Places.{block_sector, area_sector}
 use Rattle.layout.proofs.Laws.{length_facts}

@@ -25,7 +25,6 @@ use Rattle.block.specs.declared.Holding.{Holding}
 use Rattle.block.specs.declared.Entry.TheVariants.{Used}
 use Rattle.block.specs.declared.BlockFields.{BlockFields}
 use Rattle.block.specs.declared.Verdict.{Verdict}
-use Rattle.block.specs.declared.Verdict.TheVariants as Verdict
 use Rattle.block.specs.Entry.{later_than, same_time, time_of}
 use Rattle.block.specs.Block.{fields_of}
 use Rattle.record.specs.Accept.{named}
@@ -48,7 +47,6 @@ use Rattle.stores.proofs.InStep.{Stepped, in_step_facts}
 use Rattle.stores.proofs.States.{stepped-found}
 use Rattle.update.specs.declared.Plan.{Plan}
 use Rattle.update.specs.declared.Planned.{Planned}
-use Rattle.update.specs.declared.Planned.TheVariants as Planned
 use Rattle.update.specs.Update.{tests_after, update_tests, number_after, update_number}
 use Rattle.update.specs.Plan.{plan_for, plan_of, plan_with, plan_found, planned, part_of}
 

@@ -31,7 +31,6 @@ use Rattle.stores.specs.Stores.{sectors_of}
 use Rattle.stores.proofs.Refusing.{either, part_refuses}
 use Rattle.update.specs.declared.Plan.{Plan}
 use Rattle.update.specs.declared.Planned.{Planned}
-use Rattle.update.specs.declared.Planned.TheVariants as Planned
 use Rattle.update.specs.Update.{number_after, update_number}
 use Rattle.update.specs.Answers.{planned_refusal, planned_values}
 use Rattle.update.specs.Plan.{plan_of, planned, sectors_in, part_on, store_tests, sides_answer, sides_bytes, store_answer, store_bytes}

@@ -12,7 +12,7 @@ use Rattle.layout.specs.declared.Side.TheVariants.{Front, Back}
 use Rattle.layout.specs.Places.{block_sector, area_sector}
 use Rattle.block.specs.declared.Time.{Time}
 use Rattle.crash.specs.Crash.{Store, Groups, stores, store_in, group_start}
-use Rattle.crash.proofs.Groups.{total, starts, at_left, at_right, length_from, at_from}
+use Rattle.crash.proofs.Groups.{total, starts, at_left, at_right}
 use Rattle.copy.specs.Copy.{device_in}
 use Rattle.stores.specs.Stores.{sectors_of, sector_of, record_stores, block_store}
 use Rattle.update.specs.Update.{spare, new_block, side_groups, update_groups}

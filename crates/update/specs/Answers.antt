@@ -3,9 +3,6 @@ use Rattle.std.specs.Prelude.{ℕ, List, [], ◌∷◌}
 use Rattle.refusal.specs.declared.Refusal.{Refusal}
 use Rattle.refusal.specs.Refusals.{plain}
 use Rattle.update.specs.declared.Planned.{Planned}
-use Rattle.update.specs.declared.Planned.TheVariants as Planned
-use Rattle.stores.specs.declared.Given.{Given}
-use Rattle.stores.specs.declared.Given.TheVariants as Given
 use Rattle.update.specs.Plan.{stores_in}
 
 -- an update worked out: how many stores it has

@@ -25,7 +25,6 @@ use Rattle.discovery.specs.declared.Finding.{Finding}
 use Rattle.discovery.specs.declared.Other.{Other}
 use Rattle.discovery.specs.declared.Answer.TheVariants as Answer
 use Rattle.discovery.specs.Discovery.{discovery, is_in_step, copy_on}
-use Rattle.discovery.specs.Newest.{time_at}
 use Rattle.crash.specs.Crash.{Sectors, Sound, Groups, stores, store_in, group_start, landed, CutIn, copy_from}
 use Rattle.stores.specs.declared.Given.TheVariants.{At, Refused}
 use Rattle.stores.specs.Stores.{sectors_of, sector_of}

@@ -22,9 +22,7 @@ use Rattle.discovery.specs.Newest.{time_at}
 use Rattle.stores.specs.declared.Part.{Part}
 use Rattle.update.specs.declared.Plan.{Plan}
 use Rattle.update.specs.declared.Planned.{Planned}
-use Rattle.update.specs.declared.Planned.TheVariants as Planned
 use Rattle.stores.specs.declared.Given.{Given}
-use Rattle.stores.specs.declared.Given.TheVariants as Given
 use Rattle.update.specs.Update.{tests_after, update_number}
 use Rattle.stores.specs.Stores.{sectors_of, holding_for, with_entry}
 use Rattle.stores.specs.Given.{plan_tests, part_given, part_left}

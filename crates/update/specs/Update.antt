@@ -1,28 +1,21 @@
 -- An update: its refusals, its stores and their groups. docs/FORMAT.md, 'Updates'.
-use Rattle.std.specs.Prelude.{ℕ, ◌+◌, ◌-◌, ◌*◌, ◌/◌, Bool, List, [], ◌∷◌, ◌++◌, leb, length}
+use Rattle.std.specs.Prelude.{ℕ, Bool, List, [], ◌∷◌, ◌++◌}
 use Rattle.layout.specs.Limits.{nanoseconds_allowed}
-use Rattle.endian.specs.Bytes.{window, zeros}
-use Rattle.checksum.specs.Crc as Crc
 use Rattle.refusal.specs.Numbers.{not_in_step, area_entry, not_later}
 use Rattle.refusal.specs.Tests.{Test, ◌else_refuse◌, first}
 use Rattle.layout.specs.declared.Device.{Device}
 use Rattle.layout.specs.declared.Side.{Side}
 use Rattle.layout.specs.declared.Side.TheVariants.{Front, Back}
 use Rattle.layout.specs.declared.Area.{Area}
-use Rattle.layout.specs.declared.Area.TheVariants.{A, B}
-use Rattle.layout.specs.Places.{block_sector, area_sector}
+use Rattle.layout.specs.Places.{area_sector}
 use Rattle.block.specs.declared.Time.{Time}
-use Rattle.block.specs.declared.Holding.{Holding}
-use Rattle.block.specs.declared.Entry.{Entry}
 use Rattle.block.specs.declared.Entry.TheVariants.{Used}
-use Rattle.block.specs.declared.BlockFields.{BlockFields}
 use Rattle.block.specs.Entry.{later_than}
-use Rattle.block.specs.Block.{device_of, pool_of, blockdev_of, fields_of}
+use Rattle.block.specs.Block.{pool_of, blockdev_of, fields_of}
 use Rattle.block.specs.Writing.{block_of}
 use Rattle.record.specs.Accept.{content_tests}
 use Rattle.discovery.specs.declared.Finding.{Finding}
 use Rattle.discovery.specs.declared.Answer.{Answer}
-use Rattle.discovery.specs.declared.Answer.TheVariants as Answer
 use Rattle.copy.specs.Copy.{device_in, block_in, other_area, newest}
 use Rattle.discovery.specs.Discovery.{discovery, is_in_step}
 use Rattle.discovery.specs.Newest.{time_at}

@@ -1,4 +1,6 @@
 // An update: its refusal number, and what it stores. The copies are lent as discovery takes them.
+#![tactic(auto)]
+
 ghost use Rattle.std.specs.Prelude.{◌≡◌, true, cond, length};
 ghost use Rattle.refusal.specs.Tests.{first};
 ghost use Rattle.layout.specs.Limits.{length_allowed};
@@ -16,7 +18,7 @@ use refusal::Refusal;
 use stores::{Given, Part};
 
 // An update worked out once: what the new entry says, and the area of each copy that the record goes to.
-#[derive(Drop)]
+#[derive(Clone, Copy)]
 pub struct Plan {
     pub entry: Holding,
     pub front: Area,
@@ -24,7 +26,7 @@ pub struct Plan {
 }
 
 // What `work_out` answers.
-#[derive(Drop)]
+#[derive(Clone, Copy)]
 pub enum Planned {
     Plan(Plan),
     Refused(Refusal),

@@ -6,6 +6,8 @@
 // is laid into the front copy. What must be printed is the file stdout; samples/updates.py makes both and shares nothing with
 // the library. That the program is safe and ends is proved; that it prints the right thing is tested. Assumes what `io` and
 // `libc` do.
+#![tactic(auto)]
+
 ghost use Rattle.std.specs.Prelude.{◌≤◌, ◌<◌, length};
 ghost use Rattle.sampling.specs.Laying.{input_bytes};
 

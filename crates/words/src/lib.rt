@@ -1,5 +1,7 @@
 // Words of a command line, read from bytes: numbers, sizes, kinds of segments and UUIDs.
 // Every call is total.
+#![tactic(auto)]
+
 ghost use Rattle.std.specs.Prelude.{◌≡◌, ◌||◌, map, ◌+◌, ◌-◌, ◌*◌, ◌^◌, ◌<◌, ltb, length};
 ghost use Rattle.endian.specs.Bytes.{same};
 ghost use Rattle.text.specs.Decimal.{is_digit};

@@ -1,0 +1,24 @@
+-- `block::all_hex` meets its contract: the bytes passed, and those left.
+use Prim.Native.Nat.{ℕ, ◌+◌}
+use mathlib.Core.Path.{refl, sym, ap, ◌∙◌}
+use mathlib.Core.Bool.{Bool, ◌&&◌}
+use mathlib.Core.List.{List}
+use native.Mathlib.Omega.{arith}
+use lib.ListN.{drop}
+use Rattle.endian.specs.Bytes.{all_pass}
+use Rattle.endian.proofs.Tests.{all_next, all_done}
+use Rattle.block.specs.Block.{is_hex}
+use Rattle.block.proofs.all_hex.Goals as goal
+
+pub loop-i-init : goal.loop-i-init
+loop-i-init c = (omega arith, refl)
+
+pub loop-i-preserved : goal.loop-i-preserved
+loop-i-preserved c =
+    let s : List ℕ = c.args.s.now in
+    let i : ℕ = c.loop-i.i in
+    (omega arith, ap (λ (z : Bool). (c.loop-i.hex && z) && all_pass is_hex (drop (i + 1) s)) c.is_hex-hex.ensures ∙ all_next is_hex s i c.loop-i.hex (omega arith) ∙ c.loop-i.invariant.1)
+
+pub returns : goal.returns
+returns c =
+    sym (all_done is_hex c.args.s.now c.loop-i.i c.loop-i.hex c.loop-i-test.false) ∙ c.loop-i.invariant.1

@@ -1,2 +1,0 @@
--- The laws of `command`.
-pub mod Signed

@@ -1,0 +1,10 @@
+-- `shifts::half_4` meets its contract: each listed arm computes, and the last has the one number that they leave.
+-- Made by samples/table.py.
+use Rattle.std.proofs.Common.{◌≤◌, ◌%◌, refl, arith}
+use Rattle.shifts.specs.Shifts.{polynomial, shift, shifts}
+use Rattle.shifts.proofs.Arms.{last_arm}
+use Rattle.shifts.proofs.half_4.Goals as goal
+
+pub returns-in_default : goal.returns-in_default
+unfolding polynomial shift shifts
+returns-in_default c = last_arm 4 _ 15 _ (let l : 15 ≤ c.args.x % 16 = omega arith in l) refl
