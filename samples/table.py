@@ -18,6 +18,7 @@ HEAD = """\
 // The checksum's lookup table, which samples/table.py makes: a function for each row. It gives what is left of a number's lowest byte, or
 // of half of it, in the register once so many bits have gone. The entries follow from the polynomial; the proofs compute each of them.
 // A `match` is compiled to constant data. A row that is asked for in one place alone is then a load there.
+// Ten functions and not one over the number of bits: the rows differ in every entry, and one function would hold all of them.
 #![tactic(auto, unfolding(crate::specs::Shifts::polynomial, crate::specs::Shifts::shift, crate::specs::Shifts::shifts))]
 
 ghost use Rattle.std.specs.Prelude.{◌≡◌, ◌%◌};

@@ -1,210 +1,90 @@
 -- What the calls answer, a return at a time.
-use Prim.Native.Nat.{ℕ, suc, ◌+◌, ◌-◌, ◌*◌, ◌/◌, ◌≤◌, ◌<◌}
-use mathlib.Core.Path.{◌≡◌, refl, sym, ap, ◌∙◌, subst}
-use mathlib.Core.Bool.{Bool, true, false, not}
-use mathlib.Core.List.{List, [], ◌∷◌, ◌++◌}
-use native.Mathlib.Numerals.{add-one}
-use native.Mathlib.Omega.{arith}
-use borrow.Author.Tests.{le-leb, lt-leb, lt-ltb, le-ltb}
-use lib.Dec.{leb, ltb}
-use lib.ListN.{length, take, drop, length-append, drop_of_length-le}
-use lib.Seq.{length-take-le, take-length, drop-cons}
-use Rattle.endian.specs.Bytes.{zeros}
-use Rattle.refusal.specs.declared.Refusal.{Refusal}
-use Rattle.refusal.specs.Numbers.{slice_size, segment_place, segment_clash, no_room, record_full}
-use Rattle.refusal.specs.Refusals.{plain}
-use Rattle.refusal.specs.Tests.{◌else_refuse◌, first}
-use Rattle.refusal.proofs.Order.{first-nil, first-pass, first_fail, refused, passed, answer_no, answer-yes}
+use Rattle.std.proofs.Common.{◌≡◌, ℕ, suc, ◌+◌, ◌-◌, ◌≤◌, ◌<◌, Bool, true, false, List, ◌++◌, [], ◌∷◌, length, drop, cond, leb, sym, refl, ap, ◌∙◌, add-one, arith, drop_of_length-le, drop-cons, le-leb, lt-ltb, le-ltb}
+use Rattle.std.specs.Prelude.{Ok, Err, Option, Some, None, find}
+use Rattle.std.specs.Option.{ok_or}
+use borrow.Author.Tests.{lt-leb}
+use Rattle.refusal.specs.Numbers.{slice_size}
+use Rattle.refusal.specs.Refusals.{plain_but}
+use Rattle.refusal.specs.declared.Reason.{Reason}
+use Rattle.refusal.specs.Tests.{Test, ◌else_refuse◌, first}
+use Rattle.refusal.proofs.Order.{first-zero, first-after}
+use Rattle.refusal.proofs.Reasons.{ok_zero, err_other, err_on, told_zero}
 use Rattle.layout.specs.declared.Device.{Device}
 use Rattle.layout.specs.Places.{data_start, data_end}
 use Rattle.segments.specs.declared.Segment.{Segment}
 use Rattle.segments.specs.declared.Range.{Range}
 use Rattle.segments.specs.Segments.{none, nth}
 use Rattle.segments.specs.Sectors.{allocated, free_sectors}
-use Rattle.segments.specs.Order.{order_of, picked_at, Chain}
-use Rattle.segments.proofs.Order.{order-length}
 use Rattle.segments.proofs.Sectors.{counted, allocated-none, allocated_more}
+use Rattle.items.specs.declared.Head.{Head}
 use Rattle.runs.specs.declared.Run.{Run}
 use Rattle.runs.specs.Runs.{fit_of, fitting}
-use Rattle.runs.proofs.Fit.{fitting-yes, fitting_no}
-use Rattle.items.specs.declared.Head.{Head}
-use Rattle.items.specs.Head.{head_of, allows, data_range, range_for, item_bytes, most_segments, most_of_any}
-use Rattle.items.specs.Items.{items_of, segments_in, segments}
-use Rattle.order.specs.declared.Clash.TheVariants.{Nothing}
-use Rattle.record.specs.declared.Checked.{Checked}
-use Rattle.record.specs.Accept.{record_tests, named, checked}
-use Rattle.record.proofs.Testing.{more_yes}
+use Rattle.items.specs.Head.{head_of, data_range, range_for, allows, item_bytes, most_segments}
+use Rattle.items.specs.Items.{segments}
+use Rattle.order.specs.Ordering.{positions}
+use Rattle.order.proofs.Ordering.{positions-taken}
+use Rattle.record.specs.Accept.{record_tests, named, answered, checked}
+use Rattle.record.proofs.Testing.{record_ascending, more_no}
 use Rattle.record.proofs.Accepted.{Accepted, accepted, ends, laid}
-use Rattle.record.proofs.Checking.{checked-refusal}
-use Rattle.record.proofs.Naming as Naming
-use Rattle.record.proofs.Naming.{named_other, named_again, refuse_no, refuse-yes}
-use Rattle.record.proofs.Demand.{order_is, order-taken}
-use Rattle.allocation.specs.declared.RunCount.{RunCount}
-use Rattle.allocation.specs.Tables.{numbers_of}
-use Rattle.allocation.specs.Walking.{walked}
-use Rattle.allocation.specs.Answers.{runs_in, fit_tests, table_tests, numbers_answer, numbers_left}
-use Rattle.allocation.specs.Change.{runs_for, own_tests, allocate_tests}
-use Rattle.allocation.proofs.Finding.{chain_of, runs-walked, for_any, for_runs}
+use Rattle.allocation.specs.Walking.{walked, meant, fit_in}
+use Rattle.allocation.specs.Answers.{runs_in, fit_tests, table_tests}
+use Rattle.allocation.specs.Change.{runs_for, own_tests}
+use Rattle.allocation.proofs.Walking.{fit_found}
+use Rattle.allocation.proofs.Finding.{runs-walked, for_any}
 
--- After a check q that accepted, with the items t and their number n: the first n positions are the segments' order, and the gaps
--- in the range r between the segments there are the free runs.
-pub record Prepared (d : Device) (s : List ℕ) (q : Checked) (t : List ℕ) (n : ℕ) (r : Range) : Type 0 where
+-- a record that is refused, before any other test
+pub refused_on : {A B : Type 0} (d : Device) (s : List ℕ) (us : List Test) (v : A) (w : B) (e : Reason)
+    → answered (first (record_tests d s)) s v ≡ Err e → Err e ≡ answered (first (record_tests d s ++ us)) s w
+refused_on d s us v w e h =
+    let n : ℕ = first (record_tests d s) in
+    sym (err_on n (named n s) v w e h) ∙ ap (λ (k : ℕ). answered k s w) (more_no d s us n refl (err_other n (named n s) v e h))
+
+-- one that is accepted: the tests that follow decide
+pub after_record : (d : Device) (s : List ℕ) (us : List Test) → first (record_tests d s) ≡ 0 → first (record_tests d s ++ us) ≡ first us
+after_record d s us z = first-after (record_tests d s) us (first-zero 0 (record_tests d s) (record_ascending d s) z)
+
+pub accepted_on : {A : Type 0} (d : Device) (s : List ℕ) (us : List Test) (v w : A)
+    → answered (first (record_tests d s)) s v ≡ Ok w → (first (record_tests d s) ≡ 0) × (first (record_tests d s ++ us) ≡ first us)
+accepted_on d s us v w h =
+    let z : first (record_tests d s) ≡ 0 = ok_zero (first (record_tests d s)) (named (first (record_tests d s)) s) v w h in
+    (z, after_record d s us z)
+
+-- the same of a check with an order, whose positions p give the free runs as the gaps between the segments
+pub ordered_refused : {B : Type 0} (d : Device) (s : List ℕ) (us : List Test) (w : B) (e : Reason)
+    → checked (first (record_tests d s)) s ≡ Err e → Err e ≡ answered (first (record_tests d s ++ us)) s w
+unfolding checked
+ordered_refused d s us w e h = refused_on d s us (positions (segments s)) w e h
+
+pub record Ordered (d : Device) (s p : List ℕ) (us : List Test) : Type 0 where
   pub zero : first (record_tests d s) ≡ 0
-  pub inside : n ≤ length q.order.at
-  pub exact : n ≡ length (take n q.order.at)
-  pub chain : Chain r.start r.end (picked_at (segments_in t) (take n q.order.at))
-  pub runs : walked r (segments_in t) (take n q.order.at) ≡ runs_in d s
+  pub after : first (record_tests d s ++ us) ≡ first us
+  pub runs : walked (data_range d) (segments s) (meant s p) ≡ runs_in d s
 
-pub prepared : (d : Device) (s : List ℕ) (q : Checked) (t : List ℕ) (n : ℕ) (r : Range) → q ≡ checked (first (record_tests d s)) s → q.refusal.number ≡ 0
-    → t ≡ items_of s → n ≡ length (segments_in t) → r ≡ data_range d → Prepared d s q t n r
-prepared d s q t n r e z i m k =
+pub ordered_on : (d : Device) (s p : List ℕ) (us : List Test) → checked (first (record_tests d s)) s ≡ Ok p → Ordered d s p us
+unfolding checked
+ordered_on d s p us h =
+    let a : (first (record_tests d s) ≡ 0) × (first (record_tests d s ++ us) ≡ first us) = accepted_on d s us (positions (segments s)) p h in
+    let o : Ok (positions (segments s)) ≡ Ok p = sym (told_zero (first (record_tests d s)) (named (first (record_tests d s)) s) (positions (segments s)) a.0) ∙ h in
+    let e : positions (segments s) ≡ p = cc in
     record {
-      zero = zero;
-      inside = inside;
-      exact = sym (length-take-le n q.order.at inside);
-      chain = subst (λ (w : Range). Chain w.start w.end (picked_at (segments_in t) (take n q.order.at))) (sym k)
-          (subst (λ (p : List ℕ). Chain (data_start d) (data_end d) (picked_at (segments_in t) p)) (sym taken)
-          (subst (λ (u : List ℕ). Chain (data_start d) (data_end d) (picked_at (segments_in u) (order_of (segments s)))) (sym i) (chain_of d s (accepted d s zero))));
-      runs = ap (λ (w : Range). walked w (segments_in t) (take n q.order.at)) k
-          ∙ (ap (walked (data_range d) (segments_in t)) taken
-          ∙ (ap (λ (u : List ℕ). walked (data_range d) (segments_in u) (order_of (segments s))) i ∙ sym (runs-walked d s (accepted d s zero))));
+      zero = a.0;
+      after = a.1;
+      runs = ap (walked (data_range d) (segments s)) (ap (meant s) (sym e) ∙ positions-taken (segments s)) ∙ sym (runs-walked d s (accepted d s a.0));
     }
-  where
-    zero : first (record_tests d s) ≡ 0
-    zero = sym (Naming.number_is q.refusal (first (record_tests d s)) s (checked-refusal q (first (record_tests d s)) s e)) ∙ z
-
-    many : n ≡ length (segments s)
-    many = m ∙ ap (λ (u : List ℕ). length (segments_in u)) i
-
-    the-order : q.order ≡ record { at = order_of (segments s) ++ zeros (most_of_any - length (segments s)); ordered = true; clash = Nothing }
-    the-order = ap (λ (c : Checked). c.order) e ∙ order_is d s zero
-
-    inside : n ≤ length q.order.at
-    inside =
-        let a : length (order_of (segments s)) ≡ length (segments s) = order-length (segments s) in
-        rw (the-order, length-append) (let l : n ≤ length (order_of (segments s)) + length (zeros (most_of_any - length (segments s))) = omega (arith, many) in l)
-
-    taken : take n q.order.at ≡ order_of (segments s)
-    taken = ap (λ (c : Checked). take n c.order.at) e ∙ (ap (λ (k : ℕ). take k (checked (first (record_tests d s)) s).order.at) many ∙ order-taken d s zero)
-
--- the refusal of a check: its number, and the same by its own number
-pub number_is : (d : Device) (s : List ℕ) (q : Checked) → q ≡ checked (first (record_tests d s)) s → q.refusal.number ≡ first (record_tests d s)
-number_is d s q e = Naming.number_is q.refusal (first (record_tests d s)) s (checked-refusal q (first (record_tests d s)) s e)
-
-pub refusal_is : (d : Device) (s : List ℕ) (q : Checked) → q ≡ checked (first (record_tests d s)) s → q.refusal ≡ named q.refusal.number s
-refusal_is d s q e = named_again q.refusal (first (record_tests d s)) s (checked-refusal q (first (record_tests d s)) s e)
-
--- a search for m sectors: none asked for, no run long enough, one found
-pub fit-zero : (d : Device) (s : List ℕ) (rs : List Run) (m : ℕ) → first (record_tests d s) ≡ 0 → m < 1 → 18 ≡ first (record_tests d s ++ fit_tests rs m)
-fit-zero d s rs m z h = more_yes d s (fit_tests rs m) 0 18 (sym z) refl (sym (first_fail (leb 1 m) segment_place ((fitting m rs else_refuse no_room) ∷ []) (lt-leb 1 m h)))
-
-pub fit_none : (d : Device) (s : List ℕ) (rs : List Run) (m : ℕ) (r : Run) → first (record_tests d s) ≡ 0 → 1 ≤ m → r ≡ fit_of m rs → r.sectors ≡ 0
-    → 20 ≡ first (record_tests d s ++ fit_tests rs m)
-fit_none d s rs m r z o e h =
-    more_yes d s (fit_tests rs m) 0 20 (sym z) refl
-    (sym (first-pass (leb 1 m) segment_place ((fitting m rs else_refuse no_room) ∷ []) (le-leb 1 m o) ∙ first_fail (fitting m rs) no_room [] (fitting_no m rs o (sym (ap (λ (w : Run). w.sectors) e) ∙ h))))
-
-pub fit-some : (d : Device) (s : List ℕ) (rs : List Run) (m : ℕ) (r : Run) → first (record_tests d s) ≡ 0 → 1 ≤ m → r ≡ fit_of m rs → (r.sectors ≡ 0 → ⊥)
-    → 0 ≡ first (record_tests d s ++ fit_tests rs m)
-fit-some d s rs m r z o e h =
-    more_yes d s (fit_tests rs m) 0 0 (sym z) refl
-    (sym (first-pass (leb 1 m) segment_place ((fitting m rs else_refuse no_room) ∷ []) (le-leb 1 m o)
-    ∙ (first-pass (fitting m rs) no_room [] (fitting-yes m rs (λ k. h (ap (λ (w : Run). w.sectors) e ∙ k))) ∙ first-nil)))
-
--- a table with room for w runs
-pub table-short : (d : Device) (s : List ℕ) (w : ℕ) → first (record_tests d s) ≡ 0 → w < length (runs_in d s) → 1 ≡ first (table_tests d s w)
-table-short d s w z h = more_yes d s ((leb (length (runs_in d s)) w else_refuse slice_size) ∷ []) 0 1 (sym z) refl (sym (first_fail (leb (length (runs_in d s)) w) slice_size [] (lt-leb (length (runs_in d s)) w h)))
-
-pub table_room : (d : Device) (s : List ℕ) (w : ℕ) → first (record_tests d s) ≡ 0 → length (runs_in d s) ≤ w → 0 ≡ first (table_tests d s w)
-table_room d s w z h = more_yes d s ((leb (length (runs_in d s)) w else_refuse slice_size) ∷ []) 0 0 (sym z) refl (sym (first-pass (leb (length (runs_in d s)) w) slice_size [] (le-leb (length (runs_in d s)) w h) ∙ first-nil))
 
 -- free sectors: what the segments leave of the data range
-pub total_left : (d : Device) (s : List ℕ) → first (record_tests d s) ≡ 0 → data_end d - data_start d - allocated (segments s) ≡ free_sectors (data_range d) (segments s)
+pub total_left : (d : Device) (s : List ℕ) → first (record_tests d s) ≡ 0
+    → (data_end d - data_start d - allocated (segments s) ≡ free_sectors (data_range d) (segments s))
+    × ((allocated (segments s) ≤ data_end d - data_start d) × (data_start d ≤ data_end d))
 total_left d s z =
     let a : Accepted d s = accepted d s z in
     let e : (data_start d < data_end d) × (data_end d + data_start d ≡ d.sectors) = ends d a.size a.metadata a.reserved in
     let c : allocated (segments s) + free_sectors (data_range d) (segments s) ≡ data_end d - data_start d = counted (data_range d) (segments s) (laid d s a) (omega arith) in
-    omega arith
+    (omega arith, (omega arith, omega arith))
 
-pub total-fits : (d : Device) (s : List ℕ) → first (record_tests d s) ≡ 0 → (allocated (segments s) ≤ data_end d - data_start d) × (data_start d ≤ data_end d)
-total-fits d s z =
-    let a : Accepted d s = accepted d s z in
-    let e : (data_start d < data_end d) × (data_end d + data_start d ≡ d.sectors) = ends d a.size a.metadata a.reserved in
-    let c : allocated (segments s) + free_sectors (data_range d) (segments s) ≡ data_end d - data_start d = counted (data_range d) (segments s) (laid d s a) (omega arith) in
-    (omega arith, omega arith)
-
--- An allocation's own tests, as far as each return of the code has come.
-module _ (d : Device) (s : List ℕ) (k m w : ℕ) (z : first (record_tests d s) ≡ 0) where
-  after : (n : ℕ) → n ≡ first (own_tests d s k m w) → n ≡ first (allocate_tests d s k m w)
-  after n e = more_yes d s (own_tests d s k m w) 0 n (sym z) refl e
-
-  pub alloc_kind : (r : Bool) → r ≡ allows (head_of s) k → not r ≡ true → 17 ≡ first (allocate_tests d s k m w)
-  alloc_kind r e h = after 17 (refused r (allows (head_of s) k) 17 _ e h)
-
-  module _ (r : Bool) (e : r ≡ allows (head_of s) k) (h : not r ≡ false) where
-    pub alloc-zero : m < 1 → 18 ≡ first (allocate_tests d s k m w)
-    alloc-zero l = after 18 (passed r (allows (head_of s) k) 17 _ e h 18 (sym (first_fail (leb 1 m) segment_place _ (lt-leb 1 m l))))
-
-    module _ (o : 1 ≤ m) where
-      asked : (n : ℕ) → n ≡ first ((ltb (length (segments s)) (most_segments (head_of s)) else_refuse record_full) ∷ (fitting m (runs_for d s k) else_refuse no_room) ∷ (leb (length s + item_bytes) w else_refuse slice_size) ∷ [])
-          → n ≡ first (allocate_tests d s k m w)
-      asked n q = after n (passed r (allows (head_of s) k) 17 _ e h n (q ∙ sym (first-pass (leb 1 m) segment_place _ (le-leb 1 m o))))
-
-      pub alloc-full : most_segments (head_of s) ≤ length (segments s) → 21 ≡ first (allocate_tests d s k m w)
-      alloc-full l = asked 21 (sym (first_fail (ltb (length (segments s)) (most_segments (head_of s))) record_full _ (le-ltb (length (segments s)) (most_segments (head_of s)) l)))
-
-      module _ (few : length (segments s) < most_segments (head_of s)) (f : Run) (same : f ≡ fit_of m (runs_for d s k)) where
-        sized : (n : ℕ) → n ≡ first ((fitting m (runs_for d s k) else_refuse no_room) ∷ (leb (length s + item_bytes) w else_refuse slice_size) ∷ []) → n ≡ first (allocate_tests d s k m w)
-        sized n q = asked n (q ∙ sym (first-pass (ltb (length (segments s)) (most_segments (head_of s))) record_full _ (lt-ltb (length (segments s)) (most_segments (head_of s)) few)))
-
-        pub alloc-none : f.sectors ≡ 0 → 20 ≡ first (allocate_tests d s k m w)
-        alloc-none l = sized 20 (sym (first_fail (fitting m (runs_for d s k)) no_room _ (fitting_no m (runs_for d s k) o (sym (ap (λ (v : Run). v.sectors) same) ∙ l))))
-
-        module _ (some : f.sectors ≡ 0 → ⊥) where
-          placed : (n : ℕ) → n ≡ first ((leb (length s + item_bytes) w else_refuse slice_size) ∷ []) → n ≡ first (allocate_tests d s k m w)
-          placed n q = sized n (q ∙ sym (first-pass (fitting m (runs_for d s k)) no_room _ (fitting-yes m (runs_for d s k) (λ v. some (ap (λ (u : Run). u.sectors) same ∙ v)))))
-
-          pub alloc-short : w < length s + item_bytes → 1 ≡ first (allocate_tests d s k m w)
-          alloc-short l = placed 1 (sym (first_fail (leb (length s + item_bytes) w) slice_size [] (lt-leb (length s + item_bytes) w l)))
-
-          pub alloc-yes : length s + item_bytes ≤ w → 0 ≡ first (allocate_tests d s k m w)
-          alloc-yes l = placed 0 (sym (first-pass (leb (length s + item_bytes) w) slice_size [] (le-leb (length s + item_bytes) w l) ∙ first-nil))
-
--- the walk of an allocation: in the range of its kind
-pub fit_for : (d : Device) (s : List ℕ) (q : Checked) (t : List ℕ) (n : ℕ) (r : Range) (k m : ℕ) (f : Run) → Prepared d s q t n r
-    → f ≡ fit_of m (walked r (segments_in t) (take n q.order.at)) → f ≡ fit_of m (runs_for d s k)
-fit_for d s q t n r k m f w e = e ∙ ap (fit_of m) (w.runs ∙ sym (for_runs d s (accepted d s w.zero) k))
-
+-- the range of an allocation
 pub range_is : (d : Device) (s : List ℕ) (h : Head) (r : Range) (k : ℕ) → first (record_tests d s) ≡ 0 → h ≡ head_of s → r ≡ range_for d h k → r ≡ data_range d
 range_is d s h r k z e f = f ∙ (ap (λ (v : Head). range_for d v k) e ∙ for_any d s (accepted d s z) k)
-
--- What the call that fills a table of numbers answers and leaves.
-abbrev pub Numbers : Device → List ℕ → List ℕ → RunCount → List ℕ → Type 0
-Numbers d s t a q = (a ≡ numbers_answer d s (length t)) × (q ≡ numbers_left d s t)
-
-pub numbers_no : (d : Device) (s t : List ℕ) (r : Refusal) → r ≡ named r.number s → r.number ≡ first (table_tests d s (length t / 2)) → (r.number ≡ 0 → ⊥)
-    → Numbers d s t (RunCount.Refused r) t
-numbers_no d s t r g e h = (
-  refuse_no (RunCount.Runs (length (runs_in d s))) RunCount.Refused s r (first (table_tests d s (length t / 2))) g e h,
-  answer_no (numbers_of (runs_in d s) ++ drop (2 * length (runs_in d s)) t) (λ (x : ℕ). t) r.number (first (table_tests d s (length t / 2))) e h,
-)
-
-pub numbers_own : (d : Device) (s t : List ℕ) (n : ℕ) (r : Refusal) → r ≡ plain n → (n ≡ segment_clash → ⊥) → n ≡ first (table_tests d s (length t / 2)) → (n ≡ 0 → ⊥)
-    → Numbers d s t (RunCount.Refused r) t
-numbers_own d s t n r q g e h =
-    subst (λ (x : Refusal). Numbers d s t (RunCount.Refused x) t) (sym q) (numbers_no d s t (plain n) (sym (named_other n s g)) e h)
-
-pub numbers-yes : (d : Device) (s t : List ℕ) (k : ℕ) (rs : List Run) (q : List ℕ) → rs ≡ runs_in d s → k ≡ length rs → first (record_tests d s) ≡ 0 → k ≤ length t / 2
-    → q ≡ numbers_of (take k rs) ++ drop (2 * k) t → Numbers d s t (RunCount.Runs k) q
-numbers-yes d s t k rs q e f z l h =
-    let m : k ≡ length (runs_in d s) = f ∙ ap (λ (v : List Run). length v) e in
-    let o : 0 ≡ first (table_tests d s (length t / 2)) = table_room d s (length t / 2) z (let v : length (runs_in d s) ≤ length t / 2 = omega arith in v) in (
-      ap RunCount.Runs m ∙ refuse-yes (RunCount.Runs (length (runs_in d s))) RunCount.Refused s 0 (first (table_tests d s (length t / 2))) o refl,
-      h
-          ∙ (ap (λ (v : List Run). numbers_of v ++ drop (2 * k) t) (ap (λ (u : ℕ). take u rs) f ∙ (take-length rs ∙ e))
-          ∙ (ap (λ (v : ℕ). numbers_of (runs_in d s) ++ drop (2 * v) t) m
-          ∙ answer-yes (numbers_of (runs_in d s) ++ drop (2 * length (runs_in d s)) t) (λ (x : ℕ). t) 0 (first (table_tests d s (length t / 2))) o refl)),
-    )
 
 -- the sum of the segments' lengths from position i on
 pub allocated-drop : (gs : List Segment) (i : ℕ) → i < length gs → allocated (drop i gs) ≡ (nth gs i).sectors + allocated (drop (i + 1) gs)
@@ -212,3 +92,115 @@ allocated-drop gs i l = ap allocated (drop-cons gs i none l) ∙ (allocated_more
 
 pub allocated-end : (gs : List Segment) (i : ℕ) → length gs ≤ i → allocated (drop i gs) ≡ 0
 allocated-end gs i l = ap allocated (drop_of_length-le gs {i = i} l) ∙ allocated-none
+
+-- A search for m sectors in runs, after a record that is accepted.
+module _ (d : Device) (s : List ℕ) (rs : List Run) (m : ℕ) (after : first (record_tests d s ++ fit_tests rs m) ≡ first (fit_tests rs m)) where
+  pub fit-zero : m < 1 → first (record_tests d s ++ fit_tests rs m) ≡ 18
+  unfolding first
+  fit-zero l = rw (after, lt-leb 1 m l)
+
+  pub fit_none : 1 ≤ m → fitting m rs ≡ false → first (record_tests d s ++ fit_tests rs m) ≡ 20
+  unfolding first
+  fit_none o f = rw (after, le-leb 1 m o, f)
+
+  pub fit-some : 1 ≤ m → fitting m rs ≡ true → first (record_tests d s ++ fit_tests rs m) ≡ 0
+  unfolding first
+  fit-some o f = rw (after, le-leb 1 m o, f)
+
+  pub fit_answered : 1 ≤ m → (r : Option Run) → r ≡ fit_in m rs → ok_or r Reason.NoRoom ≡ answered (first (record_tests d s ++ fit_tests rs m)) s (fit_of m rs)
+  unfolding named plain_but
+  fit_answered o r e = go (fitting m rs) refl
+    where
+      go : (b : Bool) → fitting m rs ≡ b → ok_or r Reason.NoRoom ≡ answered (first (record_tests d s ++ fit_tests rs m)) s (fit_of m rs)
+      go true f =
+          let q : r ≡ Some (fit_of m rs) = e ∙ ap (λ (b : Bool). cond b (Some (fit_of m rs)) None) f in
+          rw (q, fit-some o f)
+      go false f =
+          let q : r ≡ None = e ∙ ap (λ (b : Bool). cond b (Some (fit_of m rs)) None) f in
+          rw (q, fit_none o f)
+
+-- a table with room for w runs, after a record that is accepted
+module _ (d : Device) (s : List ℕ) (w : ℕ) (z : first (record_tests d s) ≡ 0) where
+  abbrev room : List Test
+  room = (leb (length (runs_in d s)) w else_refuse slice_size) ∷ []
+
+  pub table-short : w < length (runs_in d s) → first (table_tests d s w) ≡ 1
+  unfolding first
+  table-short l = rw (after_record d s room z, lt-leb (length (runs_in d s)) w l)
+
+  pub table_room : length (runs_in d s) ≤ w → first (table_tests d s w) ≡ 0
+  unfolding first
+  table_room l = rw (after_record d s room z, le-leb (length (runs_in d s)) w l)
+
+-- An allocation's own tests, as far as each return of the code has come.
+module _ (d : Device) (s : List ℕ) (k m w : ℕ) where
+  pub own_kind : allows (head_of s) k ≡ false → first (own_tests d s k m w) ≡ 17
+  unfolding first
+  own_kind a = rw a
+
+  module _ (a : allows (head_of s) k ≡ true) where
+    pub own-zero : m < 1 → first (own_tests d s k m w) ≡ 18
+    unfolding first
+    own-zero l = rw (a, lt-leb 1 m l)
+
+    module _ (o : 1 ≤ m) where
+      pub own-full : most_segments (head_of s) ≤ length (segments s) → first (own_tests d s k m w) ≡ 21
+      unfolding first
+      own-full l = rw (a, le-leb 1 m o, le-ltb (length (segments s)) (most_segments (head_of s)) l)
+
+      module _ (few : length (segments s) < most_segments (head_of s)) where
+        pub own-none : fitting m (runs_for d s k) ≡ false → first (own_tests d s k m w) ≡ 20
+        unfolding first
+        own-none f = rw (a, le-leb 1 m o, lt-ltb (length (segments s)) (most_segments (head_of s)) few, f)
+
+        pub own-short : fitting m (runs_for d s k) ≡ true → w < length s + item_bytes → first (own_tests d s k m w) ≡ 1
+        unfolding first
+        own-short f l = rw (a, le-leb 1 m o, lt-ltb (length (segments s)) (most_segments (head_of s)) few, f, lt-leb (length s + item_bytes) w l)
+
+        pub own-yes : fitting m (runs_for d s k) ≡ true → length s + item_bytes ≤ w → first (own_tests d s k m w) ≡ 0
+        unfolding first
+        own-yes f l = rw (a, le-leb 1 m o, lt-ltb (length (segments s)) (most_segments (head_of s)) few, f, le-leb (length s + item_bytes) w l)
+
+-- a search that found a run, and one that found none
+pub fit_some : (m : ℕ) (rs : List Run) (r : Run) → Some r ≡ fit_in m rs → (fitting m rs ≡ true) × (r ≡ fit_of m rs)
+fit_some m rs r e = go (fitting m rs) refl
+  where
+    go : (b : Bool) → fitting m rs ≡ b → (fitting m rs ≡ true) × (r ≡ fit_of m rs)
+    go true f =
+        let q : Some r ≡ Some (fit_of m rs) = e ∙ ap (λ (b : Bool). cond b (Some (fit_of m rs)) None) f in
+        (f, (let k : r ≡ fit_of m rs = cc in k))
+    go false f =
+        let q : Some r ≡ None = e ∙ ap (λ (b : Bool). cond b (Some (fit_of m rs)) None) f in
+        let z : ◌≡◌ {A = ℕ} 0 1 = cc in
+        absurd (omega arith)
+
+pub fit_not : (m : ℕ) (rs : List Run) → None ≡ fit_in m rs → fitting m rs ≡ false
+fit_not m rs e = go (fitting m rs) refl
+  where
+    go : (b : Bool) → fitting m rs ≡ b → fitting m rs ≡ false
+    go false f = f
+    go true f =
+        let q : None ≡ Some (fit_of m rs) = e ∙ ap (λ (b : Bool). cond b (Some (fit_of m rs)) None) f in
+        let z : ◌≡◌ {A = ℕ} 0 1 = cc in
+        absurd (omega arith)
+
+-- the gaps that were found are the free runs, and what is answered of them
+pub free_is : (d : Device) (s p : List ℕ) (r : Range) (xs : List Run) → checked (first (record_tests d s)) s ≡ Ok p → r ≡ data_range d
+    → xs ≡ walked r (segments s) (meant s p) → (first (record_tests d s) ≡ 0) × (xs ≡ runs_in d s)
+free_is d s p r xs h k e =
+    let o : Ordered d s p [] = ordered_on d s p [] h in
+    (o.zero, e ∙ (ap (λ (q : Range). walked q (segments s) (meant s p)) k ∙ o.runs))
+
+pub free_value : {A : Type 0} (d : Device) (s p : List ℕ) (r : Range) (xs : List Run) (f : List Run → A) (v : A) → checked (first (record_tests d s)) s ≡ Ok p
+    → r ≡ data_range d → xs ≡ walked r (segments s) (meant s p) → v ≡ f xs → Ok v ≡ answered (first (record_tests d s)) s (f (runs_in d s))
+free_value d s p r xs f v h k e g =
+    let q : (first (record_tests d s) ≡ 0) × (xs ≡ runs_in d s) = free_is d s p r xs h k e in
+    ap Ok (g ∙ ap f q.1) ∙ sym (told_zero (first (record_tests d s)) (named (first (record_tests d s)) s) (f (runs_in d s)) q.0)
+
+-- the gap that was found in the free runs, whatever range they were looked for in
+pub fit_is : (d : Device) (s p : List ℕ) (us : List Test) (r : Range) (xs : List Run) (m : ℕ) (f : Option Run) → Ordered d s p us → r ≡ data_range d
+    → xs ≡ walked r (segments s) (meant s p) → 1 ≤ m → f ≡ find (λ v. leb m v.sectors) xs → f ≡ fit_in m (runs_in d s)
+fit_is d s p us r xs m f o k e l g =
+    g
+    ∙ (ap (find (λ v. leb m v.sectors)) (e ∙ (ap (λ (q : Range). walked q (segments s) (meant s p)) k ∙ o.runs))
+    ∙ fit_found m (runs_in d s) l)

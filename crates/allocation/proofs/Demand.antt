@@ -6,62 +6,59 @@ use mathlib.Core.List.{List, [], ◌∷◌, ◌++◌}
 use native.Mathlib.Decide.{dec_le, dec_lt}
 use native.Mathlib.Nat.{le_refl}
 use native.Mathlib.Omega.{arith}
-use borrow.Author.Tests.{le-leb, lt-ltb}
-use lib.Dec.{eqb}
+use borrow.Author.Tests.{le-leb, lt-ltb, ne_eqb}
+use lib.Dec.{eqb, leb, lit<}
 use lib.ListN.{length, take, drop, get_or-append}
 use lib.Seq.{take_at, drop_at, split_at}
 use Rattle.endian.specs.Bytes.{splice, Bytes}
 use Rattle.endian.proofs.Parts.{splice-fits}
-use Rattle.refusal.specs.Tests.{Test, first}
-use Rattle.refusal.proofs.Order.{first-zero, first-after, first_all, answer_no, answer-yes}
+use Rattle.std.specs.Prelude.{Ok, Err}
+use Rattle.refusal.specs.Numbers.{slice_size}
+use Rattle.refusal.specs.Refusals.{plain_but}
+use Rattle.refusal.specs.Reasons.{reason_of}
+use Rattle.refusal.specs.Tests.{Test, ◌else_refuse◌, first}
+use Rattle.refusal.proofs.Reasons.{told_zero, told_other}
+use Rattle.refusal.proofs.Order.{first-zero, first-after, first_all, first_below}
 use Rattle.layout.specs.declared.Device.{Device}
 use Rattle.layout.specs.Limits.{record_limit}
-use Rattle.layout.specs.Places.{data_start, data_end}
+use Rattle.layout.specs.Places.{data_end}
 use Rattle.search.specs.Search.{one}
 use Rattle.search.proofs.Search.{and_false-right, both, not_true-false}
 use Rattle.segments.specs.declared.Segment.{Segment}
 use Rattle.segments.specs.declared.Range.{Range}
 use Rattle.segments.specs.Segments.{none, nth, end_of, holds, InRange}
 use Rattle.segments.specs.Sectors.{held_by, is_free, free_sectors}
-use Rattle.segments.specs.Order.{picked_at}
 use Rattle.segments.proofs.Segments.{holds_in, holds_low, holds_high}
 use Rattle.segments.proofs.Sectors.{Laid, held_none, held_more, held-append, held_not, held_once, free_low, free_high, free-held, is_free_lem, held_not_free, free-same}
 use Rattle.runs.specs.declared.Run.{Run}
 use Rattle.runs.specs.Runs.{no_run, runs_of, run_at, fit_of, fitting}
-use Rattle.runs.specs.Gaps.{gaps}
 use Rattle.runs.specs.Demand.{FreeRun, InRun, LowestFit}
-use Rattle.runs.proofs.Fit.{none-fits, fitting_no}
-use Rattle.runs.proofs.Fit as Fit
+use Rattle.runs.proofs.Fit.{none-fits}
 use Rattle.runs.proofs.Demand.{longest, every-run, ascending, all_free, fit}
-use Rattle.items.specs.Head.{head_of, head_size, data_range, range_for, item_bytes, most_segments, allows}
+use Rattle.items.specs.Head.{head_of, head_size, data_range, range_for, item_bytes, most_segments}
 use Rattle.items.specs.Items.{segments}
 use Rattle.items.specs.Making.{record_of, appended, removed, unless}
 use Rattle.items.proofs.Heads.{most_room, room_most}
 use Rattle.items.proofs.Items.{formed}
 use Rattle.items.proofs.Making.{length_record, length-appended, appended_is, removed_is}
-use Rattle.record.specs.Accept.{record_tests, named}
+use Rattle.record.specs.Accept.{record_tests, named, answered}
 use Rattle.record.specs.Answers.{position_tests}
 use Rattle.record.specs.Demand.{Right}
-use Rattle.record.proofs.Testing.{record_ascending, more_no, more_yes}
-use Rattle.record.proofs.Naming.{refuse_own, refuse-yes}
+use Rattle.record.proofs.Testing.{record_ascending, more_no}
+use Rattle.record.proofs.Naming.{refusal_named}
 use Rattle.record.proofs.Accepted.{Accepted, accepted, laid}
 use Rattle.record.proofs.Right.{read_head, read_segments, accepted_made, accepted-right}
 use Rattle.record.proofs.Change.{right-append, right_remove, less}
-use Rattle.record.proofs.Demand.{order-taken, refusal_of}
-use Rattle.allocation.specs.declared.RunCount.TheVariants as RunCount
-use Rattle.allocation.specs.declared.RunFound.TheVariants as RunFound
-use Rattle.allocation.specs.declared.FreeTotal.TheVariants as FreeTotal
-use Rattle.allocation.specs.declared.Allocation.TheVariants as Allocation
-use Rattle.allocation.specs.declared.Released.TheVariants as Released
+use Rattle.allocation.specs.declared.Allocation.{Allocation}
 use Rattle.allocation.specs.Tables.{numbers_of}
-use Rattle.allocation.specs.Answers.{runs_in, runs_refusal, run_refusal, total_refusal, fit_tests, table_tests, table_left, numbers_left}
-use Rattle.allocation.specs.Change.{runs_for, own_tests, allocate_tests, allocation, allocate_left, allocation_refusal, given, room_tests, release_tests, released, release_left, release_refusal}
+use Rattle.allocation.specs.Answers.{runs_in, fit_tests, table_tests, table_left, numbers_left}
+use Rattle.allocation.specs.Change.{runs_for, own_tests, allocate_tests, allocation, allocate_left, given, room_tests, release_tests, release_left}
 use Rattle.allocation.specs.Demand.{free_in, free_for, Runs, Fitting, Tables, Grantable, Granted, Allocated, Allocates, Freeable, Freed, Releases, RecordFirst, Owned, Refusing, Numbered, Valued}
-use Rattle.allocation.proofs.Finding.{runs-walked, for_any}
+use Rattle.allocation.proofs.Finding.{for_any}
 use Rattle.allocation.proofs.Allowed.{Allowed, allowed, Releasable, releasable}
 use Rattle.allocation.proofs.Leaving.{release-past, release-short, release-passed}
 use Rattle.allocation.proofs.Tables.{numbers-length, numbers-at}
-use Rattle.allocation.proofs.Calls.{fit-zero, fit_none, fit-some, table-short, table_room, alloc_kind, alloc-zero, alloc-full, alloc-none, alloc-short}
+use Rattle.allocation.proofs.Calls.{after_record, ordered_on, fit-zero, fit_none, fit-some, table-short, table_room, own_kind, own-zero, own-full, own-none, own-short}
 
 pub runs : Runs
 runs d s h =
@@ -70,65 +67,77 @@ runs d s h =
       ascending = ascending (free_in d s) (data_end d);
       every = every-run (free_in d s) (data_end d);
       all = λ x f. all_free (free_in d s) (data_end d) x (free_high (data_range d) (segments s) x f) f;
-      between = runs-walked d s (accepted d s h) ∙ ap (λ (p : List ℕ). gaps (data_start d) (data_end d) (picked_at (segments s) p)) (sym (order-taken d s h));
+      between = λ p e. sym (ordered_on d s p [] e).runs;
     }
 
 -- REFUSED: the number, and what was lent as it was
-refuses : {A : Type 0} (value : A) (number : ℕ → A) (t n : ℕ) → t ≡ n → 0 < n → cond (eqb t 0) value (number t) ≡ number n
-refuses value number t n e l = sym (answer_no value number n t (sym e) (λ z. let q : n ≡ 0 = z in let m : 0 < n = l in absurd (omega arith)))
+refused_at : {A : Type 0} (s : List ℕ) (v : A) (t n : ℕ) → t ≡ n → 0 < n → answered t s v ≡ Err (reason_of (named n s))
+refused_at s v t n e l = ap (λ (k : ℕ). answered k s v) e ∙ told_other n (named n s) v (λ z. omega arith)
+
+kept_at : {A : Type 0} (made out : A) (t n : ℕ) → t ≡ n → 0 < n → cond (eqb t 0) made out ≡ out
+kept_at made out t n e l = ap (λ (k : ℕ). cond (eqb k 0) made out) e ∙ ap (λ (b : Bool). cond b made out) (ne_eqb n 0 (λ z. omega arith))
+
+given_at : {A : Type 0} (s : List ℕ) (v : A) (t : ℕ) → t ≡ 0 → answered t s v ≡ Ok v
+given_at s v t z = told_zero t (named t s) v z
+
+-- what an allocation answers that is not refused
+abbrev placed : Device → List ℕ → ℕ → ℕ → Allocation
+placed d s k m = record { start = (given d s k m).start; length = length s + item_bytes }
 
 not_false-true : (b : Bool) → (b ≡ false → ⊥) → b ≡ true
 not_false-true true h = refl
 not_false-true false h = absurd (h refl)
 
 pub fitting-run : Fitting
+unfolding named plain_but
 fitting-run d s m z = (
-  λ l. sym (refuse_own (RunFound.At (fit_of m (runs_in d s))) RunFound.Refused s 18 (first (record_tests d s ++ fit_tests (runs_in d s) m)) (λ q. omega arith) (fit-zero d s (runs_in d s) m z l) (λ q. omega arith)),
+  λ l. ap (λ (n : ℕ). answered n s (fit_of m (runs_in d s))) (fit-zero d s (runs_in d s) m after l),
   (
     λ k o l h. (
       fit_of m (runs_in d s),
       (
-        sym (refuse-yes (RunFound.At (fit_of m (runs_in d s))) RunFound.Refused s 0 (first (record_tests d s ++ fit_tests (runs_in d s) m)) (fit-some d s (runs_in d s) m (fit_of m (runs_in d s)) z o refl (some k o l h)) refl),
+        given_at s (fit_of m (runs_in d s)) (first (record_tests d s ++ fit_tests (runs_in d s) m)) (fit-some d s (runs_in d s) m after o (long k o l h)),
         (fit (free_in d s) (data_end d) m o).0 (long k o l h),
       ),
     ),
-    λ o h. sym (refuse_own (RunFound.At (fit_of m (runs_in d s))) RunFound.Refused s 20 (first (record_tests d s ++ fit_tests (runs_in d s) m)) (λ q. omega arith) (fit_none d s (runs_in d s) m (fit_of m (runs_in d s)) z o refl (ap (λ (r : Run). r.sectors) (Fit.fit_none m (runs_in d s) ((fit (free_in d s) (data_end d) m o).1.1 h)))) (λ q. omega arith)),
+    λ o h. ap (λ (n : ℕ). answered n s (fit_of m (runs_in d s))) (fit_none d s (runs_in d s) m after o ((fit (free_in d s) (data_end d) m o).1.1 h)),
   ),
 )
   where
+    after : first (record_tests d s ++ fit_tests (runs_in d s) m) ≡ first (fit_tests (runs_in d s) m)
+    after = after_record d s (fit_tests (runs_in d s) m) z
+
     long : (k : ℕ) → 1 ≤ m → k < length (runs_in d s) → m ≤ (run_at (runs_in d s) k).sectors → fitting m (runs_in d s) ≡ true
     long k o l h =
         not_false-true (fitting m (runs_in d s)) (λ e. let q : (run_at (runs_in d s) k).sectors < m = none-fits m (runs_in d s) e k l in absurd (omega arith))
 
-    some : (k : ℕ) → 1 ≤ m → k < length (runs_in d s) → m ≤ (run_at (runs_in d s) k).sectors → (fit_of m (runs_in d s)).sectors ≡ 0 → ⊥
-    some k o l h e = both (fitting m (runs_in d s)) (long k o l h) (fitting_no m (runs_in d s) o e)
-
 -- THE TABLES
 pub tables : Tables
+unfolding named plain_but
 tables d s z =
     record {
       table = λ t l.
-          let o : 0 ≡ first (table_tests d s (length t)) = table_room d s (length t) z l in
-          let e : table_left d s t ≡ runs_in d s ++ drop (length (runs_in d s)) t = sym (answer-yes (runs_in d s ++ drop (length (runs_in d s)) t) (λ (x : ℕ). t) 0 (first (table_tests d s (length t))) o refl) in
+          let o : first (table_tests d s (length t)) ≡ 0 = table_room d s (length t) z l in
+          let e : table_left d s t ≡ runs_in d s ++ drop (length (runs_in d s)) t = rw o in
           record {
-            answer = sym (refuse-yes (RunCount.Runs (length (runs_in d s))) RunCount.Refused s 0 (first (table_tests d s (length t))) o refl);
+            answer = given_at s (length (runs_in d s)) (first (table_tests d s (length t))) o;
             each = λ k h. ap (λ (q : List Run). run_at q k) e ∙ get_or-append (runs_in d s) (drop (length (runs_in d s)) t) no_run k h;
             past = ap (λ (q : List Run). drop (length (runs_in d s)) q) e ∙ drop_at (runs_in d s) (drop (length (runs_in d s)) t) (length (runs_in d s)) refl;
           };
       table-small = λ t l.
-          let o : first (table_tests d s (length t)) ≡ 1 = sym (table-short d s (length t) z l) in
-          (sym (refuse_own (RunCount.Runs (length (runs_in d s))) RunCount.Refused s 1 (first (table_tests d s (length t))) (λ q. omega arith) (sym o) (λ q. omega arith)), refuses (runs_in d s ++ drop (length (runs_in d s)) t) (λ (x : ℕ). t) (first (table_tests d s (length t))) 1 o (omega arith));
+          let o : first (table_tests d s (length t)) ≡ 1 = table-short d s (length t) z l in
+          (ap (λ (n : ℕ). answered n s (length (runs_in d s))) o, rw o);
       numbers = λ t l.
-          let o : 0 ≡ first (table_tests d s (length t / 2)) = table_room d s (length t / 2) z (let v : length (runs_in d s) ≤ length t / 2 = omega arith in v) in
-          let e : numbers_left d s t ≡ numbers_of (runs_in d s) ++ drop (2 * length (runs_in d s)) t = sym (answer-yes (numbers_of (runs_in d s) ++ drop (2 * length (runs_in d s)) t) (λ (x : ℕ). t) 0 (first (table_tests d s (length t / 2))) o refl) in
+          let o : first (table_tests d s (length t / 2)) ≡ 0 = table_room d s (length t / 2) z (let v : length (runs_in d s) ≤ length t / 2 = omega arith in v) in
+          let e : numbers_left d s t ≡ numbers_of (runs_in d s) ++ drop (2 * length (runs_in d s)) t = rw o in
           record {
-            answer = sym (refuse-yes (RunCount.Runs (length (runs_in d s))) RunCount.Refused s 0 (first (table_tests d s (length t / 2))) o refl);
+            answer = given_at s (length (runs_in d s)) (first (table_tests d s (length t / 2))) o;
             each = λ k h. ap (λ (q : List ℕ). take 2 (drop (2 * k) q)) e ∙ numbers-at (runs_in d s) k (drop (2 * length (runs_in d s)) t) h;
             past = ap (λ (q : List ℕ). drop (2 * length (runs_in d s)) q) e ∙ drop_at (numbers_of (runs_in d s)) (drop (2 * length (runs_in d s)) t) (2 * length (runs_in d s)) (numbers-length (runs_in d s));
           };
       numbers-small = λ t l.
-          let o : first (table_tests d s (length t / 2)) ≡ 1 = sym (table-short d s (length t / 2) z (let v : length t / 2 < length (runs_in d s) = omega arith in v)) in
-          (sym (refuse_own (RunCount.Runs (length (runs_in d s))) RunCount.Refused s 1 (first (table_tests d s (length t / 2))) (λ q. omega arith) (sym o) (λ q. omega arith)), refuses (numbers_of (runs_in d s) ++ drop (2 * length (runs_in d s)) t) (λ (x : ℕ). t) (first (table_tests d s (length t / 2))) 1 o (omega arith));
+          let o : first (table_tests d s (length t / 2)) ≡ 1 = table-short d s (length t / 2) z (let v : length t / 2 < length (runs_in d s) = omega arith in v) in
+          (ap (λ (n : ℕ). answered n s (length (runs_in d s))) o, rw o);
     }
 
 -- EXACTLY WHEN AN ALLOCATION IS NOT REFUSED
@@ -181,42 +190,37 @@ freeable d s p w z = (forth, back)
     forth h = let r : Releasable d s p w = releasable d s p w h in (r.there, r.room)
 
     back : (p < length (segments s)) × (length s - item_bytes ≤ w) → first (release_tests d s p w) ≡ 0
-    back h = sym (more_yes d s (position_tests s p ++ room_tests s w) 0 0 (sym z) refl (release-passed s p w h.0 h.1))
+    back h = after_record d s (position_tests s p ++ room_tests s w) z ∙ release-passed s p w h.0 h.1
 
 -- THE RECORD FIRST, THEN THE CALL'S OWN TESTS
 pub record_first : RecordFirst
 record_first d s k m w l =
     record {
-      runs = sym (no (RunCount.Runs (length (runs_in d s))) (λ (x : ℕ). RunCount.Refused (named x s)) (first (record_tests d s)) refl);
-      run = sym (no (RunFound.At (run_at (runs_in d s) k)) (λ (x : ℕ). RunFound.Refused (named x s)) (first (record_tests d s)) refl);
-      free = sym (no (FreeTotal.Sectors (free_sectors (data_range d) (segments s))) (λ (x : ℕ). FreeTotal.Refused (named x s)) (first (record_tests d s)) refl);
-      fit = sym (no (RunFound.At (fit_of m (runs_in d s))) (λ (x : ℕ). RunFound.Refused (named x s)) (first (record_tests d s ++ fit_tests (runs_in d s) m)) (more (fit_tests (runs_in d s) m)));
-      table = sym (no (RunCount.Runs (length (runs_in d s))) (λ (x : ℕ). RunCount.Refused (named x s)) (first (table_tests d s w)) (more _));
-      numbers = sym (no (RunCount.Runs (length (runs_in d s))) (λ (x : ℕ). RunCount.Refused (named x s)) (first (table_tests d s (w / 2))) (more _));
-      allocation = sym (no (Allocation.Placed (given d s k m).start (length s + item_bytes)) (λ (x : ℕ). Allocation.Refused (named x s)) (first (allocate_tests d s k m w)) (more (own_tests d s k m w)));
-      release = sym (no (Released.Length (length s - item_bytes)) (λ (x : ℕ). Released.Refused (named x s)) (first (release_tests d s k w)) (more (position_tests s k ++ room_tests s w)));
+      runs = refused_at s (length (runs_in d s)) (first (record_tests d s)) (first (record_tests d s)) refl l;
+      run = refused_at s (run_at (runs_in d s) k) (first (record_tests d s)) (first (record_tests d s)) refl l;
+      free = refused_at s (free_sectors (data_range d) (segments s)) (first (record_tests d s)) (first (record_tests d s)) refl l;
+      fit = more (fit_tests (runs_in d s) m) (fit_of m (runs_in d s));
+      table = more ((leb (length (runs_in d s)) w else_refuse slice_size) ∷ []) (length (runs_in d s));
+      numbers = more ((leb (length (runs_in d s)) (w / 2) else_refuse slice_size) ∷ []) (length (runs_in d s));
+      allocation = more (own_tests d s k m w) (placed d s k m);
+      release = more (position_tests s k ++ room_tests s w) (length s - item_bytes);
     }
   where
-    more : (us : List Test) → first (record_tests d s) ≡ first (record_tests d s ++ us)
-    more us = more_no d s us (first (record_tests d s)) refl (λ z. omega arith)
-
-    no : {A : Type 0} (value : A) (number : ℕ → A) (t : ℕ) → first (record_tests d s) ≡ t → number (first (record_tests d s)) ≡ cond (eqb t 0) value (number t)
-    no value number t e = answer_no value number (first (record_tests d s)) t e (λ z. omega arith)
+    more : {A : Type 0} (us : List Test) (v : A) → answered (first (record_tests d s ++ us)) s v ≡ Err (reason_of (named (first (record_tests d s)) s))
+    more us v = refused_at s v (first (record_tests d s ++ us)) (first (record_tests d s)) (sym (more_no d s us (first (record_tests d s)) refl (λ z. omega arith))) l
 
 pub owned : Owned
 owned d s k m p w z =
     record {
-      kind = λ a. sym (alloc_kind d s k m w z (allows (head_of s) k) refl (rw a refl));
-      zero = λ a l. sym (alloc-zero d s k m w z (allows (head_of s) k) refl (rw a refl) l);
-      full = λ a o l. sym (alloc-full d s k m w z (allows (head_of s) k) refl (rw a refl) o (not-few l));
-      none = λ a o l h.
-          sym (alloc-none d s k m w z (allows (head_of s) k) refl (rw a refl) o (room_most (head_of s) (length (segments s)) l) (fit_of m (runs_for d s k)) refl
-          (ap (λ (r : Run). r.sectors) (Fit.fit_none m (runs_for d s k) (unfit o h))));
+      kind = λ a. after_record d s (own_tests d s k m w) z ∙ own_kind d s k m w a;
+      zero = λ a l. after_record d s (own_tests d s k m w) z ∙ own-zero d s k m w a l;
+      full = λ a o l. after_record d s (own_tests d s k m w) z ∙ own-full d s k m w a o (not-few l);
+      none = λ a o l h. after_record d s (own_tests d s k m w) z ∙ own-none d s k m w a o (room_most (head_of s) (length (segments s)) l) (unfit o h);
       short = λ v g l.
-          sym (alloc-short d s k m w z (allows (head_of s) k) refl (rw g.kind refl) g.some (room_most (head_of s) (length (segments s)) g.more) (fit_of m (runs_for d s k)) refl
-          (λ e. both (fitting m (runs_for d s k)) (fitted d s k m w z g.some g.run.0 g.run.1.0 g.run.1.1) (fitting_no m (runs_for d s k) g.some e)) l);
-      past = λ l. sym (more_yes d s (position_tests s p ++ room_tests s w) 0 22 (sym z) refl (release-past s p w l));
-      small = λ l h. sym (more_yes d s (position_tests s p ++ room_tests s w) 0 1 (sym z) refl (release-short s p w l h));
+          after_record d s (own_tests d s k m w) z
+          ∙ own-short d s k m w g.kind g.some (room_most (head_of s) (length (segments s)) g.more) (fitted d s k m w z g.some g.run.0 g.run.1.0 g.run.1.1) l;
+      past = λ l. after_record d s (position_tests s p ++ room_tests s w) z ∙ release-past s p w l;
+      small = λ l h. after_record d s (position_tests s p ++ room_tests s w) z ∙ release-short s p w l h;
     }
   where
     not-few : record_limit < head_size (head_of s) + item_bytes * (length (segments s) + 1) → most_segments (head_of s) ≤ length (segments s)
@@ -464,7 +468,7 @@ module _ (d : Device) (s : List ℕ) (p : ℕ) (out : List ℕ) (small : d.secto
   released_all : Freed d s p out
   released_all =
       record {
-        answer = ap (λ (n : ℕ). released n s (length s - item_bytes)) h;
+        answer = ap (λ (n : ℕ). answered n s (length s - item_bytes)) h;
         new = rest;
         past = ap (drop (length s - item_bytes)) released_leaves ∙ laid_rest out (removed s p) (length s - item_bytes) size may.room;
         accepted = rw rest (accepted_made d (head_of s) others small still);
@@ -480,29 +484,65 @@ releases = released_all
 pub refusing : Refusing
 refusing d s n l =
     record {
-      allocation = λ k m out e. (refuses (Allocation.Placed (given d s k m).start (length s + item_bytes)) (λ (x : ℕ). Allocation.Refused (named x s)) (first (allocate_tests d s k m (length out))) n e l, refuses (splice out 0 (appended s (given d s k m))) (λ (x : ℕ). out) (first (allocate_tests d s k m (length out))) n e l);
-      release = λ p out e. (refuses (Released.Length (length s - item_bytes)) (λ (x : ℕ). Released.Refused (named x s)) (first (release_tests d s p (length out))) n e l, refuses (splice out 0 (removed s p)) (λ (x : ℕ). out) (first (release_tests d s p (length out))) n e l);
-      table = λ t e. (refuses (RunCount.Runs (length (runs_in d s))) (λ (x : ℕ). RunCount.Refused (named x s)) (first (table_tests d s (length t))) n e l, refuses (runs_in d s ++ drop (length (runs_in d s)) t) (λ (x : ℕ). t) (first (table_tests d s (length t))) n e l);
-      numbers = λ t e. (refuses (RunCount.Runs (length (runs_in d s))) (λ (x : ℕ). RunCount.Refused (named x s)) (first (table_tests d s (length t / 2))) n e l, refuses (numbers_of (runs_in d s) ++ drop (2 * length (runs_in d s)) t) (λ (x : ℕ). t) (first (table_tests d s (length t / 2))) n e l);
+      allocation = λ k m out e. (
+        refused_at s (placed d s k m) (first (allocate_tests d s k m (length out))) n e l,
+        kept_at (splice out 0 (appended s (given d s k m))) out (first (allocate_tests d s k m (length out))) n e l,
+      );
+      release = λ p out e. (
+        refused_at s (length s - item_bytes) (first (release_tests d s p (length out))) n e l,
+        kept_at (splice out 0 (removed s p)) out (first (release_tests d s p (length out))) n e l,
+      );
+      table = λ t e. (
+        refused_at s (length (runs_in d s)) (first (table_tests d s (length t))) n e l,
+        kept_at (runs_in d s ++ drop (length (runs_in d s)) t) t (first (table_tests d s (length t))) n e l,
+      );
+      numbers = λ t e. (
+        refused_at s (length (runs_in d s)) (first (table_tests d s (length t / 2))) n e l,
+        kept_at (numbers_of (runs_in d s) ++ drop (2 * length (runs_in d s)) t) t (first (table_tests d s (length t / 2))) n e l,
+      );
     }
+
+-- the numbers that the calls' tests give are known
+abbrev Known : List Test → Type 0
+Known ts = first ts < 25
+
+record-known : (d : Device) (s : List ℕ) → Known (record_tests d s)
+record-known d s = first_below 25 (record_tests d s) (lit< tt) (lit< tt, (lit< tt, (lit< tt, (lit< tt, (lit< tt, (lit< tt, (lit< tt, tt)))))))
+
+one-known : (d : Device) (s : List ℕ) (b : Bool) → Known (record_tests d s ++ ((b else_refuse slice_size) ∷ []))
+one-known d s b =
+    first_below 25 (record_tests d s ++ ((b else_refuse slice_size) ∷ [])) (lit< tt) (lit< tt, (lit< tt, (lit< tt, (lit< tt, (lit< tt, (lit< tt, (lit< tt, (lit< tt, tt))))))))
+
+fit-known : (d : Device) (s : List ℕ) (rs : List Run) (m : ℕ) → Known (record_tests d s ++ fit_tests rs m)
+fit-known d s rs m =
+    first_below 25 (record_tests d s ++ fit_tests rs m) (lit< tt) (lit< tt, (lit< tt, (lit< tt, (lit< tt, (lit< tt, (lit< tt, (lit< tt, (lit< tt, (lit< tt, tt)))))))))
+
+allocate-known : (d : Device) (s : List ℕ) (k m w : ℕ) → Known (allocate_tests d s k m w)
+allocate-known d s k m w =
+    first_below 25 (allocate_tests d s k m w) (lit< tt)
+    (lit< tt, (lit< tt, (lit< tt, (lit< tt, (lit< tt, (lit< tt, (lit< tt, (lit< tt, (lit< tt, (lit< tt, (lit< tt, (lit< tt, tt))))))))))))
+
+release-known : (d : Device) (s : List ℕ) (p w : ℕ) → Known (release_tests d s p w)
+release-known d s p w =
+    first_below 25 (release_tests d s p w) (lit< tt) (lit< tt, (lit< tt, (lit< tt, (lit< tt, (lit< tt, (lit< tt, (lit< tt, (lit< tt, (lit< tt, tt)))))))))
 
 pub numbered : Numbered
 numbered d s k m w =
     record {
-      runs = refusal_of runs_refusal (RunCount.Runs (length (runs_in d s))) RunCount.Refused s refl (λ r. refl) (first (record_tests d s));
-      run = refusal_of run_refusal (RunFound.At (run_at (runs_in d s) k)) RunFound.Refused s refl (λ r. refl) (first (record_tests d s));
-      free = refusal_of total_refusal (FreeTotal.Sectors (free_sectors (data_range d) (segments s))) FreeTotal.Refused s refl (λ r. refl) (first (record_tests d s));
-      fit = refusal_of run_refusal (RunFound.At (fit_of m (runs_in d s))) RunFound.Refused s refl (λ r. refl) (first (record_tests d s ++ fit_tests (runs_in d s) m));
-      table = refusal_of runs_refusal (RunCount.Runs (length (runs_in d s))) RunCount.Refused s refl (λ r. refl) (first (table_tests d s w));
-      numbers = refusal_of runs_refusal (RunCount.Runs (length (runs_in d s))) RunCount.Refused s refl (λ r. refl) (first (table_tests d s (w / 2)));
-      allocation = refusal_of allocation_refusal (Allocation.Placed (given d s k m).start (length s + item_bytes)) Allocation.Refused s refl (λ r. refl) (first (allocate_tests d s k m w));
-      release = refusal_of release_refusal (Released.Length (length s - item_bytes)) Released.Refused s refl (λ r. refl) (first (release_tests d s k w));
+      runs = refusal_named (first (record_tests d s)) s (length (runs_in d s)) (record-known d s);
+      run = refusal_named (first (record_tests d s)) s (run_at (runs_in d s) k) (record-known d s);
+      free = refusal_named (first (record_tests d s)) s (free_sectors (data_range d) (segments s)) (record-known d s);
+      fit = refusal_named (first (record_tests d s ++ fit_tests (runs_in d s) m)) s (fit_of m (runs_in d s)) (fit-known d s (runs_in d s) m);
+      table = refusal_named (first (table_tests d s w)) s (length (runs_in d s)) (one-known d s (leb (length (runs_in d s)) w));
+      numbers = refusal_named (first (table_tests d s (w / 2))) s (length (runs_in d s)) (one-known d s (leb (length (runs_in d s)) (w / 2)));
+      allocation = refusal_named (first (allocate_tests d s k m w)) s (placed d s k m) (allocate-known d s k m w);
+      release = refusal_named (first (release_tests d s k w)) s (length s - item_bytes) (release-known d s k w);
     }
 
 pub valued : Valued
 valued d s k z =
     record {
-      runs = sym (refuse-yes (RunCount.Runs (length (runs_in d s))) RunCount.Refused s (first (record_tests d s)) (first (record_tests d s)) refl z);
-      run = sym (refuse-yes (RunFound.At (run_at (runs_in d s) k)) RunFound.Refused s (first (record_tests d s)) (first (record_tests d s)) refl z);
-      free = sym (refuse-yes (FreeTotal.Sectors (free_sectors (data_range d) (segments s))) FreeTotal.Refused s (first (record_tests d s)) (first (record_tests d s)) refl z);
+      runs = given_at s (length (runs_in d s)) (first (record_tests d s)) z;
+      run = given_at s (run_at (runs_in d s) k) (first (record_tests d s)) z;
+      free = given_at s (free_sectors (data_range d) (segments s)) (first (record_tests d s)) z;
     }

@@ -2,7 +2,6 @@
 pub mod Walking
 pub mod Tables
 pub mod Finding
-pub mod Preparing
 pub mod Allowed
 pub mod Calls
 pub mod Leaving

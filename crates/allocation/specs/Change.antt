@@ -1,8 +1,7 @@
 -- Allocation and release: what they refuse, answer, and leave in the lent bytes.
-use Rattle.std.specs.Prelude.{ℕ, ◌+◌, ◌-◌, cond, List, [], ◌∷◌, ◌++◌, leb, ltb, eqb, length}
+use Rattle.std.specs.Prelude.{ℕ, ◌+◌, ◌-◌, List, [], ◌∷◌, ◌++◌, leb, ltb, length, Result, Ok, Err}
 use Rattle.refusal.specs.Numbers.{slice_size, record_form, segment_place, no_room, record_full}
-use Rattle.refusal.specs.declared.Refusal.{Refusal}
-use Rattle.refusal.specs.Refusals.{plain}
+use Rattle.refusal.specs.declared.Reason.{Reason}
 use Rattle.refusal.specs.Tests.{Test, ◌else_refuse◌, first}
 use Rattle.endian.specs.Bytes.{splice}
 use Rattle.layout.specs.declared.Device.{Device}
@@ -12,10 +11,9 @@ use Rattle.runs.specs.Runs.{fit_of, fitting}
 use Rattle.items.specs.Head.{head_of, allows, range_for, item_bytes, most_segments}
 use Rattle.items.specs.Items.{segments}
 use Rattle.items.specs.Making.{unless, appended, removed}
-use Rattle.record.specs.Accept.{record_tests, named}
+use Rattle.record.specs.Accept.{record_tests, answered}
 use Rattle.record.specs.Answers.{position_tests}
 use Rattle.allocation.specs.declared.Allocation.{Allocation}
-use Rattle.allocation.specs.declared.Released.{Released}
 use Rattle.allocation.specs.Answers.{free_runs}
 
 -- the free runs of the range that a segment of kind k may lie in
@@ -40,23 +38,19 @@ allocate_tests d s k m w = record_tests d s ++ own_tests d s k m w
 abbrev pub given : Device → List ℕ → ℕ → ℕ → Segment
 given d s k m = record { kind = k; start = (fit_of m (runs_for d s k)).start; sectors = m }
 
-abbrev pub allocation : ℕ → List ℕ → ℕ → ℕ → Allocation
-allocation n s start len = cond (eqb n 0) (Allocation.Placed start len) (Allocation.Refused (named n s))
+abbrev pub allocation : ℕ → List ℕ → ℕ → ℕ → Result Allocation Reason
+allocation n s start len = answered n s (record { start = start; length = len })
 
 -- the new segment's first sector, and the new record's length
-abbrev pub allocate_answer : Device → List ℕ → ℕ → ℕ → ℕ → Allocation
+abbrev pub allocate_answer : Device → List ℕ → ℕ → ℕ → ℕ → Result Allocation Reason
 allocate_answer d s k m w = allocation (first (allocate_tests d s k m w)) s (given d s k m).start (length s + item_bytes)
 
 abbrev pub allocate_left : Device → List ℕ → ℕ → ℕ → List ℕ → List ℕ
 allocate_left d s k m out = unless (first (allocate_tests d s k m (length out))) (splice out 0 (appended s (given d s k m))) out
 
-abbrev pub allocation_refusal : Allocation → Refusal
-allocation_refusal (Allocation.Placed start len) = plain 0
-allocation_refusal (Allocation.Refused r) = r
-
-abbrev pub allocation_values : Allocation → List ℕ
-allocation_values (Allocation.Placed start len) = start ∷ len ∷ []
-allocation_values (Allocation.Refused r) = []
+abbrev pub allocation_values : Result Allocation Reason → List ℕ
+allocation_values (Ok a) = a.start ∷ a.length ∷ []
+allocation_values (Err r) = []
 
 -- the last test of a release, after those of its record and of the position: whether the new record fits the w bytes lent
 abbrev pub room_tests : List ℕ → ℕ → List Test
@@ -65,20 +59,13 @@ room_tests s w = (leb (length s - item_bytes) w else_refuse slice_size) ∷ []
 abbrev pub release_tests : Device → List ℕ → ℕ → ℕ → List Test
 release_tests d s p w = record_tests d s ++ (position_tests s p ++ room_tests s w)
 
-abbrev pub released : ℕ → List ℕ → ℕ → Released
-released n s len = cond (eqb n 0) (Released.Length len) (Released.Refused (named n s))
-
 -- the new record's length
-abbrev pub release_answer : Device → List ℕ → ℕ → ℕ → Released
-release_answer d s p w = released (first (release_tests d s p w)) s (length s - item_bytes)
+abbrev pub release_answer : Device → List ℕ → ℕ → ℕ → Result ℕ Reason
+release_answer d s p w = answered (first (release_tests d s p w)) s (length s - item_bytes)
 
 abbrev pub release_left : Device → List ℕ → ℕ → List ℕ → List ℕ
 release_left d s p out = unless (first (release_tests d s p (length out))) (splice out 0 (removed s p)) out
 
-abbrev pub release_refusal : Released → Refusal
-release_refusal (Released.Length len) = plain 0
-release_refusal (Released.Refused r) = r
-
-abbrev pub release_values : Released → List ℕ
-release_values (Released.Length len) = len ∷ []
-release_values (Released.Refused r) = []
+abbrev pub release_values : Result ℕ Reason → List ℕ
+release_values (Ok len) = len ∷ []
+release_values (Err r) = []

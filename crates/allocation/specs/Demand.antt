@@ -1,8 +1,9 @@
 -- Free runs, allocation and release by meaning, in other words than the definitions that the calls cite. A device's size below 2^64
 -- and elements below 256 (`Bytes`) are what the machine's types have. `proofs/Demand.antt` proves all of it.
-use Rattle.std.specs.Prelude.{ℕ, suc, ◌+◌, ◌-◌, ◌*◌, ◌/◌, ◌^◌, ◌≤◌, ◌<◌, ◌≡◌, Bool, true, false, not, ◌&&◌, ◌||◌, List, [], ◌∷◌, ◌++◌, length, take, drop}
+use Rattle.std.specs.Prelude.{ℕ, suc, ◌+◌, ◌-◌, ◌*◌, ◌/◌, ◌^◌, ◌≤◌, ◌<◌, ◌≡◌, Bool, true, false, not, ◌&&◌, ◌||◌, List, [], ◌∷◌, ◌++◌, length, take, drop, Ok, Err}
 use Rattle.endian.specs.Bytes.{Bytes}
-use Rattle.refusal.specs.Refusals.{plain}
+use Rattle.refusal.specs.declared.Reason.TheVariants.{SliceSize, SegmentPlace, NoRoom}
+use Rattle.refusal.specs.Reasons.{reason_of, refusal_in}
 use Rattle.refusal.specs.Tests.{first}
 use Rattle.layout.specs.declared.Device.{Device}
 use Rattle.layout.specs.Limits.{record_limit}
@@ -18,13 +19,8 @@ use Rattle.items.specs.Head.{head_of, head_size, allows, data_range, range_for, 
 use Rattle.items.specs.Items.{segments}
 use Rattle.items.specs.Making.{record_of}
 use Rattle.record.specs.Accept.{record_tests, named, checked}
-use Rattle.allocation.specs.declared.RunCount.TheVariants as RunCount
-use Rattle.allocation.specs.declared.RunFound.TheVariants as RunFound
-use Rattle.allocation.specs.declared.FreeTotal.TheVariants as FreeTotal
-use Rattle.allocation.specs.declared.Allocation.TheVariants as Allocation
-use Rattle.allocation.specs.declared.Released.TheVariants as Released
-use Rattle.allocation.specs.Answers.{runs_in, runs_answer, runs_refusal, run_answer, run_refusal, total_answer, total_refusal, fit_tests, fit_answer, table_tests, table_answer, table_left, numbers_answer, numbers_left}
-use Rattle.allocation.specs.Change.{runs_for, allocate_tests, allocate_answer, allocate_left, allocation_refusal, given, release_tests, release_answer, release_left, release_refusal}
+use Rattle.allocation.specs.Answers.{runs_in, runs_answer, run_answer, total_answer, fit_tests, fit_answer, table_tests, table_answer, table_left, numbers_answer, numbers_left}
+use Rattle.allocation.specs.Change.{runs_for, allocate_tests, allocate_answer, allocate_left, given, release_tests, release_answer, release_left}
 
 -- a sector of the data range in no segment of a record
 abbrev pub free_in : Device → List ℕ → ℕ → Bool
@@ -42,8 +38,8 @@ pub record Free (d : Device) (s : List ℕ) : Type 0 where
       → (run_at (runs_in d s) j).start + (run_at (runs_in d s) j).sectors < (run_at (runs_in d s) k).start
   pub every : (r : Run) → FreeRun (free_in d s) (data_end d) r → (k : ℕ) × ((k < length (runs_in d s)) × (run_at (runs_in d s) k ≡ r))
   pub all : (x : ℕ) → free_in d s x ≡ true → InRun (runs_in d s) x
-  pub between : runs_in d s
-      ≡ gaps (data_start d) (data_end d) (picked_at (segments s) (take (length (segments s)) (checked (first (record_tests d s)) s).order.at))
+  pub between : (p : List ℕ) → checked (first (record_tests d s)) s ≡ Ok p
+      → runs_in d s ≡ gaps (data_start d) (data_end d) (picked_at (segments s) (take (length (segments s)) p))
 
 abbrev pub Runs : Type 0
 Runs = (d : Device) (s : List ℕ) → first (record_tests d s) ≡ 0 → Free d s
@@ -52,20 +48,20 @@ Runs = (d : Device) (s : List ℕ) → first (record_tests d s) ≡ 0 → Free d
 abbrev pub Fitting : Type 0
 Fitting =
     (d : Device) (s : List ℕ) (m : ℕ) → first (record_tests d s) ≡ 0
-    → (m < 1 → fit_answer d s m ≡ RunFound.Refused (plain 18))
+    → (m < 1 → fit_answer d s m ≡ Err SegmentPlace)
     × (((k : ℕ) → 1 ≤ m → k < length (runs_in d s) → m ≤ (run_at (runs_in d s) k).sectors
-    → (r : Run) × ((fit_answer d s m ≡ RunFound.At r) × LowestFit (runs_in d s) m r))
-    × (1 ≤ m → ((k : ℕ) → k < length (runs_in d s) → (run_at (runs_in d s) k).sectors < m) → fit_answer d s m ≡ RunFound.Refused (plain 20)))
+    → (r : Run) × ((fit_answer d s m ≡ Ok r) × LowestFit (runs_in d s) m r))
+    × (1 ≤ m → ((k : ℕ) → k < length (runs_in d s) → (run_at (runs_in d s) k).sectors < m) → fit_answer d s m ≡ Err NoRoom))
 
 -- A table t with the free runs: every entry is the run of its number, and the entries past the runs stay.
 pub record Tabled (d : Device) (s : List ℕ) (t : List Run) : Type 0 where
-  pub answer : table_answer d s (length t) ≡ RunCount.Runs (length (runs_in d s))
+  pub answer : table_answer d s (length t) ≡ Ok (length (runs_in d s))
   pub each : (k : ℕ) → k < length (runs_in d s) → run_at (table_left d s t) k ≡ run_at (runs_in d s) k
   pub past : drop (length (runs_in d s)) (table_left d s t) ≡ drop (length (runs_in d s)) t
 
 -- The same as numbers, the start and the sectors of each.
 pub record Listed (d : Device) (s : List ℕ) (t : List ℕ) : Type 0 where
-  pub answer : numbers_answer d s (length t) ≡ RunCount.Runs (length (runs_in d s))
+  pub answer : numbers_answer d s (length t) ≡ Ok (length (runs_in d s))
   pub each : (k : ℕ) → k < length (runs_in d s)
       → take 2 (drop (2 * k) (numbers_left d s t)) ≡ (run_at (runs_in d s) k).start ∷ (run_at (runs_in d s) k).sectors ∷ []
   pub past : drop (2 * length (runs_in d s)) (numbers_left d s t) ≡ drop (2 * length (runs_in d s)) t
@@ -73,9 +69,9 @@ pub record Listed (d : Device) (s : List ℕ) (t : List ℕ) : Type 0 where
 -- The tables of an accepted record are filled exactly where they have room; otherwise 1, and every entry as it was.
 pub record Filling (d : Device) (s : List ℕ) : Type 0 where
   pub table : (t : List Run) → length (runs_in d s) ≤ length t → Tabled d s t
-  pub table-small : (t : List Run) → length t < length (runs_in d s) → (table_answer d s (length t) ≡ RunCount.Refused (plain 1)) × (table_left d s t ≡ t)
+  pub table-small : (t : List Run) → length t < length (runs_in d s) → (table_answer d s (length t) ≡ Err SliceSize) × (table_left d s t ≡ t)
   pub numbers : (t : List ℕ) → 2 * length (runs_in d s) ≤ length t → Listed d s t
-  pub numbers-small : (t : List ℕ) → length t < 2 * length (runs_in d s) → (numbers_answer d s (length t) ≡ RunCount.Refused (plain 1)) × (numbers_left d s t ≡ t)
+  pub numbers-small : (t : List ℕ) → length t < 2 * length (runs_in d s) → (numbers_answer d s (length t) ≡ Err SliceSize) × (numbers_left d s t ≡ t)
 
 abbrev pub Tables : Type 0
 Tables = (d : Device) (s : List ℕ) → first (record_tests d s) ≡ 0 → Filling d s
@@ -97,7 +93,7 @@ Granted =
 
 -- What an allocation of m sectors for kind k answers and leaves in `out`.
 pub record Allocated (d : Device) (s : List ℕ) (k m : ℕ) (out : List ℕ) : Type 0 where
-  pub answer : allocate_answer d s k m (length out) ≡ Allocation.Placed (fit_of m (runs_for d s k)).start (length s + item_bytes)
+  pub answer : allocate_answer d s k m (length out) ≡ Ok (record { start = (fit_of m (runs_for d s k)).start; length = length s + item_bytes })
   -- it is m sectors from the start of the free run of lowest start that is long enough
   pub lowest : LowestFit (runs_for d s k) m (fit_of m (runs_for d s k))
   pub starts : (given d s k m).start ≡ (fit_of m (runs_for d s k)).start
@@ -127,7 +123,7 @@ Freeable =
 
 -- What a release of the segment at position p answers and leaves in `out`.
 pub record Freed (d : Device) (s : List ℕ) (p : ℕ) (out : List ℕ) : Type 0 where
-  pub answer : release_answer d s p (length out) ≡ Released.Length (length s - item_bytes)
+  pub answer : release_answer d s p (length out) ≡ Ok (length s - item_bytes)
   -- the buffer begins with the record of the same head and the other segments as they stood; the bytes past it stay
   pub new : take (length s - item_bytes) (release_left d s p out) ≡ record_of (head_of s) (take p (segments s) ++ drop (suc p) (segments s))
   pub past : drop (length s - item_bytes) (release_left d s p out) ≡ drop (length s - item_bytes) out
@@ -148,14 +144,14 @@ Releases =
 
 -- The record comes first: one that is refused is refused by every call, with its own number and what stands beside it, whatever else is asked.
 pub record Refused (d : Device) (s : List ℕ) (k m w : ℕ) : Type 0 where
-  pub runs : runs_answer d s ≡ RunCount.Refused (named (first (record_tests d s)) s)
-  pub run : run_answer d s k ≡ RunFound.Refused (named (first (record_tests d s)) s)
-  pub free : total_answer d s ≡ FreeTotal.Refused (named (first (record_tests d s)) s)
-  pub fit : fit_answer d s m ≡ RunFound.Refused (named (first (record_tests d s)) s)
-  pub table : table_answer d s w ≡ RunCount.Refused (named (first (record_tests d s)) s)
-  pub numbers : numbers_answer d s w ≡ RunCount.Refused (named (first (record_tests d s)) s)
-  pub allocation : allocate_answer d s k m w ≡ Allocation.Refused (named (first (record_tests d s)) s)
-  pub release : release_answer d s k w ≡ Released.Refused (named (first (record_tests d s)) s)
+  pub runs : runs_answer d s ≡ Err (reason_of (named (first (record_tests d s)) s))
+  pub run : run_answer d s k ≡ Err (reason_of (named (first (record_tests d s)) s))
+  pub free : total_answer d s ≡ Err (reason_of (named (first (record_tests d s)) s))
+  pub fit : fit_answer d s m ≡ Err (reason_of (named (first (record_tests d s)) s))
+  pub table : table_answer d s w ≡ Err (reason_of (named (first (record_tests d s)) s))
+  pub numbers : numbers_answer d s w ≡ Err (reason_of (named (first (record_tests d s)) s))
+  pub allocation : allocate_answer d s k m w ≡ Err (reason_of (named (first (record_tests d s)) s))
+  pub release : release_answer d s k w ≡ Err (reason_of (named (first (record_tests d s)) s))
 
 abbrev pub RecordFirst : Type 0
 RecordFirst = (d : Device) (s : List ℕ) (k m w : ℕ) → 0 < first (record_tests d s) → Refused d s k m w
@@ -179,35 +175,35 @@ Owned = (d : Device) (s : List ℕ) (k m p w : ℕ) → first (record_tests d s)
 -- A call whose tests give a number that is not 0 answers that number with what stands beside it and leaves what it was lent as it was.
 pub record Unchanged (d : Device) (s : List ℕ) (n : ℕ) : Type 0 where
   pub allocation : (k m : ℕ) (out : List ℕ) → first (allocate_tests d s k m (length out)) ≡ n
-      → (allocate_answer d s k m (length out) ≡ Allocation.Refused (named n s)) × (allocate_left d s k m out ≡ out)
+      → (allocate_answer d s k m (length out) ≡ Err (reason_of (named n s))) × (allocate_left d s k m out ≡ out)
   pub release : (p : ℕ) (out : List ℕ) → first (release_tests d s p (length out)) ≡ n
-      → (release_answer d s p (length out) ≡ Released.Refused (named n s)) × (release_left d s p out ≡ out)
-  pub table : (t : List Run) → first (table_tests d s (length t)) ≡ n → (table_answer d s (length t) ≡ RunCount.Refused (named n s)) × (table_left d s t ≡ t)
+      → (release_answer d s p (length out) ≡ Err (reason_of (named n s))) × (release_left d s p out ≡ out)
+  pub table : (t : List Run) → first (table_tests d s (length t)) ≡ n → (table_answer d s (length t) ≡ Err (reason_of (named n s))) × (table_left d s t ≡ t)
   pub numbers : (t : List ℕ) → first (table_tests d s (length t / 2)) ≡ n
-      → (numbers_answer d s (length t) ≡ RunCount.Refused (named n s)) × (numbers_left d s t ≡ t)
+      → (numbers_answer d s (length t) ≡ Err (reason_of (named n s))) × (numbers_left d s t ≡ t)
 
 abbrev pub Refusing : Type 0
 Refusing = (d : Device) (s : List ℕ) (n : ℕ) → 0 < n → Unchanged d s n
 
 -- What a call answers has the number that its tests give, with what stands beside it, for every input.
 pub record Numbers (d : Device) (s : List ℕ) (k m w : ℕ) : Type 0 where
-  pub runs : runs_refusal (runs_answer d s) ≡ named (first (record_tests d s)) s
-  pub run : run_refusal (run_answer d s k) ≡ named (first (record_tests d s)) s
-  pub free : total_refusal (total_answer d s) ≡ named (first (record_tests d s)) s
-  pub fit : run_refusal (fit_answer d s m) ≡ named (first (record_tests d s ++ fit_tests (runs_in d s) m)) s
-  pub table : runs_refusal (table_answer d s w) ≡ named (first (table_tests d s w)) s
-  pub numbers : runs_refusal (numbers_answer d s w) ≡ named (first (table_tests d s (w / 2))) s
-  pub allocation : allocation_refusal (allocate_answer d s k m w) ≡ named (first (allocate_tests d s k m w)) s
-  pub release : release_refusal (release_answer d s k w) ≡ named (first (release_tests d s k w)) s
+  pub runs : refusal_in (runs_answer d s) ≡ named (first (record_tests d s)) s
+  pub run : refusal_in (run_answer d s k) ≡ named (first (record_tests d s)) s
+  pub free : refusal_in (total_answer d s) ≡ named (first (record_tests d s)) s
+  pub fit : refusal_in (fit_answer d s m) ≡ named (first (record_tests d s ++ fit_tests (runs_in d s) m)) s
+  pub table : refusal_in (table_answer d s w) ≡ named (first (table_tests d s w)) s
+  pub numbers : refusal_in (numbers_answer d s w) ≡ named (first (table_tests d s (w / 2))) s
+  pub allocation : refusal_in (allocate_answer d s k m w) ≡ named (first (allocate_tests d s k m w)) s
+  pub release : refusal_in (release_answer d s k w) ≡ named (first (release_tests d s k w)) s
 
 abbrev pub Numbered : Type 0
 Numbered = (d : Device) (s : List ℕ) (k m w : ℕ) → Numbers d s k m w
 
 -- What a call answers that is not refused; of the others it is `Fitting`, `Tables`, `Allocates` and `Releases`.
 pub record Values (d : Device) (s : List ℕ) (k : ℕ) : Type 0 where
-  pub runs : runs_answer d s ≡ RunCount.Runs (length (runs_in d s))
-  pub run : run_answer d s k ≡ RunFound.At (run_at (runs_in d s) k)
-  pub free : total_answer d s ≡ FreeTotal.Sectors (free_sectors (data_range d) (segments s))
+  pub runs : runs_answer d s ≡ Ok (length (runs_in d s))
+  pub run : run_answer d s k ≡ Ok (run_at (runs_in d s) k)
+  pub free : total_answer d s ≡ Ok (free_sectors (data_range d) (segments s))
 
 abbrev pub Valued : Type 0
 Valued = (d : Device) (s : List ℕ) (k : ℕ) → first (record_tests d s) ≡ 0 → Values d s k

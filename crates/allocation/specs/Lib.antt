@@ -2,6 +2,5 @@
 pub mod Walking
 pub mod Tables
 pub mod Answers
-pub mod Preparing
 pub mod Change
 pub mod Demand

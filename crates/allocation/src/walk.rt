@@ -1,193 +1,142 @@
-// A walk over the gaps between segments, in their order: each gap is found from the one before it. t is the items of a record
-// after its head, `at` the positions of its segments in their order.
-ghost use Rattle.std.specs.Prelude.{◌≡◌, ◌*◌, ◌≤◌, ◌<◌, ◌++◌, length, take, drop};
-ghost use Rattle.segments.specs.Order.{picked_at, Chain};
-ghost use Rattle.items.specs.Head.{data_range};
-ghost use Rattle.items.specs.Items.{segments_in, segments};
-ghost use Rattle.runs.specs.Runs.{run_at, fit_of};
-ghost use Rattle.allocation.specs.Walking.{walked, meant, begun, On, Stepped};
+// The gaps between segments, in their order: each is found from the segment before it.
+ghost use Rattle.std.specs.Prelude.{◌≡◌, ◌*◌, ◌^◌, ◌≤◌, ◌<◌, ◌++◌, leb, length, drop, find};
+ghost use Rattle.std.specs.Iterator.{YieldsFirst, item_count};
+ghost use Rattle.segments.specs.Segments.{end_of};
+ghost use Rattle.items.specs.Items.{segments_in};
+ghost use Rattle.runs.specs.Runs.{run_at};
 ghost use Rattle.allocation.specs.Tables.{numbers_of};
+ghost use Rattle.allocation.specs.Walking.{gap_to, walked, left};
 
-use layout::Device;
 use runs::Run;
-use segments::Range;
+use segments::{Range, Segment};
 
-// A gap, the end of the range, and the place in the order of the first segment past the gap.
+// The gaps that are left: of the items t of a record, at the positions `at` of its segments that come next, after the segment that was
+// passed last, up to the end of a range.
 #[derive(Clone, Copy)]
-pub struct Walk {
-    pub gap: Run,
+pub struct Gaps<'a> {
+    pub t: &'a [u8],
+    pub at: &'a [u16],
+    pub last: Segment,
     pub end: u64,
-    pub place: usize,
 }
 
-// Before the first gap: none yet, at the range's start.
-fn begin(r: Range) -> Walk
-    ensures { result ≡ begun r }
+// No segment, at this sector.
+fn nothing_at(start: u64) -> Segment
+    ensures { end_of result ≡ start }
 {
-    Walk {
-        gap: Run {
-            start: r.start,
-            sectors: 0,
-        },
-        end: r.end,
-        place: 0,
+    Segment {
+        kind: 0,
+        start,
+        sectors: 0,
     }
 }
 
-// The next gap; one of no sectors at the range's end where there is none left.
-fn step(t: &[u8], at: &[u16], w: Walk) -> Walk
-    requires { On (segments_in t.now) at.now w }
-    ensures { Stepped (segments_in t.now) at.now w result }
+// The gap from the end of a segment up to a sector. No sum is taken that could wrap.
+fn gap(last: Segment, to: u64) -> Option<Run>
+    ensures { result ≡ gap_to (end_of last) to }
 {
-    let end = w.end;
-    let mut y = w.gap.start + w.gap.sectors;
-    let mut j = w.place;
-    while j < at.len() {
-        let g = items::segment_in(t, at[j] as usize);
-        if y < g.start {
-            return Walk {
-                gap: Run {
-                    start: y,
-                    sectors: g.start - y,
-                },
-                end,
-                place: j,
+    let sectors = to.saturating_sub(last.start).saturating_sub(last.sectors);
+    if sectors == 0 {
+        return None;
+    }
+    Some(Run {
+        start: last.start + last.sectors,
+        sectors,
+    })
+}
+
+impl<'a> Gaps<'a> {
+    // All gaps of a range.
+    pub(super) fn new(t: &'a [u8], at: &'a [u16], r: Range) -> Gaps<'a>
+        ensures { left result ≡ walked r (segments_in t.now) at.now }
+    {
+        Gaps {
+            t,
+            at,
+            last: nothing_at(r.start),
+            end: r.end,
+        }
+    }
+
+    // How many there are.
+    pub(super) fn number(self) -> usize
+        requires { length (left self) < 2 ^ 64 }
+        ensures { result ≡ length (left self.entry) }
+    {
+        self.count()
+    }
+
+    // Gap number k, counted from 0; no run past the last.
+    pub(super) fn run(mut self, k: usize) -> Run
+        ensures { result ≡ run_at (left self.entry) k }
+    {
+        self.nth(k).unwrap_or(runs::NONE)
+    }
+
+    // The first gap of m sectors or more.
+    pub(super) fn fit(mut self, m: u64) -> Option<Run>
+        ensures { result ≡ find (λ r. leb m r.sectors) (left self.entry) }
+    {
+        self.find(|r| m <= r.sectors)
+    }
+
+    // Stores all of them in the first entries of a table; the entries past them stay.
+    pub(super) fn fill(mut self, table: &mut [Run])
+        requires { length (left self) ≤ length table.old }
+        ensures { table.new ≡ left self.entry ++ drop (length (left self.entry)) table.old }
+    {
+        for entry in table.iter_mut() {
+            let Some(gap) = self.next() else {
+                return;
             };
+            *entry = gap;
         }
-        y = g.start + g.sectors;
-        j += 1;
     }
-    Walk {
-        gap: Run {
-            start: y,
-            sectors: end - y,
-        },
-        end,
-        place: j,
-    }
-}
 
-// How many gaps there are.
-pub(super) fn count_gaps(t: &[u8], at: &[u16], r: Range) -> u64
-    requires { Chain r.start r.end (picked_at (segments_in t.now) at.now) }
-    ensures { result ≡ length (walked r (segments_in t.now) at.now) }
-{
-    let mut w = begin(r);
-    let mut n: u64 = 0;
-    loop {
-        let next = step(t, at, w);
-        if next.gap.sectors == 0 {
-            return n;
-        }
-        n += 1;
-        w = next;
-    }
-}
-
-// Gap number k, counted from 0; zero in both fields past the last.
-pub(super) fn gap_at(t: &[u8], at: &[u16], r: Range, k: u64) -> Run
-    requires { Chain r.start r.end (picked_at (segments_in t.now) at.now) }
-    ensures { result ≡ run_at (walked r (segments_in t.now) at.now) k }
-{
-    let mut w = begin(r);
-    let mut left = k;
-    loop {
-        let next = step(t, at, w);
-        if next.gap.sectors == 0 {
-            return Run {
-                start: 0,
-                sectors: 0,
+    // The same in a table of numbers: a start and a length for each. Not one function for both: of a closure that stores, nothing is known after.
+    pub(super) fn fill_numbers(mut self, table: &mut [u64])
+        requires { 2 * length (left self) ≤ length table.old }
+        ensures { table.new ≡ numbers_of (left self.entry) ++ drop (2 * length (left self.entry)) table.old }
+    {
+        for i in 0..table.len() / 2 {
+            let Some(gap) = self.next() else {
+                return;
             };
+            table[2 * i] = gap.start;
+            table[2 * i + 1] = gap.sectors;
         }
-        if left == 0 {
-            return next.gap;
-        }
-        left -= 1;
-        w = next;
     }
 }
 
-// The first gap of m sectors or more; zero in both fields where there is none.
-pub(super) fn fit(t: &[u8], at: &[u16], r: Range, m: u64) -> Run
-    requires { Chain r.start r.end (picked_at (segments_in t.now) at.now) }
-    ensures { result ≡ fit_of m (walked r (segments_in t.now) at.now) }
-{
-    let mut w = begin(r);
-    loop {
-        let next = step(t, at, w);
-        if next.gap.sectors == 0 {
-            return Run {
-                start: 0,
-                sectors: 0,
+impl<'a> Iterator for Gaps<'a> {
+    type Item = Run;
+
+    ghost next_gives = { YieldsFirst left };
+
+    ghost remaining = { item_count left };
+
+    fn next(&mut self) -> Option<Run> {
+        let mut w = *self;
+        while let Some((i, others)) = w.at.split_first() {
+            let g = items::segment_in(w.t, usize::from(*i));
+            let before = gap(w.last, g.start);
+            w = Gaps {
+                t: w.t,
+                at: others,
+                last: g,
+                end: w.end,
             };
+            if before.is_some() {
+                *self = w;
+                return before;
+            }
         }
-        if m <= next.gap.sectors {
-            return next.gap;
-        }
-        w = next;
-    }
-}
-
-// Stores the first n gaps in a table of numbers: a start and a length for each. The numbers past them stay.
-pub(super) fn fill_numbers(t: &[u8], at: &[u16], r: Range, n: usize, table: &mut [u64])
-    requires { (0 < n → Chain r.start r.end (picked_at (segments_in t.now) at.now)) × ((n ≤ length (walked r (segments_in t.now) at.now)) × (2 * n ≤ length table.old)) }
-    ensures { table.new ≡ numbers_of (take n (walked r (segments_in t.now) at.now)) ++ drop (2 * n) table.old }
-{
-    let mut w = begin(r);
-    let mut i = 0;
-    while i < n {
-        let next = step(t, at, w);
-        table[2 * i] = next.gap.start;
-        table[2 * i + 1] = next.gap.sectors;
-        w = next;
-        i += 1;
-    }
-}
-
-// Before the first gap of a device's data range.
-fn begin_on(d: Device) -> Walk
-    ensures { result ≡ begun (data_range d) }
-{
-    begin(items::data_range(d))
-}
-
-// The first n positions.
-pub(super) fn first_of(at: &[u16], n: usize) -> &[u16]
-    ensures { result.now ≡ take n at.now }
-{
-    if n < at.len() {
-        return &at[..n];
-    }
-    at
-}
-
-// The next gap of a record s, where `at` begins with the positions of its segments.
-fn step_in(s: &[u8], at: &[u16], w: Walk) -> Walk
-    requires { On (segments s.now) (meant s.now at.now) w }
-    ensures { Stepped (segments s.now) (meant s.now at.now) w result }
-{
-    let t = items::items_of(s);
-    step(t, first_of(at, items::count_in(t)), w)
-}
-
-// The gap of a walk.
-fn gap_of(w: Walk) -> Run
-    ensures { result ≡ w.gap }
-{
-    w.gap
-}
-
-// Stores the first n gaps of a device with a record s in a table of runs, where `at` begins with the positions of its segments.
-// The entries past them stay.
-pub(super) fn fill_runs(s: &[u8], at: &[u16], d: Device, n: usize, table: &mut [Run])
-    requires { (0 < n → Chain (data_range d).start (data_range d).end (picked_at (segments s.now) (meant s.now at.now))) × ((n ≤ length (walked (data_range d) (segments s.now) (meant s.now at.now))) × (n ≤ length table.old)) }
-    ensures { table.new ≡ take n (walked (data_range d) (segments s.now) (meant s.now at.now)) ++ drop n table.old }
-{
-    let mut w = begin_on(d);
-    let mut i = 0;
-    while i < n {
-        w = step_in(s, at, w);
-        table[i] = gap_of(w);
-        i += 1;
+        *self = Gaps {
+            t: w.t,
+            at: w.at,
+            last: nothing_at(w.end),
+            end: w.end,
+        };
+        gap(w.last, w.end)
     }
 }

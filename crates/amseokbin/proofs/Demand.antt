@@ -11,6 +11,9 @@ use Rattle.endian.specs.Bytes.{zeros}
 use Rattle.endian.proofs.Parts.{splice-whole, length-window-fits}
 use Rattle.refusal.specs.Tests.{first}
 use Rattle.refusal.specs.Refusals.{plain}
+use Rattle.refusal.specs.declared.Reason.{Reason}
+use Rattle.refusal.specs.Reasons.{refusal_of}
+use Rattle.std.specs.Prelude.{Option, Some, None, Result, Ok, Err}
 use Rattle.layout.specs.declared.Side.{Side}
 use Rattle.layout.specs.declared.Side.TheVariants.{Front, Back}
 use Rattle.layout.specs.declared.Area.{Area}
@@ -19,24 +22,19 @@ use Rattle.layout.specs.Answers.{side_number, area_number}
 use Rattle.block.specs.declared.BlockFields.{BlockFields}
 use Rattle.block.specs.declared.Reading.{Reading}
 use Rattle.discovery.specs.declared.Finding.{Finding}
-use Rattle.discovery.specs.declared.Other.{Other}
-use Rattle.discovery.specs.declared.Answer.{Answer}
+use Rattle.discovery.specs.declared.Found.{Found}
 use Rattle.discovery.specs.Discovery.{discovery, is_in_step, copy_on}
 use Rattle.block.specs.Block.{pool_of, blockdev_of, read_tests}
 use Rattle.block.proofs.Readings.{accepted_reading_lem, accepted-length}
 use Rattle.copy.specs.Copy as Copy
-use Rattle.copy.specs.Copy.{uuid_from}
+use Rattle.block.specs.Block.{uuid_from, fields_of}
+use Rattle.copy.specs.Copy.{mapped}
 use Rattle.discovery.proofs.Latest.{newest-found}
-use Rattle.sectors.proofs.Alone.{fields_of_lem}
-use Rattle.stores.specs.declared.Given.{Given}
 use Rattle.update.specs.declared.Plan.{Plan}
-use Rattle.update.specs.declared.Planned.{Planned}
 use Rattle.update.specs.Plan as Update
 use Rattle.update.specs.Demand.{groups_on, plan_on, copy_after, PlanGives}
 use Rattle.update.proofs.Demand as Updates
 use Rattle.mend.specs.declared.Rewrite.{Rewrite}
-use Rattle.mend.specs.declared.Mending as Declared
-use Rattle.mend.specs.declared.Mending.TheVariants.{InStep, Needed}
 use Rattle.mend.specs.Mend.{mend_groups}
 use Rattle.mend.specs.Plan as Mend
 use Rattle.mend.specs.Demand.{MendGives}
@@ -54,8 +52,8 @@ update_back p = λ i. record { entry = p.entry; front = area p.front i; back = a
     area A = refl
     area B = refl
 
-pub mend_back : (p : Rewrite) → mend_from (rewrite_told p) ≡ Needed p
-mend_back p = λ i. Needed (record { kept = side p.kept i; area = area p.area i; bytes = p.bytes; last = flag p.last i })
+pub mend_back : (p : Rewrite) → mend_from (rewrite_told p) ≡ Ok (Some p)
+mend_back p = λ i. Ok (Some (record { kept = side p.kept i; area = area p.area i; bytes = p.bytes; last = flag p.last i }))
   where
     side : (w : Side) → side_from (side_number w) ≡ w
     side Front = refl
@@ -73,20 +71,20 @@ pub read_back : ReadBack
 read_back = record { update = update_back; mend = mend_back; in_step = refl }
 
 -- an answer as C has it
-module _ (g : Given) (flush : Bool) where
-  stored : (s : ℕ) → g ≡ Given.At s → store_answer g flush ≡ record { refusal = plain 0; sector = s; flush = flush }
-  stored s e = ap (λ (z : Given). store_answer z flush) e
+module _ (g : Result ℕ Reason) (flush : Bool) where
+  stored : (s : ℕ) → g ≡ Ok s → store_answer g flush ≡ record { refusal = plain 0; sector = s; flush = flush }
+  stored s e = ap (λ (z : Result ℕ Reason). store_answer z flush) e
 
-  not_stored : (n : ℕ) → g ≡ Given.Refused n → store_answer g flush ≡ record { refusal = plain n; sector = 0; flush = false }
-  not_stored n e = ap (λ (z : Given). store_answer z flush) e
+  not_stored : (r : Reason) → g ≡ Err r → store_answer g flush ≡ record { refusal = refusal_of r; sector = 0; flush = false }
+  not_stored r e = ap (λ (z : Result ℕ Reason). store_answer z flush) e
 
 pub giving : Giving
 giving v d u q t r st =
     let h : PlanGives v d t r = Updates.giving v d u q t r st in
-    let e : Update.planned (copy_after v d t r 0 Front) (copy_after v d t r 0 Back) t r ≡ Planned.Plan (plan_on v d t r) =
+    let e : Update.planned (copy_after v d t r 0 Front) (copy_after v d t r 0 Back) t r ≡ Ok (plan_on v d t r) =
     ap₂ (λ (f b : List ℕ). Update.planned f b t r) (Updates.copy-before v d t r Front) (Updates.copy-before v d t r Back) ∙ h.plan in
-    let p : update_from (plan_answered v d t r) ≡ plan_on v d t r = ap (λ (z : Planned). update_from (update_answer z).plan) e ∙ update_back (plan_on v d t r) in (
-      ap (λ (z : Planned). (update_answer z).refusal) e,
+    let p : update_from (plan_answered v d t r) ≡ plan_on v d t r = ap (λ (z : Result Plan Reason). update_from (update_answer z).plan) e ∙ update_back (plan_on v d t r) in (
+      ap (λ (z : Result Plan Reason). (update_answer z).refusal) e,
       subst
           (λ (z : Plan). Calls (groups_on v d t r) (λ (j : ℕ). copy_after v d t r j Front) (λ (j : ℕ). copy_after v d t r j Back) (Update.stores_in z) (Update.group_of z)
           (λ (f b : List ℕ) (i : ℕ) (out : List ℕ). Update.store_answer z f b r i out) (λ (f b : List ℕ) (i : ℕ) (out : List ℕ). Update.store_bytes z f b r i out) (Update.flush_after z))
@@ -101,16 +99,16 @@ giving v d u q t r st =
           }),
     )
 
-answered : (f b : List ℕ) (q : Finding) (o : Other) → discovery f b ≡ Answer.Found q o
+answered : (f b : List ℕ) (q : Finding) (o : Result BlockFields Reason) → discovery f b ≡ Ok (record { finding = q; other = o })
     → ((mend_answer (Mend.mending f b)).refusal ≡ plain 0) × (mend_from (mend_answered f b) ≡ Mend.mending f b)
 unfolding Mend.mending
 answered f b q o e =
-    subst (λ (a : Answer). ((mend_answer (Mend.mending_after a f b)).refusal ≡ plain 0) × (mend_from (mend_answer (Mend.mending_after a f b)).plan ≡ Mend.mending_after a f b)) (sym e)
+    subst (λ (a : Result Found Reason). ((mend_answer (Mend.mending_after a f b)).refusal ≡ plain 0) × (mend_from (mend_answer (Mend.mending_after a f b)).plan ≡ Mend.mending_after a f b)) (sym e)
     (each (is_in_step f b))
   where
     each : (s : Bool)
-        → ((mend_answer (cond s InStep (Needed (Mend.rewrite_of q)))).refusal ≡ plain 0)
-        × (mend_from (mend_answer (cond s InStep (Needed (Mend.rewrite_of q)))).plan ≡ cond s InStep (Needed (Mend.rewrite_of q)))
+        → ((mend_answer (cond s (Ok None) (Ok (Some (Mend.rewrite_of q))))).refusal ≡ plain 0)
+        × (mend_from (mend_answer (cond s (Ok None) (Ok (Some (Mend.rewrite_of q))))).plan ≡ cond s (Ok None) (Ok (Some (Mend.rewrite_of q))))
     each true = (refl, refl)
     each false = (refl, mend_back (Mend.rewrite_of q))
 
@@ -120,7 +118,7 @@ mending f b q o e =
     let k : ((mend_answer (Mend.mending f b)).refusal ≡ plain 0) × (mend_from (mend_answered f b) ≡ Mend.mending f b) = answered f b q o e in (
       k.0,
       subst
-          (λ (z : Declared.Mending). Calls (mend_groups f b) (λ (j : ℕ). f) (λ (j : ℕ). b) (Mend.stores_in z) (Mend.group_of z) (Mend.store_answer z) (Mend.store_bytes z) (Mend.flush_after z))
+          (λ (z : Result (Option Rewrite) Reason). Calls (mend_groups f b) (λ (j : ℕ). f) (λ (j : ℕ). b) (Mend.stores_in z) (Mend.group_of z) (Mend.store_answer z) (Mend.store_bytes z) (Mend.flush_after z))
           (sym k.1)
           (record {
             counted = h.count;
@@ -145,7 +143,9 @@ blocks f b q o e =
     let l : length (Copy.block_in c) ≡ 512 = accepted-length (Copy.block_in c) t in
     let p : uuid_from (pool_of (Copy.block_in c)) ≡ pool_of (Copy.block_in c) = uuid-whole _ (length-window-fits (Copy.block_in c) 32 32 (omega arith)) in
     let u : uuid_from (blockdev_of (Copy.block_in c)) ≡ blockdev_of (Copy.block_in c) = uuid-whole _ (length-window-fits (Copy.block_in c) 64 32 (omega arith)) in
-    ap (λ (a : Answer). (found_answer a f b).block) e
+    let v : Ok (fields_of (Copy.block_in c)) ≡ Ok q.fields = sym (ap (mapped (λ (r : Reading). r.fields)) (accepted_reading_lem (Copy.block_in c) t)) ∙ (newest-found f b q o e).accepted in
+    let k : fields_of (Copy.block_in c) ≡ q.fields = cc in
+    ap (λ (a : Result Found Reason). (found_answer a f b).block) e
     ∙ (ap₂ (λ (x y : List ℕ). block_of q.fields x y) p u
-    ∙ (ap (λ (x : BlockFields). block_of x (pool_of (Copy.block_in c)) (blockdev_of (Copy.block_in c))) (sym (fields_of_lem (Copy.block_in c) q.fields (newest-found f b q o e).accepted))
-    ∙ ap (λ (r : Reading). (block_answer r).block) (accepted_reading_lem (Copy.block_in c) t)))
+    ∙ (ap (λ (x : BlockFields). block_of x (pool_of (Copy.block_in c)) (blockdev_of (Copy.block_in c))) (sym k)
+    ∙ sym (ap (λ (r : Result Reading Reason). (block_answer r).block) (accepted_reading_lem (Copy.block_in c) t))))

@@ -15,7 +15,7 @@ use Rattle.items.specs.Items.{segments}
 use Rattle.record.specs.Accept.{record_tests, named}
 use Rattle.record.specs.Answers as Record
 use Rattle.record.proofs.Testing.{record_ascending}
-use Rattle.record.proofs.Naming.{number_is, named_other}
+use Rattle.record.proofs.Naming.{number_is, named_none, named_other}
 use Rattle.record.proofs.Demand as Records
 use Rattle.allocation.specs.Answers as Runs
 use Rattle.allocation.specs.Change as Allocation
@@ -30,10 +30,18 @@ use Rattle.update.proofs.Refusing as Updates
 use Rattle.format.specs.Format.{format_number}
 use Rattle.format.proofs.Demand as Formats
 use Rattle.amseokbin.specs.declared.HeadAnswer.{HeadAnswer}
-use Rattle.amseokbin.specs.Records.{no_head}
+use Rattle.amseokbin.specs.Records as Told
 use Rattle.amseokbin.specs.Pairs.{PairOf, Naming}
 use Rattle.amseokbin.proofs.Bare.{free, first-free}
-use Rattle.amseokbin.proofs.Telling.{telling}
+use Rattle.amseokbin.proofs.Telling.{telling, saying, zeroing}
+
+-- what C is told of a head
+head_refusal : (d : Device) (s : List ℕ) → (Told.head_answer d s).refusal ≡ named (first (record_tests d s)) s
+head_refusal d s =
+    elim (ℕ_discrete (first (record_tests d s)) 0) [
+      | yes z ↦ ap (λ (a : HeadAnswer). a.refusal) (saying.head d s z) ∙ (sym (named_none s) ∙ ap (λ (n : ℕ). named n s) (sym z))
+      | no z ↦ ap (λ (a : HeadAnswer). a.refusal) (zeroing.head d s z)
+    ]
 
 -- a refusal by its number
 pair_of : (q : Refusal) (n : ℕ) (s : List ℕ) → q ≡ named n s → (n ≡ 19 → FirstPair (segments s) (named n s).first (named n s).second) → PairOf q s
@@ -69,7 +77,7 @@ naming d s =
     record {
       record_check = pair_of _ (first (record_tests d s)) s refl (by_record d s);
       record_head = pair_of _ (first (record_tests d s)) s
-          (Records.refusal_of (λ (a : HeadAnswer). a.refusal) _ no_head s refl (λ q. refl) (first (record_tests d s)))
+          (head_refusal d s)
           (by_record d s);
       record_segment = λ p.
           pair_of _ (first (record_tests d s ++ Record.position_tests s p)) s ((telling.segment (Record.segment_answer d s p)).0 ∙ (Records.numbered d s p 0).segment)

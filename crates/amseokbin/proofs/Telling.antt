@@ -1,179 +1,166 @@
 -- What the C calls answer is the libraries' numbers and values; on a refusal zero in every other field.
 use Prim.Native.Nat.{ℕ, ◌+◌, ◌^◌, ◌<◌}
-use mathlib.Core.Path.{◌≡◌, refl, sym, ap, ◌∙◌}
+use mathlib.Core.Path.{◌≡◌, refl, sym, ap, ap₂, ◌∙◌}
 use mathlib.Core.Bool.{Bool, true, false, cond, ◌&&◌}
 use lib.Dec.{eqb}
 use mathlib.Core.List.{List, [], ◌∷◌, ◌++◌}
 use native.Mathlib.Nat.{le_refl}
 use Rattle.std.proofs.Common.{zero-le}
-use borrow.Author.Tests.{ne_eqb}
 use lib.ListN.{length}
 use Rattle.endian.specs.Bytes.{zeros}
 use Rattle.refusal.specs.Tests.{first}
-use Rattle.refusal.specs.declared.Refusal.{Refusal}
 use Rattle.refusal.specs.Refusals.{plain}
-use Rattle.layout.specs.declared.Located.{Located}
-use Rattle.layout.specs.declared.BlocksLocated.{BlocksLocated}
-use Rattle.layout.specs.Answers.{map_numbers, located_number, located_values, blocks_number, blocks_values}
+use Rattle.layout.specs.Answers.{map_numbers, located_values, blocks_values}
+use Rattle.layout.specs.declared.BlockSectors.{BlockSectors}
+use Rattle.layout.specs.declared.DeviceMap.{DeviceMap}
+use Rattle.std.specs.Prelude.{Option, Some, None, Result, Ok, Err}
+use Rattle.refusal.specs.declared.Reason.{Reason}
+use Rattle.refusal.specs.Reasons.{told, refusal_in}
+use Rattle.refusal.proofs.Reasons.{told_zero, told_other}
+use Rattle.segments.specs.declared.Segment.{Segment}
+use Rattle.runs.specs.declared.Run.{Run}
+use Rattle.discovery.specs.declared.Found.{Found}
+use Rattle.mend.specs.declared.Rewrite.{Rewrite}
+use Rattle.update.specs.declared.Plan.{Plan}
 use Rattle.block.specs.declared.BlockFields.{BlockFields}
 use Rattle.block.specs.declared.Reading.{Reading}
 use Rattle.block.specs.declared.Holding.{Holding}
-use Rattle.block.specs.declared.Entry.TheVariants.{Unused, Used}
 use Rattle.block.specs.Entry.{entry_of}
 use Rattle.block.specs.Writing.{holding_of, write_tests, written}
 use Rattle.block.specs.Demand.{EntryFits}
 use Rattle.block.proofs.RoundTrip.{holding-back}
 use Rattle.block.proofs.Demand.{exactly, write-after-read, read-after-write}
-use Rattle.block.specs.declared.Verdict.{Verdict}
 use Rattle.discovery.specs.declared.Finding.{Finding}
-use Rattle.discovery.specs.declared.Other.{Other}
-use Rattle.discovery.specs.declared.Answer.{Answer}
 use Rattle.discovery.specs.Discovery.{discovery, is_in_step}
-use Rattle.discovery.specs.Answers.{answer_number, answer_values}
-use Rattle.block.specs.Answers.{verdict_number, verdict_values}
+use Rattle.discovery.specs.Answers.{answer_values}
+use Rattle.block.specs.Answers.{reading_values}
 use Rattle.block.specs.Block.{number, device_of, pool_of, blockdev_of, entry_at, fields_of, reading, accepted_reading}
 use Rattle.copy.specs.declared.CopyReading.{CopyReading}
 use Rattle.copy.specs.Copy.{copy_reading}
 use Rattle.receive.specs.declared.Received.{Received}
 use Rattle.receive.specs.Receive.{fresh, taking, ending}
-use Rattle.receive.specs.Demand.{after, unless_refused, bytes_taken}
-use Rattle.receive.proofs.Following.{taking-past}
+use Rattle.receive.specs.Demand.{kept_after, state_after, after, unless_refused, bytes_taken}
+use Rattle.receive.proofs.Following.{taking-fits, taking-past}
 use Rattle.receive.proofs.Demand.{pieces}
-use Rattle.items.specs.declared.Put.{Put}
-use Rattle.record.specs.declared.Found as Record
-use Rattle.record.specs.declared.Found.TheVariants as Segment
-use Rattle.record.specs.declared.Counted.{Counted}
-use Rattle.allocation.specs.declared.FreeTotal.{FreeTotal}
-use Rattle.allocation.specs.declared.RunCount.{RunCount}
-use Rattle.allocation.specs.declared.RunFound.{RunFound}
 use Rattle.allocation.specs.declared.Allocation.{Allocation}
-use Rattle.allocation.specs.declared.Released.{Released}
 use Rattle.items.specs.declared.Head.{Head}
 use Rattle.items.specs.Head.{head_of}
 use Rattle.items.specs.Items.{segments}
-use Rattle.items.specs.Making.{put_number, put_values}
+use Rattle.items.specs.Making.{put_values}
 use Rattle.record.specs.Accept.{record_tests, named}
-use Rattle.record.specs.Answers.{segment_values, found_refusal, found_values, counted_refusal, counted_values}
-use Rattle.allocation.specs.Answers.{total_refusal, total_values, runs_refusal, runs_values, run_refusal, run_values}
-use Rattle.heads.specs.declared.Changed.{Changed}
-use Rattle.heads.specs.Changing.{changed_refusal, changed_values}
-use Rattle.allocation.specs.Change.{allocation_refusal, allocation_values, release_refusal, release_values}
-use Rattle.stores.specs.Answers.{given_number, given_values}
-use Rattle.update.specs.Answers.{planned_refusal}
-use Rattle.mend.specs.Answers.{mending_number, mending_values}
-use Rattle.stores.specs.declared.Given.{Given}
-use Rattle.update.specs.declared.Planned.{Planned}
+use Rattle.record.specs.Answers.{segment_values, found_values, counted_values}
+use Rattle.allocation.specs.Answers.{total_values, runs_values, run_values}
+use Rattle.heads.specs.Changing.{changed_values}
+use Rattle.allocation.specs.Change.{allocation_values, release_values}
+use Rattle.stores.specs.Answers.{given_values}
+use Rattle.mend.specs.Answers.{mending_values}
 use Rattle.update.specs.Plan as Update
-use Rattle.mend.specs.declared.Mending as Declared
-use Rattle.mend.specs.declared.Mending.TheVariants.{InStep, Needed, Refused}
 use Rattle.mend.specs.Plan as Mend
 use Rattle.mend.proofs.Answering.{answering}
-use Rattle.amseokbin.specs.Answers.{blocks_answer, places_answer, block_of, block_from, block_answer, fields_from}
-use Rattle.amseokbin.specs.Copies.{present_number, copy_told, copy_answer, receive_answer, found_answer, step_of}
+use Rattle.amseokbin.specs.Answers.{blocks_answer, places_answer, block_of, block_answer, fields_from}
+use Rattle.amseokbin.specs.Copies.{copy_answer, receive_answer, found_answer, step_of}
 use Rattle.amseokbin.specs.declared.Block.{Block}
 use Rattle.amseokbin.specs.declared.BlockAnswer.{BlockAnswer}
-use Rattle.amseokbin.specs.declared.CopyAnswer.{CopyAnswer}
-use Rattle.amseokbin.specs.declared.HeadAnswer.{HeadAnswer}
 use Rattle.amseokbin.specs.Records as Records
-use Rattle.amseokbin.specs.Records.{head_said, no_head, head_if}
+use Rattle.amseokbin.specs.Records.{no_head, head_told}
 use Rattle.amseokbin.specs.Room as Room
 use Rattle.amseokbin.specs.Plans.{store_answer, update_answer, mend_from, mend_answer}
-use Rattle.amseokbin.specs.Demand.{Told, found_list, block_list, Telling, Saying, Zeroing, Rereading, handed_on, taken_in, Receiving, Planning}
+use Rattle.amseokbin.specs.Demand.{Told, found_list, block_list, copy_values, Telling, Saying, Zeroing, Rereading, handed_on, unless_number, taken_in, Receiving, Planning}
+use Rattle.amseokbin.proofs.Numbers.{first_known, named_reason}
 use Rattle.amseokbin.proofs.Demand.{mend_back}
 
-blocks_told : (a : BlocksLocated) → Told (blocks_answer a).refusal (plain (blocks_number a)) ((blocks_answer a).front ∷ (blocks_answer a).back ∷ []) (blocks_values a)
+blocks_told : (a : Result BlockSectors Reason) → Told (blocks_answer a).refusal (refusal_in a) ((blocks_answer a).front ∷ (blocks_answer a).back ∷ []) (blocks_values a)
 unfolding zeros
-blocks_told (BlocksLocated.At f b) = (refl, refl, le_refl _)
-blocks_told (BlocksLocated.Refused n) = (refl, refl, zero-le)
+blocks_told (Ok b) = (refl, refl, le_refl _)
+blocks_told (Err r) = (refl, refl, zero-le)
 
-places_told : (a : Located) → Told (places_answer a).refusal (plain (located_number a)) (map_numbers (places_answer a).map) (located_values a)
+places_told : (a : Result DeviceMap Reason) → Told (places_answer a).refusal (refusal_in a) (map_numbers (places_answer a).map) (located_values a)
 unfolding zeros
-places_told (Located.At p) = (refl, refl, le_refl _)
-places_told (Located.Refused n) = (refl, refl, zero-le)
+places_told (Ok p) = (refl, refl, le_refl _)
+places_told (Err r) = (refl, refl, zero-le)
 
-block_told_lem : (v : Verdict) (p u : List ℕ) → Told (plain (verdict_number v)) (plain (verdict_number v)) (block_list (block_from v p u)) (verdict_values v)
+block_told : (a : Result Reading Reason) → Told (block_answer a).refusal (refusal_in a) (block_list (block_answer a).block) (reading_values a)
 unfolding zeros
-block_told_lem (Verdict.Accepted x) p u = (refl, refl, le_refl _)
-block_told_lem (Verdict.Refused n) p u = (refl, refl, zero-le)
+block_told (Ok x) = (refl, refl, le_refl _)
+block_told (Err r) = (refl, refl, zero-le)
 
-copy_told_lem : (r : CopyReading) (v : Verdict) → Told (copy_told r v).refusal (plain (verdict_number v)) (block_list (copy_told r v).block) (verdict_values v)
+copy_told : (a : Result CopyReading Reason) → Told (copy_answer a).refusal (refusal_in a) (block_list (copy_answer a).block) (copy_values a)
 unfolding zeros
-copy_told_lem r (Verdict.Accepted x) = (refl, refl, le_refl _)
-copy_told_lem r (Verdict.Refused n) = (refl, refl, zero-le)
+copy_told (Ok c) = (refl, refl, le_refl _)
+copy_told (Err r) = (refl, refl, zero-le)
 
-found_told : (a : Answer) (f b : List ℕ) → Told (found_answer a f b).refusal (plain (answer_number a)) (found_list (found_answer a f b)) (answer_values a)
+found_told : (a : Result Found Reason) (f b : List ℕ) → Told (found_answer a f b).refusal (refusal_in a) (found_list (found_answer a f b)) (answer_values a)
 unfolding zeros
-found_told (Answer.Found q o) f b = (refl, refl, le_refl _)
-found_told (Answer.Refused n) f b = (refl, refl, zero-le)
+found_told (Ok x) f b = (refl, refl, le_refl _)
+found_told (Err r) f b = (refl, refl, zero-le)
 
-store_told : (g : Given) (flush : Bool) → Told (store_answer g flush).refusal (plain (given_number g)) ((store_answer g flush).sector ∷ []) (given_values g)
+store_told : (g : Result ℕ Reason) (flush : Bool) → Told (store_answer g flush).refusal (refusal_in g) ((store_answer g flush).sector ∷ []) (given_values g)
 unfolding zeros
-store_told (Given.At s) flush = (refl, refl, le_refl _)
-store_told (Given.Refused n) flush = (refl, refl, zero-le)
+store_told (Ok s) flush = (refl, refl, le_refl _)
+store_told (Err r) flush = (refl, refl, zero-le)
 
-update_told : (a : Planned) → (update_answer a).refusal ≡ planned_refusal a
-unfolding zeros
-update_told (Planned.Plan p) = refl
-update_told (Planned.Refused n) = refl
+update_told : (a : Result Plan Reason) → (update_answer a).refusal ≡ refusal_in a
+update_told (Ok p) = refl
+update_told (Err r) = refl
 
-mend_told : (m : Declared.Mending) → Told (mend_answer m).refusal (plain (mending_number m)) (Mend.stores_in (mend_from (mend_answer m).plan) ∷ []) (mending_values m)
+mend_told : (m : Result (Option Rewrite) Reason) → Told (mend_answer m).refusal (refusal_in m) (Mend.stores_in (mend_from (mend_answer m).plan) ∷ []) (mending_values m)
 unfolding zeros
-mend_told InStep = (refl, refl, le_refl _)
-mend_told (Needed p) = (refl, ap (λ (m : Declared.Mending). Mend.stores_in m ∷ []) (mend_back p), le_refl _)
-mend_told (Refused n) = (refl, refl, zero-le)
+mend_told (Ok None) = (refl, refl, le_refl _)
+mend_told (Ok (Some p)) = (refl, ap (λ (m : Result (Option Rewrite) Reason). Mend.stores_in m ∷ []) (mend_back p), le_refl _)
+mend_told (Err r) = (refl, refl, zero-le)
 
-segment_told : (a : Record.Found) → Told (Records.segment_answer a).refusal (found_refusal a) (segment_values (Records.segment_answer a).segment) (found_values a)
+segment_told : (a : Result Segment Reason) → Told (Records.segment_answer a).refusal (refusal_in a) (segment_values (Records.segment_answer a).segment) (found_values a)
 unfolding zeros
-segment_told (Segment.At g) = (refl, refl, le_refl _)
-segment_told (Segment.Refused n) = (refl, refl, zero-le)
+segment_told (Ok g) = (refl, refl, le_refl _)
+segment_told (Err r) = (refl, refl, zero-le)
 
-segments_told : (a : Counted) → Told (Records.counted_answer a).refusal (counted_refusal a) ((Records.counted_answer a).count ∷ []) (counted_values a)
+segments_told : (a : Result ℕ Reason) → Told (Records.counted_answer a).refusal (refusal_in a) ((Records.counted_answer a).count ∷ []) (counted_values a)
 unfolding zeros
-segments_told (Counted.Segments k) = (refl, refl, le_refl _)
-segments_told (Counted.Refused n) = (refl, refl, zero-le)
+segments_told (Ok k) = (refl, refl, le_refl _)
+segments_told (Err r) = (refl, refl, zero-le)
 
-put_told : (a : Put) → Told (Records.put_answer a).refusal (plain (put_number a)) ((Records.put_answer a).length ∷ []) (put_values a)
+put_told : (a : Result ℕ Reason) → Told (Records.length_answer a).refusal (refusal_in a) ((Records.length_answer a).length ∷ []) (put_values a)
 unfolding zeros
-put_told (Put.Length k) = (refl, refl, le_refl _)
-put_told (Put.Refused n) = (refl, refl, zero-le)
+put_told (Ok k) = (refl, refl, le_refl _)
+put_told (Err r) = (refl, refl, zero-le)
 
-total_told : (a : FreeTotal) → Told (Room.total_answer a).refusal (total_refusal a) ((Room.total_answer a).sectors ∷ []) (total_values a)
+total_told : (a : Result ℕ Reason) → Told (Room.total_answer a).refusal (refusal_in a) ((Room.total_answer a).sectors ∷ []) (total_values a)
 unfolding zeros
-total_told (FreeTotal.Sectors k) = (refl, refl, le_refl _)
-total_told (FreeTotal.Refused n) = (refl, refl, zero-le)
+total_told (Ok k) = (refl, refl, le_refl _)
+total_told (Err r) = (refl, refl, zero-le)
 
-runs_told : (a : RunCount) → Told (Room.runs_answer a).refusal (runs_refusal a) ((Room.runs_answer a).count ∷ []) (runs_values a)
+runs_told : (a : Result ℕ Reason) → Told (Records.counted_answer a).refusal (refusal_in a) ((Records.counted_answer a).count ∷ []) (runs_values a)
 unfolding zeros
-runs_told (RunCount.Runs k) = (refl, refl, le_refl _)
-runs_told (RunCount.Refused n) = (refl, refl, zero-le)
+runs_told (Ok k) = (refl, refl, le_refl _)
+runs_told (Err r) = (refl, refl, zero-le)
 
-run_told : (a : RunFound) → Told (Room.run_answer a).refusal (run_refusal a) ((Room.run_answer a).run.start ∷ (Room.run_answer a).run.sectors ∷ []) (run_values a)
+changed_told : (a : Result ℕ Reason) → Told (Records.length_answer a).refusal (refusal_in a) ((Records.length_answer a).length ∷ []) (changed_values a)
 unfolding zeros
-run_told (RunFound.At r) = (refl, refl, le_refl _)
-run_told (RunFound.Refused n) = (refl, refl, zero-le)
+changed_told (Ok k) = (refl, refl, le_refl _)
+changed_told (Err r) = (refl, refl, zero-le)
 
-allocation_told : (a : Allocation) → Told (Room.allocation_answer a).refusal (allocation_refusal a) ((Room.allocation_answer a).start ∷ (Room.allocation_answer a).length ∷ []) (allocation_values a)
+release_told : (a : Result ℕ Reason) → Told (Records.length_answer a).refusal (refusal_in a) ((Records.length_answer a).length ∷ []) (release_values a)
 unfolding zeros
-allocation_told (Allocation.Placed k m) = (refl, refl, le_refl _)
-allocation_told (Allocation.Refused n) = (refl, refl, zero-le)
+release_told (Ok k) = (refl, refl, le_refl _)
+release_told (Err r) = (refl, refl, zero-le)
 
-changed_told : (a : Changed) → Told (Records.changed_answer a).refusal (changed_refusal a) ((Records.changed_answer a).length ∷ []) (changed_values a)
+run_told : (a : Result Run Reason) → Told (Room.run_answer a).refusal (refusal_in a) ((Room.run_answer a).run.start ∷ (Room.run_answer a).run.sectors ∷ []) (run_values a)
 unfolding zeros
-changed_told (Changed.Length k) = (refl, refl, le_refl _)
-changed_told (Changed.Refused n) = (refl, refl, zero-le)
+run_told (Ok x) = (refl, refl, le_refl _)
+run_told (Err r) = (refl, refl, zero-le)
 
-release_told : (a : Released) → Told (Room.released_answer a).refusal (release_refusal a) ((Room.released_answer a).length ∷ []) (release_values a)
+allocation_told : (a : Result Allocation Reason) → Told (Room.allocation_answer a).refusal (refusal_in a) ((Room.allocation_answer a).start ∷ (Room.allocation_answer a).length ∷ []) (allocation_values a)
 unfolding zeros
-release_told (Released.Length k) = (refl, refl, le_refl _)
-release_told (Released.Refused n) = (refl, refl, zero-le)
+allocation_told (Ok p) = (refl, refl, le_refl _)
+allocation_told (Err r) = (refl, refl, zero-le)
 
 pub telling : Telling
 telling =
     record {
       blocks = blocks_told;
       places = places_told;
-      block = λ r. block_told_lem r.verdict r.pool r.blockdev;
-      copy = λ r. copy_told_lem r r.block.verdict;
+      block = block_told;
+      copy = copy_told;
       found = found_told;
       store = store_told;
       update = update_told;
@@ -190,42 +177,35 @@ telling =
     }
 
 -- answers by their parts
-abbrev copy_with : CopyReading → Block → CopyAnswer
-copy_with r k = record { refusal = plain 0; block = k; a = r.a; b = r.b; present = present_number r.present }
-
-abbrev block_told : Verdict → List ℕ → List ℕ → BlockAnswer
-block_told v p u = record { refusal = plain (verdict_number v); block = block_from v p u }
-
 abbrev block_done : Block → BlockAnswer
 block_done k = record { refusal = plain 0; block = k }
-
-abbrev head_for : Bool → Refusal → Head → ℕ → HeadAnswer
-head_for b q h k = cond b (head_said h k) (no_head q)
 
 pub saying : Saying
 saying =
     record {
-      block = λ r x e. (ap (λ (v : Verdict). (block_from v r.pool r.blockdev).pool) e, ap (λ (v : Verdict). (block_from v r.pool r.blockdev).blockdev) e);
-      copy = λ r x e. ap (copy_told r) e ∙ ap (copy_with r) (sym (ap (λ (v : Verdict). block_from v r.block.pool r.block.blockdev) e));
+      block = λ x. (refl, refl);
+      copy = λ c. refl;
       present-none = refl;
       present_a = λ h. refl;
       present_b = λ h. refl;
       step = λ f b e. ap (λ (s : Bool). step_of s (is_in_step f b)) e;
-      head = λ d s e. ap (λ (n : ℕ). head_if n s (head_of s) (length (segments s))) e;
+      head = λ d s e. ap (λ (a : Result Head Reason). head_told a (length (segments s))) (told_zero (first (record_tests d s)) (named (first (record_tests d s)) s) (head_of s) e);
     }
 
 pub zeroing : Zeroing
 zeroing =
     record {
       block_none = (refl, refl, refl, refl, refl);
-      block = λ r n e. ap (λ (v : Verdict). block_told v r.pool r.blockdev) e;
-      copy = λ r n e. ap (copy_told r) e;
-      found = λ n f b. refl;
+      block = λ r. refl;
+      copy = λ r. refl;
+      found = λ r f b. refl;
       step = λ f b e. ap (λ (s : Bool). step_of s (is_in_step f b)) e;
-      head = λ d s z. ap (λ (b : Bool). head_for b (named (first (record_tests d s)) s) (head_of s) (length (segments s))) (ne_eqb (first (record_tests d s)) 0 z);
-      store = λ n flush. refl;
-      update = λ n. refl;
-      mend = λ n. refl;
+      head = λ d s z.
+          ap (λ (a : Result Head Reason). head_told a (length (segments s))) (told_other (first (record_tests d s)) (named (first (record_tests d s)) s) (head_of s) z)
+          ∙ ap no_head (named_reason (first (record_tests d s)) s (first_known (record_tests d s) refl) z);
+      store = λ r flush. refl;
+      update = λ r. refl;
+      mend = λ r. refl;
     }
 
 -- a block's struct from its numbers, and back
@@ -242,7 +222,7 @@ entry_room : (s n u c : ℕ) → s < 2 ^ 64 → c < 2 ^ 32 → EntryFits (entry_
 unfolding entry_of
 entry_room s n u c a b = go (eqb s 0 && (eqb n 0 && (eqb u 0 && eqb c 0)))
   where
-    go : (e : Bool) → EntryFits (cond e Unused (Used (record { seconds = s; nanoseconds = n; bytes = u; checksum = c })))
+    go : (e : Bool) → EntryFits (cond e None (Some (record { seconds = s; nanoseconds = n; bytes = u; checksum = c })))
     go true = tt
     go false = (a, b)
 
@@ -250,8 +230,8 @@ pub rereading : Rereading
 rereading =
     record {
       written_again = λ s out bytes ok room.
-          let e : reading s ≡ accepted_reading s = (exactly s).0 ok in
-          let k : (block_answer (reading s)).block ≡ block_of (fields_of s) (pool_of s) (blockdev_of s) = ap (λ (r : Reading). (block_answer r).block) e in
+          let e : reading s ≡ Ok (accepted_reading s) = (exactly s).0 ok in
+          let k : (block_answer (reading s)).block ≡ block_of (fields_of s) (pool_of s) (blockdev_of s) = ap (λ (r : Result Reading Reason). (block_answer r).block) e in
           let f : fields_from (block_answer (reading s)).block ≡ fields_of s = ap fields_from k ∙ fields_back s (pool_of s) (blockdev_of s) in (
             ap (λ (z : Block). z.pool) k,
             ap (λ (z : Block). z.blockdev) k,
@@ -263,33 +243,69 @@ rereading =
           ∙ ap block_done (block_back k);
     }
 
-mend_needed : (f b : List ℕ) (q : Finding) (o : Other) → discovery f b ≡ Answer.Found q o → is_in_step f b ≡ false → Mend.mending f b ≡ Needed (Mend.rewrite_of q)
+mend_needed : (f b : List ℕ) (q : Finding) (o : Result BlockFields Reason) → discovery f b ≡ Ok (record { finding = q; other = o }) → is_in_step f b ≡ false → Mend.mending f b ≡ Ok (Some (Mend.rewrite_of q))
 unfolding Mend.mending
-mend_needed f b q o e s = ap (λ (a : Answer). Mend.mending_after a f b) e ∙ ap (λ (t : Bool). cond t InStep (Needed (Mend.rewrite_of q))) s
+mend_needed f b q o e s = ap (λ (a : Result Found Reason). Mend.mending_after a f b) e ∙ ap (λ (t : Bool). cond t (Ok None) (Ok (Some (Mend.rewrite_of q)))) s
 
 -- a copy in pieces: the states and the bytes are those of `receive`
+state_told : (s : Received) (a : Result Received Reason) → (receive_answer s a).received ≡ kept_after s a
+state_told s (Ok t) = refl
+state_told s (Err e) = refl
+
 handed_on_lem : (ps : List (List ℕ)) (s : Received) → handed_on s ps ≡ after s ps
 handed_on_lem [] s = refl
-handed_on_lem (p ∷ ps) s = handed_on_lem ps (taking s p).received
+handed_on_lem (p ∷ ps) s = ap (λ (t : Received). handed_on t ps) (state_told s (taking s p)) ∙ handed_on_lem ps (state_after s p)
+
+-- a piece of any number but 0 is none of the bytes
+bytes_told : (s : Received) (p : List ℕ) (a : Result Received Reason) → unless_number (receive_answer s a).refusal.number p ≡ unless_refused a p
+bytes_told s p (Ok t) = refl
+bytes_told s p (Err Reason.SliceSize) = refl
+bytes_told s p (Err Reason.Signature) = refl
+bytes_told s p (Err Reason.BlockChecksum) = refl
+bytes_told s p (Err Reason.DeviceSize) = refl
+bytes_told s p (Err Reason.NotZero) = refl
+bytes_told s p (Err Reason.UuidByte) = refl
+bytes_told s p (Err Reason.MetadataSize) = refl
+bytes_told s p (Err Reason.ReservedSize) = refl
+bytes_told s p (Err Reason.AreaEntry) = refl
+bytes_told s p (Err Reason.NoBlock) = refl
+bytes_told s p (Err Reason.Identity) = refl
+bytes_told s p (Err Reason.NoRecord) = refl
+bytes_told s p (Err Reason.TwoRecords) = refl
+bytes_told s p (Err Reason.NotLater) = refl
+bytes_told s p (Err Reason.RecordLength) = refl
+bytes_told s p (Err Reason.NotInStep) = refl
+bytes_told s p (Err Reason.RecordForm) = refl
+bytes_told s p (Err Reason.SegmentPlace) = refl
+bytes_told s p (Err (Reason.SegmentClash i j)) = refl
+bytes_told s p (Err Reason.NoRoom) = refl
+bytes_told s p (Err Reason.RecordFull) = refl
+bytes_told s p (Err Reason.NoSegment) = refl
+bytes_told s p (Err Reason.NoStore) = refl
+bytes_told s p (Err Reason.HeadMove) = refl
 
 taken_in_lem : (ps : List (List ℕ)) (s : Received) → taken_in s ps ≡ bytes_taken s ps
 taken_in_lem [] s = refl
-taken_in_lem (p ∷ ps) s = ap (λ (l : List ℕ). unless_refused (taking s p).number p ++ l) (taken_in_lem ps (taking s p).received)
+taken_in_lem (p ∷ ps) s =
+    ap₂ (λ (k l : List ℕ). k ++ l) (bytes_told s p (taking s p))
+    (ap (λ (t : Received). taken_in t ps) (state_told s (taking s p)) ∙ taken_in_lem ps (state_after s p))
 
 pub receiving : Receiving
 receiving =
     record {
       cut = λ c z ps e. ap copy_answer (ap ending (handed_on_lem ps fresh) ∙ (pieces.cut c z ps e).1);
       at_once = λ ps. ap copy_answer (ap ending (handed_on_lem ps fresh) ∙ ((pieces.at_once ps).same ∙ ap copy_reading (sym (taken_in_lem ps fresh))));
-      taken = λ s p l. ap (λ (n : ℕ). receive_answer (record { number = n; received = (taking s p).received })) ((pieces.passing s p).zero.1 l);
-      refused = λ s p l. ap receive_answer (taking-past s p l);
+      taken = λ s p l.
+          ap (receive_answer s) (taking-fits s p l)
+          ∙ ap (λ (a : Result Received Reason). record { refusal = plain 0; received = kept_after s a }) (sym (taking-fits s p l));
+      refused = λ s p l. ap (receive_answer s) (taking-past s p l);
       no_copy = λ s n. ap copy_answer (pieces.no_copy.state s n);
     }
 
 pub planning : Planning
 planning =
     record {
-      update = λ f b t r e. ap (λ (n : ℕ). (update_answer (cond (eqb n 0) (Planned.Plan (Update.plan_of f b t r)) (Planned.Refused (named n r)))).plan) e;
-      mend = λ f b q o e s. ap (λ (m : Declared.Mending). (mend_answer m).plan) (mend_needed f b q o e s);
-      in_step = λ f b s. ap (λ (m : Declared.Mending). (mend_answer m).plan) ((answering f b).in_step.1 s);
+      update = λ f b t r e. ap (λ (n : ℕ). (update_answer (told n (named n r) (Update.plan_of f b t r))).plan) e;
+      mend = λ f b q o e s. ap (λ (m : Result (Option Rewrite) Reason). (mend_answer m).plan) (mend_needed f b q o e s);
+      in_step = λ f b s. ap (λ (m : Result (Option Rewrite) Reason). (mend_answer m).plan) ((answering f b).in_step.1 s);
     }

@@ -1,6 +1,6 @@
 -- No 19 without its pair. A call that takes a record to check answers `named n s`, which has the pair of positions beside 19. Every other
--- call of the header that can refuse answers a bare number (nothing stands beside it: `Telling`, and `plain` in the contracts of those that answer a
--- refusal alone); `proofs/Bare.antt` proves that of those calls none ever gives 19.
+-- call of the header that can refuse answers a bare number; `proofs/Bare.antt` proves that of those calls none ever gives 19, and that
+-- nothing stands beside the number of any.
 use Rattle.std.specs.Prelude.{ℕ, ◌≡◌, List, length}
 use Rattle.refusal.specs.Numbers.{segment_clash}
 use Rattle.refusal.specs.declared.Refusal.{Refusal}
@@ -27,16 +27,16 @@ use Rattle.amseokbin.specs.declared.UpdatePlan.{UpdatePlan}
 use Rattle.amseokbin.specs.declared.MendPlan.{MendPlan}
 use Rattle.amseokbin.specs.Answers.{blocks_answer, places_answer, block_answer, fields_from}
 use Rattle.amseokbin.specs.Copies.{copy_answer, receive_answer, found_answer, step_answer}
-use Rattle.amseokbin.specs.Records.{put_answer}
+use Rattle.amseokbin.specs.Records.{length_answer}
 use Rattle.amseokbin.specs.Plans.{store_answer, update_from, mend_from, mend_answer}
 
 -- a number that is not 19
 abbrev pub Other19 : ℕ → Type 0
 Other19 n = n ≡ segment_clash → ⊥
 
--- a refusal whose number is not 19
+-- a refusal whose number is not 19, with nothing beside it
 abbrev pub NoClash : Refusal → Type 0
-NoClash r = Other19 r.number
+NoClash r = Other19 r.number × (r ≡ plain r.number)
 
 -- Whatever a call is handed, slices of any size, numbers that no device has, plans that a caller made up: the number of its refusal is not 19.
 -- Call by call, each answer as the call's contract has it. What discovery says of the other copy, 0 or its refusal number, is not 19 either.
@@ -46,7 +46,7 @@ pub record Bare : Type 0 where
   pub block_read : (s : List ℕ) → NoClash (block_answer (reading s)).refusal
   pub block_write : (k : Block) (out : List ℕ) → NoClash (plain (first (write_tests out k.pool k.blockdev (fields_from k))))
   pub copy_read : (c : List ℕ) → NoClash (copy_answer (copy_reading c)).refusal
-  pub receive_piece : (s : Received) (p : List ℕ) → NoClash (receive_answer (taking s p)).refusal
+  pub receive_piece : (s : Received) (p : List ℕ) → NoClash (receive_answer s (taking s p)).refusal
   pub receive_end : (s : Received) → NoClash (copy_answer (ending s)).refusal
   pub discover : (f b : List ℕ) → NoClash (found_answer (discovery f b) f b).refusal
   pub discover_other : (f b : List ℕ) → Other19 (found_answer (discovery f b) f b).other
@@ -57,7 +57,7 @@ pub record Bare : Type 0 where
   pub lay : (c r : List ℕ) → NoClash (plain (first (lay_tests c r)))
   pub record_begin : (out : List ℕ) (size : ℕ) → NoClash (plain (first (begin_tests out (Plain size))))
   pub record_begin_marked : (out : List ℕ) (size mark : ℕ) → NoClash (plain (first (begin_tests out (Marked size mark))))
-  pub record_put : (out : List ℕ) (i : ℕ) → NoClash (put_answer (Making.put_answer out i)).refusal
+  pub record_put : (out : List ℕ) (i : ℕ) → NoClash (length_answer (Making.put_answer out i)).refusal
   pub update_store : (p : UpdatePlan) (f b r : List ℕ) (i : ℕ) (out : List ℕ)
       → NoClash (store_answer (Update.store_answer (update_from p) f b r i out) (Update.flush_after (update_from p) i)).refusal
   pub mend_plan : (f b : List ℕ) → NoClash (mend_answer (Mend.mending f b)).refusal

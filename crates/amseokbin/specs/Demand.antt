@@ -1,74 +1,60 @@
 -- What the C calls give, from the libraries' own claims: `proofs/Telling.antt` proves `Telling`, `Saying`, `Zeroing`,
 -- `Rereading`, `Receiving` and `Planning`, `proofs/Demand.antt` `Blocks`, `ReadBack`, `Giving` and `Mending`.
-use Rattle.std.specs.Prelude.{ℕ, suc, ◌+◌, ◌^◌, ◌≤◌, ◌<◌, ◌≡◌, ◌↔◌, Bool, true, false, not, length, take}
+use Rattle.std.specs.Prelude.{ℕ, suc, ◌+◌, ◌^◌, ◌≤◌, ◌<◌, ◌≡◌, ◌↔◌, Bool, true, false, cond, not, eqb, length, take, Option, None, Some, Result, Ok, Err}
 use mathlib.Core.List.{List, [], ◌∷◌, ◌++◌, flatten}
 use Rattle.search.specs.Search.{one}
 use Rattle.endian.specs.Bytes.{Bytes, zeros}
 use Rattle.refusal.specs.Numbers.{no_such_store}
 use Rattle.refusal.specs.declared.Refusal.{Refusal}
+use Rattle.refusal.specs.declared.Reason.{Reason}
+use Rattle.refusal.specs.Reasons.{refusal_of, refusal_in}
 use Rattle.refusal.specs.Tests.{first}
 use Rattle.refusal.specs.Refusals.{plain}
 use Rattle.layout.specs.declared.Device.{Device}
 use Rattle.layout.specs.declared.Side.TheVariants.{Front, Back}
-use Rattle.layout.specs.declared.Located.{Located}
-use Rattle.layout.specs.declared.BlocksLocated.{BlocksLocated}
-use Rattle.layout.specs.Answers.{side_number, area_number, map_numbers, located_number, located_values, blocks_number, blocks_values}
+use Rattle.layout.specs.Answers.{side_number, area_number, map_numbers, located_values, blocks_values}
+use Rattle.layout.specs.declared.BlockSectors.{BlockSectors}
+use Rattle.layout.specs.declared.DeviceMap.{DeviceMap}
 use Rattle.block.specs.declared.Time.{Time}
 use Rattle.block.specs.declared.BlockFields.{BlockFields}
 use Rattle.block.specs.declared.Reading.{Reading}
-use Rattle.block.specs.declared.Verdict.TheVariants as Verdict
 use Rattle.block.specs.Accepted.{Accepted}
 use Rattle.block.specs.Block.{pool_of, blockdev_of, reading}
 use Rattle.block.specs.Writing.{write_tests, written}
-use Rattle.block.specs.Answers.{verdict_number, verdict_values}
+use Rattle.block.specs.Answers.{reading_values}
 use Rattle.block.specs.declared.Holding.{Holding}
-use Rattle.copy.specs.declared.Present.TheVariants.{Nothing, At}
 use Rattle.layout.specs.declared.Area.TheVariants.{A, B}
 use Rattle.copy.specs.declared.CopyReading.{CopyReading}
 use Rattle.copy.specs.Copy as Copy
-use Rattle.copy.specs.Copy.{newest, same_area, copy_reading}
+use Rattle.copy.specs.Copy.{newest, same_area, mapped, copy_reading}
 use Rattle.copy.specs.Demand.{Sized}
 use Rattle.receive.specs.declared.Received.{Received}
 use Rattle.receive.specs.Receive.{fresh, taking, ending}
-use Rattle.receive.specs.Demand.{unless_refused, size}
+use Rattle.receive.specs.Demand.{state_after, size}
 use Rattle.discovery.specs.declared.Finding.{Finding}
-use Rattle.discovery.specs.declared.Other.{Other}
-use Rattle.discovery.specs.declared.Answer.{Answer}
-use Rattle.discovery.specs.declared.Answer.TheVariants.{Found, Refused}
+use Rattle.discovery.specs.declared.Found.{Found}
 use Rattle.discovery.specs.Discovery.{sized, discovery, is_in_step, copy_on}
-use Rattle.discovery.specs.Answers.{answer_number, answer_values}
-use Rattle.items.specs.declared.Put.{Put}
+use Rattle.discovery.specs.Answers.{answer_values}
+use Rattle.segments.specs.declared.Segment.{Segment}
+use Rattle.runs.specs.declared.Run.{Run}
 use Rattle.items.specs.Head.{head_of, head_kind, block_size, low_water}
 use Rattle.items.specs.Items.{segments}
 use Rattle.record.specs.Accept.{record_tests, named}
-use Rattle.items.specs.Making.{put_number, put_values}
-use Rattle.record.specs.declared.Found as Record
-use Rattle.record.specs.declared.Counted.{Counted}
-use Rattle.record.specs.Answers.{segment_values, found_refusal, found_values, counted_refusal, counted_values}
-use Rattle.allocation.specs.declared.FreeTotal.{FreeTotal}
-use Rattle.allocation.specs.declared.RunCount.{RunCount}
-use Rattle.allocation.specs.declared.RunFound.{RunFound}
+use Rattle.items.specs.Making.{put_values}
+use Rattle.record.specs.Answers.{segment_values, found_values, counted_values}
 use Rattle.allocation.specs.declared.Allocation.{Allocation}
-use Rattle.allocation.specs.declared.Released.{Released}
-use Rattle.allocation.specs.Answers.{total_refusal, total_values, runs_refusal, runs_values, run_refusal, run_values}
-use Rattle.allocation.specs.Change.{allocation_refusal, allocation_values, release_refusal, release_values}
-use Rattle.heads.specs.declared.Changed.{Changed}
-use Rattle.heads.specs.Changing.{changed_refusal, changed_values}
+use Rattle.allocation.specs.Answers.{total_values, runs_values, run_values}
+use Rattle.allocation.specs.Change.{allocation_values, release_values}
+use Rattle.heads.specs.Changing.{changed_values}
 use Rattle.crash.specs.Crash.{Sectors, Groups, stores, store_in, group_start}
-use Rattle.stores.specs.declared.Given.{Given}
 use Rattle.stores.specs.Stores.{holding_for}
-use Rattle.stores.specs.Answers.{given_number, given_values}
+use Rattle.stores.specs.Answers.{given_values}
 use Rattle.update.specs.declared.Plan as Declared
-use Rattle.update.specs.declared.Planned.{Planned}
 use Rattle.update.specs.Update.{update_number, spare}
-use Rattle.update.specs.Answers.{planned_refusal}
 use Rattle.update.specs.Plan as Update
 use Rattle.update.specs.Demand.{Start, groups_on, copy_after}
 use Rattle.mend.specs.declared.Rewrite.{Rewrite}
-use Rattle.mend.specs.declared.Mending as Mend
-use Rattle.mend.specs.declared.Mending.TheVariants.{InStep, Needed}
-use Rattle.mend.specs.declared.Mending.TheVariants as Mended
-use Rattle.mend.specs.Answers.{mending_number, mending_values}
+use Rattle.mend.specs.Answers.{mending_values}
 use Rattle.mend.specs.Mend.{mend_groups}
 use Rattle.mend.specs.Plan as Plan
 use Rattle.amseokbin.specs.declared.Block.{Block}
@@ -106,38 +92,41 @@ block_list k =
     ∷ k.b.checksum
     ∷ []
 
+-- the numbers of a copy's block
+abbrev pub copy_values : Result CopyReading Reason → List ℕ
+copy_values a = reading_values (mapped (λ c. c.block) a)
+
 -- So is every answer that has a library's values.
 pub record Telling : Type 0 where
-  pub blocks : (a : BlocksLocated) → Told (blocks_answer a).refusal (plain (blocks_number a)) ((blocks_answer a).front ∷ (blocks_answer a).back ∷ []) (blocks_values a)
-  pub places : (a : Located) → Told (places_answer a).refusal (plain (located_number a)) (map_numbers (places_answer a).map) (located_values a)
-  pub block : (r : Reading) → Told (block_answer r).refusal (plain (verdict_number r.verdict)) (block_list (block_answer r).block) (verdict_values r.verdict)
-  pub copy : (r : CopyReading)
-      → Told (copy_answer r).refusal (plain (verdict_number r.block.verdict)) (block_list (copy_answer r).block) (verdict_values r.block.verdict)
-  pub found : (a : Answer) (f b : List ℕ) → Told (found_answer a f b).refusal (plain (answer_number a)) (found_list (found_answer a f b)) (answer_values a)
-  pub store : (g : Given) (flush : Bool) → Told (store_answer g flush).refusal (plain (given_number g)) ((store_answer g flush).sector ∷ []) (given_values g)
-  pub update : (a : Planned) → (update_answer a).refusal ≡ planned_refusal a
-  pub mend : (m : Mend.Mending) → Told (mend_answer m).refusal (plain (mending_number m)) (Plan.stores_in (mend_from (mend_answer m).plan) ∷ []) (mending_values m)
-  pub segment : (a : Record.Found) → Told (Records.segment_answer a).refusal (found_refusal a) (segment_values (Records.segment_answer a).segment) (found_values a)
-  pub segments : (a : Counted) → Told (Records.counted_answer a).refusal (counted_refusal a) ((Records.counted_answer a).count ∷ []) (counted_values a)
-  pub put : (a : Put) → Told (Records.put_answer a).refusal (plain (put_number a)) ((Records.put_answer a).length ∷ []) (put_values a)
-  pub total : (a : FreeTotal) → Told (Room.total_answer a).refusal (total_refusal a) ((Room.total_answer a).sectors ∷ []) (total_values a)
-  pub runs : (a : RunCount) → Told (Room.runs_answer a).refusal (runs_refusal a) ((Room.runs_answer a).count ∷ []) (runs_values a)
-  pub run : (a : RunFound) → Told (Room.run_answer a).refusal (run_refusal a) ((Room.run_answer a).run.start ∷ (Room.run_answer a).run.sectors ∷ []) (run_values a)
-  pub allocation : (a : Allocation)
-      → Told (Room.allocation_answer a).refusal (allocation_refusal a) ((Room.allocation_answer a).start ∷ (Room.allocation_answer a).length ∷ []) (allocation_values a)
-  pub changed : (a : Changed) → Told (Records.changed_answer a).refusal (changed_refusal a) ((Records.changed_answer a).length ∷ []) (changed_values a)
-  pub release : (a : Released) → Told (Room.released_answer a).refusal (release_refusal a) ((Room.released_answer a).length ∷ []) (release_values a)
+  pub blocks : (a : Result BlockSectors Reason) → Told (blocks_answer a).refusal (refusal_in a) ((blocks_answer a).front ∷ (blocks_answer a).back ∷ []) (blocks_values a)
+  pub places : (a : Result DeviceMap Reason) → Told (places_answer a).refusal (refusal_in a) (map_numbers (places_answer a).map) (located_values a)
+  pub block : (a : Result Reading Reason) → Told (block_answer a).refusal (refusal_in a) (block_list (block_answer a).block) (reading_values a)
+  pub copy : (a : Result CopyReading Reason) → Told (copy_answer a).refusal (refusal_in a) (block_list (copy_answer a).block) (copy_values a)
+  pub found : (a : Result Found Reason) (f b : List ℕ) → Told (found_answer a f b).refusal (refusal_in a) (found_list (found_answer a f b)) (answer_values a)
+  pub store : (g : Result ℕ Reason) (flush : Bool) → Told (store_answer g flush).refusal (refusal_in g) ((store_answer g flush).sector ∷ []) (given_values g)
+  pub update : (a : Result Declared.Plan Reason) → (update_answer a).refusal ≡ refusal_in a
+  pub mend : (m : Result (Option Rewrite) Reason) → Told (mend_answer m).refusal (refusal_in m) (Plan.stores_in (mend_from (mend_answer m).plan) ∷ []) (mending_values m)
+  pub segment : (a : Result Segment Reason) → Told (Records.segment_answer a).refusal (refusal_in a) (segment_values (Records.segment_answer a).segment) (found_values a)
+  pub segments : (a : Result ℕ Reason) → Told (Records.counted_answer a).refusal (refusal_in a) ((Records.counted_answer a).count ∷ []) (counted_values a)
+  pub put : (a : Result ℕ Reason) → Told (Records.length_answer a).refusal (refusal_in a) ((Records.length_answer a).length ∷ []) (put_values a)
+  pub total : (a : Result ℕ Reason) → Told (Room.total_answer a).refusal (refusal_in a) ((Room.total_answer a).sectors ∷ []) (total_values a)
+  pub runs : (a : Result ℕ Reason) → Told (Records.counted_answer a).refusal (refusal_in a) ((Records.counted_answer a).count ∷ []) (runs_values a)
+  pub run : (a : Result Run Reason) → Told (Room.run_answer a).refusal (refusal_in a) ((Room.run_answer a).run.start ∷ (Room.run_answer a).run.sectors ∷ []) (run_values a)
+  pub allocation : (a : Result Allocation Reason)
+      → Told (Room.allocation_answer a).refusal (refusal_in a) ((Room.allocation_answer a).start ∷ (Room.allocation_answer a).length ∷ []) (allocation_values a)
+  pub changed : (a : Result ℕ Reason) → Told (Records.length_answer a).refusal (refusal_in a) ((Records.length_answer a).length ∷ []) (changed_values a)
+  pub release : (a : Result ℕ Reason) → Told (Records.length_answer a).refusal (refusal_in a) ((Records.length_answer a).length ∷ []) (release_values a)
 
 -- What is in an answer beside those: the UUIDs of a block, what a copy says of its areas, whether two copies are in step, what a head says.
 pub record Saying : Type 0 where
-  pub block : (r : Reading) (x : BlockFields) → r.verdict ≡ Verdict.Accepted x → ((block_answer r).block.pool ≡ r.pool) × ((block_answer r).block.blockdev ≡ r.blockdev)
-  pub copy : (r : CopyReading) (x : BlockFields) → r.block.verdict ≡ Verdict.Accepted x
-      → copy_answer r
-      ≡ record { refusal = plain 0; block = (block_answer r.block).block; a = r.a; b = r.b; present = present_number r.present }
+  pub block : (x : Reading) → ((block_answer (Ok x)).block.pool ≡ x.pool) × ((block_answer (Ok x)).block.blockdev ≡ x.blockdev)
+  pub copy : (c : CopyReading)
+      → copy_answer (Ok c)
+      ≡ record { refusal = plain 0; block = (block_answer (Ok c.block)).block; a = c.a; b = c.b; present = present_number c.present }
   -- a present record's number: none, area a, area b
-  pub present-none : present_number Nothing ≡ 0
-  pub present_a : (h : Holding) → present_number (At A h) ≡ 1
-  pub present_b : (h : Holding) → present_number (At B h) ≡ 2
+  pub present-none : present_number None ≡ 0
+  pub present_a : (h : Holding) → present_number (Some (record { area = A; holding = h })) ≡ 1
+  pub present_b : (h : Holding) → present_number (Some (record { area = B; holding = h })) ≡ 2
   pub step : (f b : List ℕ) → sized f b ≡ true → step_answer f b ≡ record { refusal = plain 0; step = is_in_step f b }
   pub head : (d : Device) (s : List ℕ) → first (record_tests d s) ≡ 0
       → Records.head_answer d s
@@ -151,18 +140,17 @@ pub record Zeroing : Type 0 where
       × (no_block.b ≡ record { seconds = 0; nanoseconds = 0; bytes = 0; checksum = 0 })
       × (no_block.pool ≡ zeros 32)
       × (no_block.blockdev ≡ zeros 32)
-  pub block : (r : Reading) (n : ℕ) → r.verdict ≡ Verdict.Refused n → block_answer r ≡ record { refusal = plain n; block = no_block }
-  pub copy : (r : CopyReading) (n : ℕ) → r.block.verdict ≡ Verdict.Refused n
-      → copy_answer r ≡ record { refusal = plain n; block = no_block; a = false; b = false; present = 0 }
-  pub found : (n : ℕ) (f b : List ℕ)
-      → found_answer (Refused n) f b
-      ≡ record { refusal = plain n; side = 0; area = 0; other = 0; bytes = 0; time = record { seconds = 0; nanoseconds = 0 }; block = no_block }
+  pub block : (r : Reason) → block_answer (Err r) ≡ record { refusal = refusal_of r; block = no_block }
+  pub copy : (r : Reason) → copy_answer (Err r) ≡ record { refusal = refusal_of r; block = no_block; a = false; b = false; present = 0 }
+  pub found : (r : Reason) (f b : List ℕ)
+      → found_answer (Err r) f b
+      ≡ record { refusal = refusal_of r; side = 0; area = 0; other = 0; bytes = 0; time = record { seconds = 0; nanoseconds = 0 }; block = no_block }
   pub step : (f b : List ℕ) → sized f b ≡ false → step_answer f b ≡ record { refusal = plain 1; step = false }
   pub head : (d : Device) (s : List ℕ) → (first (record_tests d s) ≡ 0 → ⊥)
       → Records.head_answer d s ≡ record { refusal = named (first (record_tests d s)) s; kind = 0; size = 0; mark = 0; segments = 0 }
-  pub store : (n : ℕ) (flush : Bool) → store_answer (Given.Refused n) flush ≡ record { refusal = plain n; sector = 0; flush = false }
-  pub update : (q : Refusal) → update_answer (Planned.Refused q) ≡ record { refusal = q; plan = record { entry = no_entry; front = 0; back = 0 } }
-  pub mend : (n : ℕ) → mend_answer (Mended.Refused n) ≡ record { refusal = plain n; plan = record { bytes = 0; needed = 0; kept = 0; area = 0; last = 0 } }
+  pub store : (r : Reason) (flush : Bool) → store_answer (Err r) flush ≡ record { refusal = refusal_of r; sector = 0; flush = false }
+  pub update : (r : Reason) → update_answer (Err r) ≡ record { refusal = refusal_of r; plan = record { entry = no_entry; front = 0; back = 0 } }
+  pub mend : (r : Reason) → mend_answer (Err r) ≡ record { refusal = refusal_of r; plan = record { bytes = 0; needed = 0; kept = 0; area = 0; last = 0 } }
 
 -- Demand 2 in C: writing what was read gives the same 512 bytes, with the block's own UUIDs; reading what was written gives the same struct.
 pub record Rereading : Type 0 where
@@ -179,19 +167,22 @@ pub record Rereading : Type 0 where
 -- with 0. The end answers what `amseokbin_copy_read` answers of them at once.
 abbrev pub handed_on : Received → List (List ℕ) → Received
 handed_on s [] = s
-handed_on s (p ∷ ps) = handed_on (receive_answer (taking s p)).received ps
+handed_on s (p ∷ ps) = handed_on (receive_answer s (taking s p)).received ps
+
+abbrev pub unless_number : ℕ → List ℕ → List ℕ
+unless_number n p = cond (eqb n 0) p []
 
 abbrev pub taken_in : Received → List (List ℕ) → List ℕ
 taken_in s [] = []
-taken_in s (p ∷ ps) = unless_refused (receive_answer (taking s p)).refusal.number p ++ taken_in (receive_answer (taking s p)).received ps
+taken_in s (p ∷ ps) = unless_number (receive_answer s (taking s p)).refusal.number p ++ taken_in (receive_answer s (taking s p)).received ps
 
 pub record Receiving : Type 0 where
   pub cut : (c : List ℕ) → Sized c → (ps : List (List ℕ)) → flatten ps ≡ c → copy_answer (ending (handed_on fresh ps)) ≡ copy_answer (copy_reading c)
   pub at_once : (ps : List (List ℕ)) → copy_answer (ending (handed_on fresh ps)) ≡ copy_answer (copy_reading (taken_in fresh ps))
   -- a piece that is taken: 0, nothing beside it, and the next state
-  pub taken : (s : Received) (p : List ℕ) → s.taken + length p ≤ size → receive_answer (taking s p) ≡ record { refusal = plain 0; received = (taking s p).received }
+  pub taken : (s : Received) (p : List ℕ) → s.taken + length p ≤ size → receive_answer s (taking s p) ≡ record { refusal = plain 0; received = state_after s p }
   -- a piece that is refused: 1, and the state that was handed in
-  pub refused : (s : Received) (p : List ℕ) → size < s.taken + length p → receive_answer (taking s p) ≡ record { refusal = plain 1; received = s }
+  pub refused : (s : Received) (p : List ℕ) → size < s.taken + length p → receive_answer s (taking s p) ≡ record { refusal = plain 1; received = s }
   -- the end where other than a copy's bytes were taken: 1, and zero in every other field
   pub no_copy : (s : Received) → ¬ (s.taken ≡ size) → copy_answer (ending s) ≡ record { refusal = plain 1; block = no_block; a = false; b = false; present = 0 }
 
@@ -200,7 +191,7 @@ pub record Planning : Type 0 where
   pub update : (f b : List ℕ) (t : Time) (r : List ℕ) → update_number f b t r ≡ 0
       → (update_answer (Update.planned f b t r)).plan
       ≡ record { entry = holding_for t r; front = area_number (spare f); back = area_number (spare b) }
-  pub mend : (f b : List ℕ) (q : Finding) (o : Other) → discovery f b ≡ Found q o → is_in_step f b ≡ false
+  pub mend : (f b : List ℕ) (q : Finding) (o : Result BlockFields Reason) → discovery f b ≡ Ok (record { finding = q; other = o }) → is_in_step f b ≡ false
       → (mend_answer (Plan.mending f b)).plan
       ≡ record { bytes = q.bytes; needed = 1; kept = side_number q.side; area = area_number q.area; last = one (not (same_area q.area (newest q.fields))) }
   pub in_step : (f b : List ℕ) → is_in_step f b ≡ true → (mend_answer (Plan.mending f b)).plan ≡ record { bytes = 0; needed = 0; kept = 0; area = 0; last = 0 }
@@ -208,19 +199,19 @@ pub record Planning : Type 0 where
 -- The block of a found record is what reading the block of its copy answers, UUIDs too.
 abbrev pub Blocks : Type 0
 Blocks =
-    (f b : List ℕ) (q : Finding) (o : Other) → discovery f b ≡ Found q o
+    (f b : List ℕ) (q : Finding) (o : Result BlockFields Reason) → discovery f b ≡ Ok (record { finding = q; other = o })
     → (found_answer (discovery f b) f b).block ≡ (block_answer (reading (Copy.block_in (copy_on q.side f b)))).block
 
 -- Plans that the libraries work out are read back as themselves.
 pub record ReadBack : Type 0 where
   pub update : (p : Declared.Plan) → update_from (update_of p) ≡ p
-  pub mend : (p : Rewrite) → mend_from (rewrite_told p) ≡ Needed p
-  pub in_step : mend_from no_mend ≡ InStep
+  pub mend : (p : Rewrite) → mend_from (rewrite_told p) ≡ Ok (Some p)
+  pub in_step : mend_from no_mend ≡ Ok None
 
 -- What the calls on a plan give is what the groups gs have, which a cut and a landing speak of: it has as many stores, each is in its group, each is
 -- given with its sector, its 512 bytes and whether a flush belongs after it, which is so after the last of its group; past the last there is
 -- none, and no group. With f j and b j, the copies as they stand after the first j of the stores.
-pub record Calls (gs : Groups) (f b : ℕ → List ℕ) (count : ℕ) (group : ℕ → ℕ) (answer : List ℕ → List ℕ → ℕ → List ℕ → Given)
+pub record Calls (gs : Groups) (f b : ℕ → List ℕ) (count : ℕ) (group : ℕ → ℕ) (answer : List ℕ → List ℕ → ℕ → List ℕ → Result ℕ Reason)
     (bytes : List ℕ → List ℕ → ℕ → List ℕ → List ℕ) (flush : ℕ → Bool) : Type 0 where
   pub counted : count ≡ length (stores gs)
   pub grouped : (g i : ℕ) → g < 4 → group_start gs g ≤ i → i < group_start gs (suc g) → group i ≡ g
@@ -253,7 +244,7 @@ mend_answered f b = (mend_answer (Plan.mending f b)).plan
 
 abbrev pub Mending : Type 0
 Mending =
-    (f b : List ℕ) (q : Finding) (o : Other) → discovery f b ≡ Found q o
+    (f b : List ℕ) (q : Finding) (o : Result BlockFields Reason) → discovery f b ≡ Ok (record { finding = q; other = o })
     → ((mend_answer (Plan.mending f b)).refusal ≡ plain 0)
     × Calls (mend_groups f b) (λ (j : ℕ). f) (λ (j : ℕ). b) (Plan.stores_in (mend_from (mend_answered f b))) (Plan.group_of (mend_from (mend_answered f b)))
     (Plan.store_answer (mend_from (mend_answered f b))) (Plan.store_bytes (mend_from (mend_answered f b))) (Plan.flush_after (mend_from (mend_answered f b)))

@@ -32,13 +32,13 @@ pub record Pairs (d : Device) (s : List ℕ) : Type 0 where
   pub record_segment : (p : ℕ) → PairOf (Records.segment_answer (Record.segment_answer d s p)).refusal s
   pub record_segments : (p w : ℕ) → PairOf (Records.counted_answer (Record.segments_answer d s p w)).refusal s
   pub free_total : PairOf (Room.total_answer (Runs.total_answer d s)).refusal s
-  pub free_runs : (w : ℕ) → PairOf (Room.runs_answer (Runs.table_answer d s w)).refusal s
-  pub run_count : PairOf (Room.runs_answer (Runs.runs_answer d s)).refusal s
+  pub free_runs : (w : ℕ) → PairOf (Records.counted_answer (Runs.table_answer d s w)).refusal s
+  pub run_count : PairOf (Records.counted_answer (Runs.runs_answer d s)).refusal s
   pub run_at : (k : ℕ) → PairOf (Room.run_answer (Runs.run_answer d s k)).refusal s
   pub first_fit : (m : ℕ) → PairOf (Room.run_answer (Runs.fit_answer d s m)).refusal s
   pub allocate : (k m w : ℕ) → PairOf (Room.allocation_answer (Allocation.allocate_answer d s k m w)).refusal s
-  pub release : (p w : ℕ) → PairOf (Room.released_answer (Allocation.release_answer d s p w)).refusal s
-  pub head-change : (c : Change) (w : ℕ) → PairOf (Records.changed_answer (change_answer d s c w)).refusal s
+  pub release : (p w : ℕ) → PairOf (Records.length_answer (Allocation.release_answer d s p w)).refusal s
+  pub head-change : (c : Change) (w : ℕ) → PairOf (Records.length_answer (change_answer d s c w)).refusal s
   pub update_check : (f b : List ℕ) (t : Time) → PairOf (named (update_number f b t s) s) s
   pub update_plan : (f b : List ℕ) (t : Time) → PairOf (update_answer (Update.planned f b t s)).refusal s
   pub format : (f b p u : List ℕ) (t : Time) → PairOf (named (format_number f b d p u t s) s) s

@@ -1,32 +1,22 @@
 -- What the calls on free room answer.
+use Rattle.std.specs.Prelude.{ℕ, Result, Ok, Err}
+use Rattle.refusal.specs.declared.Reason.{Reason}
 use Rattle.refusal.specs.Refusals.{plain}
-use Rattle.allocation.specs.declared.FreeTotal.{FreeTotal}
-use Rattle.allocation.specs.declared.RunCount.{RunCount}
-use Rattle.allocation.specs.declared.RunFound.{RunFound}
+use Rattle.refusal.specs.Reasons.{refusal_of}
+use Rattle.runs.specs.declared.Run.{Run}
 use Rattle.allocation.specs.declared.Allocation.{Allocation}
-use Rattle.allocation.specs.declared.Released.{Released}
 use Rattle.amseokbin.specs.declared.TotalAnswer.{TotalAnswer}
-use Rattle.amseokbin.specs.declared.CountAnswer.{CountAnswer}
 use Rattle.amseokbin.specs.declared.RunAnswer.{RunAnswer}
 use Rattle.amseokbin.specs.declared.AllocationAnswer.{AllocationAnswer}
-use Rattle.amseokbin.specs.declared.LengthAnswer.{LengthAnswer}
 
-abbrev pub total_answer : FreeTotal → TotalAnswer
-total_answer (FreeTotal.Sectors k) = record { refusal = plain 0; sectors = k }
-total_answer (FreeTotal.Refused q) = record { refusal = q; sectors = 0 }
+abbrev pub total_answer : Result ℕ Reason → TotalAnswer
+total_answer (Ok k) = record { refusal = plain 0; sectors = k }
+total_answer (Err r) = record { refusal = refusal_of r; sectors = 0 }
 
-abbrev pub runs_answer : RunCount → CountAnswer
-runs_answer (RunCount.Runs k) = record { refusal = plain 0; count = k }
-runs_answer (RunCount.Refused q) = record { refusal = q; count = 0 }
+abbrev pub run_answer : Result Run Reason → RunAnswer
+run_answer (Ok x) = record { refusal = plain 0; run = x }
+run_answer (Err r) = record { refusal = refusal_of r; run = record { start = 0; sectors = 0 } }
 
-abbrev pub run_answer : RunFound → RunAnswer
-run_answer (RunFound.At r) = record { refusal = plain 0; run = r }
-run_answer (RunFound.Refused q) = record { refusal = q; run = record { start = 0; sectors = 0 } }
-
-abbrev pub allocation_answer : Allocation → AllocationAnswer
-allocation_answer (Allocation.Placed start n) = record { refusal = plain 0; start = start; length = n }
-allocation_answer (Allocation.Refused q) = record { refusal = q; start = 0; length = 0 }
-
-abbrev pub released_answer : Released → LengthAnswer
-released_answer (Released.Length n) = record { refusal = plain 0; length = n }
-released_answer (Released.Refused q) = record { refusal = q; length = 0 }
+abbrev pub allocation_answer : Result Allocation Reason → AllocationAnswer
+allocation_answer (Ok p) = record { refusal = plain 0; start = p.start; length = p.length }
+allocation_answer (Err r) = record { refusal = refusal_of r; start = 0; length = 0 }

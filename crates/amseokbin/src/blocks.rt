@@ -8,8 +8,8 @@ ghost use Rattle.block.specs.Writing.{write_tests, written};
 ghost use Rattle.amseokbin.specs.Answers.{blocks_answer, no_copy_map, no_map, places_answer, no_device, no_entry, no_block, block_of, block_answer, fields_from};
 
 use crate::{Block, BlockAnswer, BlocksAnswer, PlacesAnswer};
-use block::{BlockFields, Holding, Reading, Verdict};
-use layout::{BlocksLocated, CopyMap, Device, DeviceMap, Located};
+use block::BlockFields;
+use layout::{CopyMap, Device, DeviceMap};
 use refusal::Refusal;
 
 // The sectors of the two signature blocks of a drive with so many sectors.
@@ -17,15 +17,14 @@ use refusal::Refusal;
 pub extern "C" fn amseokbin_locate_blocks(sectors: u64) -> BlocksAnswer
     ensures { result ≡ blocks_answer (blocks_located sectors) }
 {
-    let a = layout::locate_blocks(sectors);
-    match a {
-        BlocksLocated::At(front, back) => BlocksAnswer {
+    match layout::locate_blocks(sectors) {
+        Ok(b) => BlocksAnswer {
             refusal: refusal::plain(0),
-            front,
-            back,
+            front: b.front,
+            back: b.back,
         },
-        BlocksLocated::Refused(n) => BlocksAnswer {
-            refusal: refusal::plain(n),
+        Err(r) => BlocksAnswer {
+            refusal: Refusal::from(r),
             front: 0,
             back: 0,
         },
@@ -61,24 +60,24 @@ fn no_map() -> DeviceMap
 pub extern "C" fn amseokbin_places(device: Device) -> PlacesAnswer
     ensures { result ≡ places_answer (located device) }
 {
-    let a = layout::locate(device);
-    match a {
-        Located::At(map) => PlacesAnswer {
+    match layout::locate(device) {
+        Ok(map) => PlacesAnswer {
             refusal: refusal::plain(0),
             map,
         },
-        Located::Refused(n) => PlacesAnswer {
-            refusal: refusal::plain(n),
+        Err(r) => PlacesAnswer {
+            refusal: Refusal::from(r),
             map: no_map(),
         },
     }
 }
 
 // No block: zero in every field.
+#[tactic(auto, unfolding(endian::specs::Bytes::zeros))]
 pub(super) fn no_block() -> Block
     ensures { result ≡ no_block }
 {
-    let none = block::holding_of(block::entry_of(0, 0, 0, 0));
+    let none = block::holding_of(None);
     Block {
         device: Device {
             sectors: 0,
@@ -96,13 +95,10 @@ pub(super) fn no_block() -> Block
 pub(super) fn block_of(x: BlockFields, pool: [u8; 32], blockdev: [u8; 32]) -> Block
     ensures { result ≡ block_of x pool blockdev }
 {
-    let d = x.device;
-    let a = x.a;
-    let b = x.b;
     Block {
-        device: d,
-        a: block::holding_of(a),
-        b: block::holding_of(b),
+        device: x.device,
+        a: block::holding_of(x.a),
+        b: block::holding_of(x.b),
         pool,
         blockdev,
     }
@@ -113,17 +109,13 @@ pub(super) fn block_of(x: BlockFields, pool: [u8; 32], blockdev: [u8; 32]) -> Bl
 pub extern "C" fn amseokbin_block_read(bytes: &[u8]) -> BlockAnswer
     ensures { result ≡ block_answer (reading bytes.now) }
 {
-    let r = block::read(bytes);
-    let v = r.verdict;
-    let p = r.pool;
-    let u = r.blockdev;
-    match v {
-        Verdict::Accepted(x) => BlockAnswer {
+    match block::read(bytes) {
+        Ok(x) => BlockAnswer {
             refusal: refusal::plain(0),
-            block: block_of(x, p, u),
+            block: block_of(x.fields, x.pool, x.blockdev),
         },
-        Verdict::Refused(n) => BlockAnswer {
-            refusal: refusal::plain(n),
+        Err(r) => BlockAnswer {
+            refusal: Refusal::from(r),
             block: no_block(),
         },
     }
@@ -133,11 +125,10 @@ pub extern "C" fn amseokbin_block_read(bytes: &[u8]) -> BlockAnswer
 fn fields_from(k: Block) -> BlockFields
     ensures { result ≡ fields_from k }
 {
-    let d = k.device;
     let a = k.a;
     let b = k.b;
     BlockFields {
-        device: d,
+        device: k.device,
         a: block::entry_of(a.seconds, a.nanoseconds, a.bytes, a.checksum),
         b: block::entry_of(b.seconds, b.nanoseconds, b.bytes, b.checksum),
     }
@@ -151,5 +142,5 @@ pub extern "C" fn amseokbin_block_write(block: Block, bytes: &mut [u8]) -> Refus
 {
     let p = block.pool;
     let u = block.blockdev;
-    refusal::plain(block::write(bytes, &p, &u, fields_from(block)))
+    crate::refusal_in(block::write(bytes, &p, &u, fields_from(block)))
 }

@@ -3,9 +3,9 @@ ghost use Rattle.std.specs.Prelude.{◌≡◌, length};
 ghost use Rattle.refusal.specs.Tests.{first};
 ghost use Rattle.refusal.specs.Refusals.{plain};
 ghost use Rattle.copy.specs.Copy.{copy_reading};
-ghost use Rattle.discovery.specs.Answers.{other_number};
+ghost use Rattle.refusal.specs.Reasons.{number_in};
 ghost use Rattle.layout.specs.Answers.{side_number, area_number};
-ghost use Rattle.discovery.specs.Discovery.{discovery, sized, read_answer, read_bytes, copy_on};
+ghost use Rattle.discovery.specs.Discovery.{discovery, read_answer, read_bytes, copy_on};
 ghost use Rattle.stores.specs.Given.{lay_tests, laid};
 ghost use Rattle.record.specs.Accept.{named};
 ghost use Rattle.format.specs.Format.{format_number, formatted};
@@ -15,44 +15,37 @@ ghost use Rattle.layout.specs.declared.Side.TheVariants.{Front, Back};
 ghost use Rattle.amseokbin.specs.Copies.{present_number, copy_answer, area_from, block_in, found_of, found_answer, step_answer};
 
 use crate::{Block, CopyAnswer, FoundAnswer, StepAnswer, blocks};
-use block::{Time, Verdict};
+use block::{BlockFields, Time};
 use copy::{CopyReading, Present};
-use discovery::{Answer, Finding, Other};
+use discovery::{Copies, Finding, Found};
 use layout::{Area, Device, Side};
-use refusal::Refusal;
+use refusal::{Reason, Refusal};
+use sectors::CopyRead;
 
 // C's number of a present record: 0 for none, 1 for area a, 2 for area b.
-fn present_number(p: Present) -> u8
+fn present_number(p: Option<Present>) -> u8
     ensures { result ≡ present_number p }
 {
     match p {
-        Present::Nothing => 0,
-        Present::At(x, _) => match x {
-            Area::A => 1,
-            Area::B => 2,
-        },
+        None => 0,
+        Some(q) => 1 + area_number(q.area),
     }
 }
 
 // What reading a copy says, as C has it.
-pub(super) fn copy_of(r: CopyReading) -> CopyAnswer
-    ensures { result ≡ copy_answer r }
+pub(super) fn copy_of(a: Result<CopyReading, Reason>) -> CopyAnswer
+    ensures { result ≡ copy_answer a }
 {
-    let d = r.block;
-    let v = d.verdict;
-    let p = d.pool;
-    let u = d.blockdev;
-    let q = r.present;
-    match v {
-        Verdict::Accepted(x) => CopyAnswer {
+    match a {
+        Ok(c) => CopyAnswer {
             refusal: refusal::plain(0),
-            block: blocks::block_of(x, p, u),
-            a: r.a,
-            b: r.b,
-            present: present_number(q),
+            block: blocks::block_of(c.block.fields, c.block.pool, c.block.blockdev),
+            a: c.a,
+            b: c.b,
+            present: present_number(c.present),
         },
-        Verdict::Refused(n) => CopyAnswer {
-            refusal: refusal::plain(n),
+        Err(r) => CopyAnswer {
+            refusal: Refusal::from(r),
             block: blocks::no_block(),
             a: false,
             b: false,
@@ -69,7 +62,7 @@ pub extern "C" fn amseokbin_copy_read(copy: &[u8]) -> CopyAnswer
     copy_of(copy::read(copy))
 }
 
-// C's number of a side.
+// C's number of a side. A function, here and below: neither of the types of a `From` would be of this crate.
 pub(super) fn side_number(s: Side) -> u8
     ensures { result ≡ side_number s }
 {
@@ -100,47 +93,33 @@ pub(super) fn area_from(n: u8) -> Area
 }
 
 // C's number of the other copy: 0, or its refusal number.
-fn other_number(o: Other) -> u8
-    ensures { result ≡ other_number o }
+fn other_number(o: Result<BlockFields, Reason>) -> u8
+    ensures { result ≡ number_in o }
 {
     match o {
-        Other::Both(_) => 0,
-        Other::One(n) => n,
+        Ok(_) => 0,
+        Err(r) => Refusal::from(r).number,
     }
-}
-
-// The block of a copy, with these numbers.
-fn block_with(q: Finding, c: &[u8]) -> Block
-    ensures { result ≡ block_in q.fields c.now }
-{
-    let x = q.fields;
-    let pool = copy::pool_in(c);
-    let blockdev = copy::blockdev_in(c);
-    blocks::block_of(x, pool, blockdev)
 }
 
 // The block of the copy that has the found record.
-fn found_block(q: Finding, f: &[u8], b: &[u8]) -> Block
-    ensures { result ≡ block_in q.fields (copy_on q.side f.now b.now) }
+fn found_block(q: Finding, c: Copies<'_>) -> Block
+    ensures { result ≡ block_in q.fields (copy_on q.side c.entry.front.now c.entry.back.now) }
 {
-    let s = q.side;
-    match s {
-        Side::Front => block_with(q, f),
-        Side::Back => block_with(q, b),
-    }
+    let kept = c.on(q.side);
+    blocks::block_of(q.fields, copy::pool_in(kept), copy::blockdev_in(kept))
 }
 
 // A found record, as C has it.
-fn found_of(q: Finding, o: Other, k: Block) -> FoundAnswer
-    ensures { result ≡ found_of q o k }
+fn found_of(a: Found, k: Block) -> FoundAnswer
+    ensures { result ≡ found_of a k }
 {
-    let s = q.side;
-    let x = q.area;
+    let q = a.finding;
     FoundAnswer {
         refusal: refusal::plain(0),
-        side: side_number(s),
-        area: area_number(x),
-        other: other_number(o),
+        side: side_number(q.side),
+        area: area_number(q.area),
+        other: other_number(a.other),
         bytes: q.bytes,
         time: Time {
             seconds: q.seconds,
@@ -151,16 +130,13 @@ fn found_of(q: Finding, o: Other, k: Block) -> FoundAnswer
 }
 
 // Discovery's answer, as C has it.
-fn tell(a: Answer, f: &[u8], b: &[u8]) -> FoundAnswer
-    ensures { result ≡ found_answer a f.now b.now }
+fn tell(a: Result<Found, Reason>, c: Copies<'_>) -> FoundAnswer
+    ensures { result ≡ found_answer a c.entry.front.now c.entry.back.now }
 {
     match a {
-        Answer::Found(q, o) => {
-            let k = found_block(q, f, b);
-            found_of(q, o, k)
-        }
-        Answer::Refused(n) => FoundAnswer {
-            refusal: refusal::plain(n),
+        Ok(x) => found_of(x, found_block(x.finding, c)),
+        Err(r) => FoundAnswer {
+            refusal: Refusal::from(r),
             side: 0,
             area: 0,
             other: 0,
@@ -179,8 +155,8 @@ fn tell(a: Answer, f: &[u8], b: &[u8]) -> FoundAnswer
 pub extern "C" fn amseokbin_discover(front: &[u8], back: &[u8]) -> FoundAnswer
     ensures { result ≡ found_answer (discovery front.now back.now) front.now back.now }
 {
-    let a = discovery::discover(front, back);
-    tell(a, front, back)
+    let c = Copies { front, back };
+    tell(discovery::discover(c), c)
 }
 
 // The same, and copies the record to the start of a buffer.
@@ -189,15 +165,8 @@ pub extern "C" fn amseokbin_read_found(front: &[u8], back: &[u8], content: &mut 
     ensures value { result ≡ found_answer (read_answer (discovery front.now back.now) (length content.old)) front.now back.now }
     ensures content_after { content.new ≡ read_bytes (read_answer (discovery front.now back.now) (length content.old)) front.now back.now content.old }
 {
-    let a = discovery::read_found(front, back, content);
-    tell(a, front, back)
-}
-
-// Whether two slices are copies by their size.
-fn are_copies(front: &[u8], back: &[u8]) -> bool
-    ensures { result ≡ sized front.now back.now }
-{
-    (front.len() == layout::copy_bytes()) & (back.len() == layout::copy_bytes())
+    let c = Copies { front, back };
+    tell(discovery::read_found(c, content), c)
 }
 
 // Whether the two copies are in step.
@@ -205,16 +174,16 @@ fn are_copies(front: &[u8], back: &[u8]) -> bool
 pub extern "C" fn amseokbin_in_step(front: &[u8], back: &[u8]) -> StepAnswer
     ensures { result ≡ step_answer front.now back.now }
 {
-    if !are_copies(front, back) {
+    let c = Copies { front, back };
+    if !c.sized() {
         return StepAnswer {
-            refusal: refusal::plain(refusal::SLICE_SIZE),
+            refusal: Refusal::from(Reason::SliceSize),
             step: false,
         };
     }
-    let e = discovery::examine(front, back);
     StepAnswer {
         refusal: refusal::plain(0),
-        step: e.step,
+        step: discovery::examine(c).step,
     }
 }
 
@@ -228,7 +197,15 @@ pub extern "C" fn amseokbin_settled(
 ) -> bool
     ensures { result ≡ settled front.now back.now front_marks.now back_marks.now }
 {
-    sectors::settled(front, back, front_marks, back_marks)
+    let front = CopyRead {
+        bytes: front,
+        marks: front_marks,
+    };
+    let back = CopyRead {
+        bytes: back,
+        marks: back_marks,
+    };
+    sectors::settled(front, back)
 }
 
 // Applies a store to the two copies in memory.
@@ -244,7 +221,7 @@ pub extern "C" fn amseokbin_apply(
     ensures front_after { front.new ≡ applied Front device sector bytes.now front.old back.old }
     ensures back_after { back.new ≡ applied Back device sector bytes.now front.old back.old }
 {
-    refusal::plain(sectors::apply(device, sector, bytes, front, back))
+    crate::refusal_in(sectors::apply(device, sector, bytes, front, back))
 }
 
 // Lays a record into an area of a copy in memory.
@@ -253,7 +230,7 @@ pub extern "C" fn amseokbin_lay(copy: &mut [u8], area: u8, content: &[u8]) -> Re
     ensures value { result ≡ plain (first (lay_tests copy.old content.now)) }
     ensures copy_after { copy.new ≡ laid copy.old (area_from area) content.now }
 {
-    refusal::plain(stores::lay(copy, area_from(area), content))
+    crate::refusal_in(stores::lay(copy, area_from(area), content))
 }
 
 // Fills both copies.
@@ -271,5 +248,5 @@ pub extern "C" fn amseokbin_format(
     ensures front_after { front.new ≡ formatted front.old front.old back.old device pool.now blockdev.now time content.now }
     ensures back_after { back.new ≡ formatted back.old front.old back.old device pool.now blockdev.now time content.now }
 {
-    format::format_copies(front, back, device, pool, blockdev, time, content)
+    crate::refusal_in(format::format_copies(front, back, device, pool, blockdev, time, content))
 }

@@ -4,6 +4,7 @@ ghost use Rattle.format.specs.Writing as Format;
 ghost use Rattle.amseokbin.specs.Plans.{store_answer};
 
 use crate::{StoreAnswer, storing};
+use discovery::Copies;
 use layout::Device;
 
 // How many stores there are.
@@ -34,6 +35,6 @@ pub extern "C" fn amseokbin_format_store(
     ensures value { result ≡ store_answer (Format.store_answer device front.now back.now number bytes.old) (Format.flush_after number) }
     ensures bytes_after { bytes.new ≡ Format.store_left device front.now back.now number bytes.old }
 {
-    let a = format::store(device, front, back, number, bytes);
+    let a = format::store(device, Copies { front, back }, number, bytes);
     storing::tell(a, format::flush(number))
 }

@@ -15,13 +15,14 @@ mod updates;
 
 ghost use Rattle.std.specs.Prelude.{◌≡◌};
 ghost use Rattle.checksum.specs.Crc.{checksum, continued};
+ghost use Rattle.refusal.specs.Reasons.{refusal_in};
 ghost use Rattle.refusal.specs.Words.{words_of};
 ghost use Rattle.block.specs.Entry.{later_than};
 
 use block::{Holding, Time};
 use layout::{Device, DeviceMap};
 use receive::Received;
-use refusal::{Refusal, Words};
+use refusal::{Reason, Refusal, Words};
 use runs::Run;
 use segments::Segment;
 
@@ -200,6 +201,16 @@ pub struct AllocationAnswer {
     pub length: u64,
 }
 
+// The refusal in an answer that has no other value; number 0 where there is none.
+fn refusal_in(a: Result<(), Reason>) -> Refusal
+    ensures { result ≡ refusal_in a }
+{
+    match a {
+        Ok(()) => refusal::plain(0),
+        Err(r) => Refusal::from(r),
+    }
+}
+
 // The version, as the header's AMSEOKBIN_VERSION has it: the major number times 65,536, and the minor number.
 #[unsafe(no_mangle)]
 pub extern "C" fn amseokbin_version() -> u32
@@ -234,8 +245,9 @@ pub extern "C" fn amseokbin_checksum_continued(before: u32, bytes: &[u8]) -> u32
 
 // Whether a time is later than another.
 #[unsafe(no_mangle)]
+#[tactic(auto, using(block::proofs::Times::later_derived))]
 pub extern "C" fn amseokbin_later(time: Time, than: Time) -> bool
     ensures { result ≡ later_than time than }
 {
-    block::later(time, than)
+    than < time
 }

@@ -5,8 +5,10 @@ ghost use Rattle.mend.specs.Plan as Mend;
 ghost use Rattle.amseokbin.specs.Plans.{store_answer, side_from, mend_from, rewrite_told, no_mend, mend_answer};
 
 use crate::{MendAnswer, MendPlan, StoreAnswer, copies, storing};
+use discovery::Copies;
 use layout::Side;
-use mend::{Mending, Rewrite};
+use mend::Rewrite;
+use refusal::{Reason, Refusal};
 
 // The side that C's number is: 0 is the front, anything else the back.
 fn side_from(n: u8) -> Side
@@ -22,40 +24,35 @@ fn side_from(n: u8) -> Side
 fn flag(yes: bool) -> u8
     ensures { result ≡ one yes }
 {
-    if yes {
-        return 1;
-    }
-    0
+    yes as u8
 }
 
 // What a mend stores, as C has it.
 fn plan_of(p: Rewrite) -> MendPlan
     ensures { result ≡ rewrite_told p }
 {
-    let s = p.kept;
-    let x = p.area;
     MendPlan {
         bytes: p.bytes,
         needed: 1,
-        kept: copies::side_number(s),
-        area: copies::area_number(x),
+        kept: copies::side_number(p.kept),
+        area: copies::area_number(p.area),
         last: flag(p.last),
     }
 }
 
 // The mend that C's plan is.
-fn mend_from(p: MendPlan) -> Mending
+fn mend_from(p: MendPlan) -> Result<Option<Rewrite>, Reason>
     ensures { result ≡ mend_from p }
 {
     if p.needed == 0 {
-        return Mending::InStep;
+        return Ok(None);
     }
-    Mending::Needed(Rewrite {
+    Ok(Some(Rewrite {
         kept: side_from(p.kept),
         area: copies::area_from(p.area),
         bytes: p.bytes,
         last: p.last != 0,
-    })
+    }))
 }
 
 // No plan, which is also that of copies in step.
@@ -76,18 +73,17 @@ fn no_plan() -> MendPlan
 pub extern "C" fn amseokbin_mend_plan(front: &[u8], back: &[u8]) -> MendAnswer
     ensures { result ≡ mend_answer (Mend.mending front.now back.now) }
 {
-    let m = mend::work_out(front, back);
-    match m {
-        Mending::InStep => MendAnswer {
+    match mend::work_out(Copies { front, back }) {
+        Ok(None) => MendAnswer {
             refusal: refusal::plain(0),
             plan: no_plan(),
         },
-        Mending::Needed(p) => MendAnswer {
+        Ok(Some(p)) => MendAnswer {
             refusal: refusal::plain(0),
             plan: plan_of(p),
         },
-        Mending::Refused(n) => MendAnswer {
-            refusal: refusal::plain(n),
+        Err(r) => MendAnswer {
+            refusal: Refusal::from(r),
             plan: no_plan(),
         },
     }
@@ -122,6 +118,6 @@ pub extern "C" fn amseokbin_mend_store(
     ensures bytes_after { bytes.new ≡ Mend.store_bytes (mend_from plan) front.now back.now number bytes.old }
 {
     let m = mend_from(plan);
-    let a = mend::store(m, front, back, number, bytes);
+    let a = mend::store(m, Copies { front, back }, number, bytes);
     storing::tell(a, mend::flush(m, number))
 }

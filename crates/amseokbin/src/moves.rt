@@ -4,22 +4,9 @@ ghost use Rattle.heads.specs.declared.Change.TheVariants as Asked;
 ghost use Rattle.heads.specs.Changing.{change_answer, change_left};
 ghost use Rattle.amseokbin.specs.Records as Told;
 
-use crate::LengthAnswer;
-use heads::{Change, Changed};
+use crate::{LengthAnswer, records};
+use heads::Change;
 use layout::Device;
-
-// The length of a record with another head, as C has it.
-fn tell(a: Changed) -> LengthAnswer
-    ensures { result ≡ Told.changed_answer a }
-{
-    match a {
-        Changed::Length(n) => LengthAnswer {
-            refusal: refusal::plain(0),
-            length: n as u64,
-        },
-        Changed::Refused(refusal) => LengthAnswer { refusal, length: 0 },
-    }
-}
 
 // Moves a record's head up: the new record to a buffer.
 #[unsafe(no_mangle)]
@@ -28,11 +15,10 @@ pub extern "C" fn amseokbin_head_up(
     content: &[u8],
     changed: &mut [u8],
 ) -> LengthAnswer
-    ensures value { result ≡ Told.changed_answer (change_answer device content.now Asked.Up (length changed.old)) }
+    ensures value { result ≡ Told.length_answer (change_answer device content.now Asked.Up (length changed.old)) }
     ensures changed_after { changed.new ≡ change_left device content.now Asked.Up changed.old }
 {
-    let a = heads::rewrite(device, content, Change::Up, changed);
-    tell(a)
+    records::length_of(heads::rewrite(device, content, Change::Up, changed))
 }
 
 // Moves a record's head back: the new record to a buffer.
@@ -42,11 +28,10 @@ pub extern "C" fn amseokbin_head_back(
     content: &[u8],
     changed: &mut [u8],
 ) -> LengthAnswer
-    ensures value { result ≡ Told.changed_answer (change_answer device content.now Asked.Back (length changed.old)) }
+    ensures value { result ≡ Told.length_answer (change_answer device content.now Asked.Back (length changed.old)) }
     ensures changed_after { changed.new ≡ change_left device content.now Asked.Back changed.old }
 {
-    let a = heads::rewrite(device, content, Change::Back, changed);
-    tell(a)
+    records::length_of(heads::rewrite(device, content, Change::Back, changed))
 }
 
 // Sets the low water mark of a record's head: the new record to a buffer.
@@ -57,9 +42,8 @@ pub extern "C" fn amseokbin_head_mark(
     mark: u32,
     changed: &mut [u8],
 ) -> LengthAnswer
-    ensures value { result ≡ Told.changed_answer (change_answer device content.now (Asked.Mark mark) (length changed.old)) }
+    ensures value { result ≡ Told.length_answer (change_answer device content.now (Asked.Mark mark) (length changed.old)) }
     ensures changed_after { changed.new ≡ change_left device content.now (Asked.Mark mark) changed.old }
 {
-    let a = heads::rewrite(device, content, Change::Mark(mark), changed);
-    tell(a)
+    records::length_of(heads::rewrite(device, content, Change::Mark(mark), changed))
 }

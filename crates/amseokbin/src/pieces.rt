@@ -5,6 +5,7 @@ ghost use Rattle.amseokbin.specs.Copies.{receive_answer, copy_answer};
 
 use crate::{CopyAnswer, ReceiveAnswer, copies};
 use receive::Received;
+use refusal::Refusal;
 
 // The state before the first piece.
 #[unsafe(no_mangle)]
@@ -17,13 +18,17 @@ pub extern "C" fn amseokbin_receive_begin() -> Received
 // Takes a piece.
 #[unsafe(no_mangle)]
 pub extern "C" fn amseokbin_receive_piece(received: Received, piece: &[u8]) -> ReceiveAnswer
-    ensures { result ≡ receive_answer (taking received piece.now) }
+    ensures { result ≡ receive_answer received (taking received piece.now) }
 {
-    let t = receive::piece(received, piece);
-    let kept = t.received;
-    ReceiveAnswer {
-        refusal: refusal::plain(t.number),
-        received: kept,
+    match receive::piece(received, piece) {
+        Ok(next) => ReceiveAnswer {
+            refusal: refusal::plain(0),
+            received: next,
+        },
+        Err(r) => ReceiveAnswer {
+            refusal: Refusal::from(r),
+            received,
+        },
     }
 }
 

@@ -2,11 +2,12 @@
 ghost use Rattle.std.specs.Prelude.{◌≡◌, length};
 ghost use Rattle.allocation.specs.Answers.{total_answer, runs_answer, run_answer, fit_answer, table_answer, table_left};
 ghost use Rattle.allocation.specs.Change.{allocate_answer, allocate_left, release_answer, release_left};
+ghost use Rattle.amseokbin.specs.Records.{counted_answer, length_answer};
 ghost use Rattle.amseokbin.specs.Room as Told;
 
-use crate::{AllocationAnswer, CountAnswer, LengthAnswer, RunAnswer, TotalAnswer};
-use allocation::{Allocation, FreeTotal, Released, RunCount, RunFound};
+use crate::{AllocationAnswer, CountAnswer, LengthAnswer, RunAnswer, TotalAnswer, records};
 use layout::Device;
+use refusal::{Reason, Refusal};
 use runs::Run;
 
 // Free sectors.
@@ -14,29 +15,15 @@ use runs::Run;
 pub extern "C" fn amseokbin_free_total(device: Device, content: &[u8]) -> TotalAnswer
     ensures { result ≡ Told.total_answer (total_answer device content.now) }
 {
-    let a = allocation::free_total(device, content);
-    match a {
-        FreeTotal::Sectors(sectors) => TotalAnswer {
+    match allocation::free_total(device, content) {
+        Ok(sectors) => TotalAnswer {
             refusal: refusal::plain(0),
             sectors,
         },
-        FreeTotal::Refused(refusal) => TotalAnswer {
-            refusal,
+        Err(r) => TotalAnswer {
+            refusal: Refusal::from(r),
             sectors: 0,
         },
-    }
-}
-
-// How many free runs there are, as C has it.
-fn tell_runs(a: RunCount) -> CountAnswer
-    ensures { result ≡ Told.runs_answer a }
-{
-    match a {
-        RunCount::Runs(count) => CountAnswer {
-            refusal: refusal::plain(0),
-            count,
-        },
-        RunCount::Refused(refusal) => CountAnswer { refusal, count: 0 },
     }
 }
 
@@ -47,32 +34,31 @@ pub extern "C" fn amseokbin_free_runs(
     content: &[u8],
     table: &mut [Run],
 ) -> CountAnswer
-    ensures value { result ≡ Told.runs_answer (table_answer device content.now (length table.old)) }
+    ensures value { result ≡ counted_answer (table_answer device content.now (length table.old)) }
     ensures table_after { table.new ≡ table_left device content.now table.old }
 {
-    let a = allocation::free_runs(device, content, table);
-    tell_runs(a)
+    records::count_of(allocation::free_runs(device, content, table))
 }
 
 // How many free runs there are.
 #[unsafe(no_mangle)]
 pub extern "C" fn amseokbin_run_count(device: Device, content: &[u8]) -> CountAnswer
-    ensures { result ≡ Told.runs_answer (runs_answer device content.now) }
+    ensures { result ≡ counted_answer (runs_answer device content.now) }
 {
-    tell_runs(allocation::count_runs(device, content))
+    records::count_of(allocation::count_runs(device, content))
 }
 
 // A free run, as C has it.
-fn tell_run(a: RunFound) -> RunAnswer
+fn tell_run(a: Result<Run, Reason>) -> RunAnswer
     ensures { result ≡ Told.run_answer a }
 {
     match a {
-        RunFound::At(run) => RunAnswer {
+        Ok(run) => RunAnswer {
             refusal: refusal::plain(0),
             run,
         },
-        RunFound::Refused(refusal) => RunAnswer {
-            refusal,
+        Err(r) => RunAnswer {
+            refusal: Refusal::from(r),
             run: Run {
                 start: 0,
                 sectors: 0,
@@ -109,15 +95,14 @@ pub extern "C" fn amseokbin_allocate(
     ensures value { result ≡ Told.allocation_answer (allocate_answer device content.now kind wanted (length changed.old)) }
     ensures changed_after { changed.new ≡ allocate_left device content.now kind wanted changed.old }
 {
-    let a = allocation::allocate(device, content, kind, wanted, changed);
-    match a {
-        Allocation::Placed(start, n) => AllocationAnswer {
+    match allocation::allocate(device, content, kind, wanted, changed) {
+        Ok(p) => AllocationAnswer {
             refusal: refusal::plain(0),
-            start,
-            length: n as u64,
+            start: p.start,
+            length: p.length as u64,
         },
-        Allocation::Refused(refusal) => AllocationAnswer {
-            refusal,
+        Err(r) => AllocationAnswer {
+            refusal: Refusal::from(r),
             start: 0,
             length: 0,
         },
@@ -132,15 +117,8 @@ pub extern "C" fn amseokbin_release(
     position: u64,
     changed: &mut [u8],
 ) -> LengthAnswer
-    ensures value { result ≡ Told.released_answer (release_answer device content.now position (length changed.old)) }
+    ensures value { result ≡ length_answer (release_answer device content.now position (length changed.old)) }
     ensures changed_after { changed.new ≡ release_left device content.now position changed.old }
 {
-    let a = allocation::release(device, content, position as usize, changed);
-    match a {
-        Released::Length(n) => LengthAnswer {
-            refusal: refusal::plain(0),
-            length: n as u64,
-        },
-        Released::Refused(refusal) => LengthAnswer { refusal, length: 0 },
-    }
+    records::length_of(allocation::release(device, content, position as usize, changed))
 }

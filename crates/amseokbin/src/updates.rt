@@ -7,8 +7,9 @@ ghost use Rattle.amseokbin.specs.Plans.{store_answer, update_from, update_of, no
 
 use crate::{StoreAnswer, UpdateAnswer, UpdatePlan, copies, storing};
 use block::{Holding, Time};
+use discovery::Copies;
 use refusal::Refusal;
-use update::{Plan, Planned};
+use update::Plan;
 
 // Whether an update is refused.
 #[unsafe(no_mangle)]
@@ -20,20 +21,17 @@ pub extern "C" fn amseokbin_update_check(
 ) -> Refusal
     ensures { result ≡ named (update_number front.now back.now time content.now) content.now }
 {
-    update::check(front, back, time, content)
+    crate::refusal_in(update::check(Copies { front, back }, time, content))
 }
 
 // A plan, as C has it.
 fn plan_of(p: Plan) -> UpdatePlan
     ensures { result ≡ update_of p }
 {
-    let entry = p.entry;
-    let x = p.front;
-    let y = p.back;
     UpdatePlan {
-        entry,
-        front: copies::area_number(x),
-        back: copies::area_number(y),
+        entry: p.entry,
+        front: copies::area_number(p.front),
+        back: copies::area_number(p.back),
     }
 }
 
@@ -41,9 +39,8 @@ fn plan_of(p: Plan) -> UpdatePlan
 fn plan_from(p: UpdatePlan) -> Plan
     ensures { result ≡ update_from p }
 {
-    let entry = p.entry;
     Plan {
-        entry,
+        entry: p.entry,
         front: copies::area_from(p.front),
         back: copies::area_from(p.back),
     }
@@ -76,14 +73,13 @@ pub extern "C" fn amseokbin_update_plan(
 ) -> UpdateAnswer
     ensures { result ≡ update_answer (Update.planned front.now back.now time content.now) }
 {
-    let a = update::work_out(front, back, time, content);
-    match a {
-        Planned::Plan(p) => UpdateAnswer {
+    match update::work_out(Copies { front, back }, time, content) {
+        Ok(p) => UpdateAnswer {
             refusal: refusal::plain(0),
             plan: plan_of(p),
         },
-        Planned::Refused(refusal) => UpdateAnswer {
-            refusal,
+        Err(r) => UpdateAnswer {
+            refusal: Refusal::from(r),
             plan: no_plan(),
         },
     }
@@ -119,6 +115,6 @@ pub extern "C" fn amseokbin_update_store(
     ensures bytes_after { bytes.new ≡ Update.store_bytes (update_from plan) front.now back.now content.now number bytes.old }
 {
     let p = plan_from(plan);
-    let a = update::store(p, front, back, content, number, bytes);
+    let a = update::store(p, Copies { front, back }, content, number, bytes);
     storing::tell(a, update::flush(p, number))
 }

@@ -9,19 +9,19 @@ use borrow.Author.Tests.{eq-eqb}
 use lib.Dec.{eqb, lit≤}
 use native.Mathlib.Decide.{ℕ_discrete}
 use lib.ListN.{length, drop}
+use Rattle.std.proofs.Common.{Err}
+use Rattle.refusal.specs.declared.Reason.{Reason}
+use Rattle.refusal.specs.Reasons.{refusal_of, number_in}
 use Rattle.refusal.specs.Tests.{Test, first, Fails, AllHold}
 use Rattle.refusal.proofs.Order.{first-zero, first_all, first-lowest, fails_above}
 use Rattle.endian.proofs.Parts.{length-window-fits}
 use Rattle.endian.proofs.Tests.{and_both}
-use Rattle.block.specs.declared.BlockFields.{BlockFields}
-use Rattle.block.specs.declared.Reading.{Reading}
-use Rattle.block.specs.declared.Verdict.TheVariants as Verdict
 use Rattle.block.specs.Block.{pool_of, blockdev_of, fields_of, read_tests, reading}
 use Rattle.block.specs.Writing.{write_tests}
 use Rattle.block.specs.Entry.{later_than}
 use Rattle.block.proofs.Times.{Before, NotAfter, later_facts, not_later_facts}
 use Rattle.block.specs.Demand.{Exactly, Applies, NoneApplies, Lowest, WriteAfterRead, ReadAfterWrite, nanoseconds_in, Later}
-use Rattle.block.proofs.Readings.{refused_reading_lem, accepted_reading_lem, ascending}
+use Rattle.block.proofs.Readings.{refused_reading_lem, accepted_reading_lem, accepted_none, refused-some, reading-number, reason-from, ascending}
 use Rattle.block.proofs.Exactly.{obeys, no_refusal}
 use Rattle.block.proofs.Applying.{fails_applies, applies_fails}
 use Rattle.block.proofs.Written.{written-accepted, write-ascending, write_sizes}
@@ -33,29 +33,8 @@ some_fails [] n f a = f
 some_fails (t ∷ ts) n (inl f) a = true≢false (sym a.0 ∙ f.0)
 some_fails (t ∷ ts) n (inr f) a = some_fails ts n f a.1
 
-module _ (b : List ℕ) where
-  -- a block with no number is not refused
-  not_refused : (n : ℕ) → first (read_tests b) ≡ 0 → (reading b).verdict ≡ Verdict.Refused n → ⊥
-  not_refused n z e =
-      let v : Verdict.Accepted (fields_of b) ≡ Verdict.Refused n = ap (λ (r : Reading). r.verdict) (accepted_reading_lem b z) ∙ e in
-      let o : ◌≡◌ {A = ℕ} 0 1 = cc in
-      omega arith
-
-  -- a block with a number is refused with it, and not accepted
-  refused-with : (first (read_tests b) ≡ 0 → ⊥) → (reading b).verdict ≡ Verdict.Refused (first (read_tests b))
-  refused-with h = sym (ap (λ (r : Reading). r.verdict) (refused_reading_lem b (first (read_tests b)) refl h))
-
-  not_accepted : (f : BlockFields) → (first (read_tests b) ≡ 0 → ⊥) → (reading b).verdict ≡ Verdict.Accepted f → ⊥
-  not_accepted f h e =
-      let v : Verdict.Refused (first (read_tests b)) ≡ Verdict.Accepted f = sym (refused-with h) ∙ e in
-      let o : ◌≡◌ {A = ℕ} 0 1 = cc in
-      omega arith
-
 pub exactly : Exactly
-exactly b = (
-  λ a. sym (accepted_reading_lem b (no_refusal b a)),
-  λ f e. elim (ℕ_discrete (first (read_tests b)) 0) [ yes z ↦ obeys b z | no h ↦ absurd (not_accepted b f h e) ],
-)
+exactly b = (λ a. accepted_reading_lem b (no_refusal b a), λ r e. obeys b (accepted_none b r e))
 
 -- a test of 512 bytes that fails is one of 2 to 9
 past-size : (b : List ℕ) (n : ℕ) → length b ≡ 512 → Fails (read_tests b) n → 2 ≤ n
@@ -77,26 +56,36 @@ none_applies b = (
   ],
 )
 
+-- no condition has a higher number than 9
+applies_most : (b : List ℕ) (n : ℕ) → Applies b n → n ≤ 9
+applies_most b n a =
+    elim a [
+      | inl h ↦ let e : n ≡ 1 = h.0 in omega arith
+      | inr (inl h) ↦ let e : n ≡ 2 = h.0 in omega arith
+      | inr (inr (inl h)) ↦ let e : n ≡ 3 = h.0 in omega arith
+      | inr (inr (inr (inl h))) ↦ let e : n ≡ 4 = h.0 in omega arith
+      | inr (inr (inr (inr (inl h)))) ↦ let e : n ≡ 5 = h.0 in omega arith
+      | inr (inr (inr (inr (inr (inl h))))) ↦ let e : n ≡ 6 = h.0 in omega arith
+      | inr (inr (inr (inr (inr (inr (inl h)))))) ↦ let e : n ≡ 7 = h.0 in omega arith
+      | inr (inr (inr (inr (inr (inr (inr (inl h))))))) ↦ let e : n ≡ 8 = h.0 in omega arith
+      | inr (inr (inr (inr (inr (inr (inr (inr h))))))) ↦ let e : n ≡ 9 = h.0 in omega arith
+    ]
+
 -- the first test that fails has the lowest number whose condition holds
-module _ (b : List ℕ) (n : ℕ) where
-  refused_first : (reading b).verdict ≡ Verdict.Refused n → (first (read_tests b) ≡ n) × (n ≡ 0 → ⊥)
-  refused_first e = elim (ℕ_discrete (first (read_tests b)) 0) [ yes z ↦ absurd (not_refused b n z e) | no h ↦ go h ]
-    where
-      go : (first (read_tests b) ≡ 0 → ⊥) → (first (read_tests b) ≡ n) × (n ≡ 0 → ⊥)
-      go h =
-          let v : Verdict.Refused (first (read_tests b)) ≡ Verdict.Refused n = sym (refused-with b h) ∙ e in
-          let m : first (read_tests b) ≡ n = cc in
-          (m, λ z. h (m ∙ z))
+module _ (b : List ℕ) (r : Reason) where
+  abbrev n : ℕ
+  n = (refusal_of r).number
 
-  refused-lowest : (reading b).verdict ≡ Verdict.Refused n → Applies b n × ((k : ℕ) → Applies b k → n ≤ k)
+  refused-lowest : reading b ≡ Err r → Applies b n × ((k : ℕ) → Applies b k → n ≤ k)
   refused-lowest e =
-      let m : (first (read_tests b) ≡ n) × (n ≡ 0 → ⊥) = refused_first e in
-      let f : first (read_tests b) ≡ n = m.0 in
-      let z : n ≡ 0 → ⊥ = m.1 in
-      let l : Fails (read_tests b) n × ((k : ℕ) → Fails (read_tests b) k → n ≤ k) = rw f at (first-lowest 0 (read_tests b) (ascending b) (omega arith)) in
-      (fails_applies b n l.0, λ k a. l.1 k (applies_fails b k a))
+      let f : first (read_tests b) ≡ n = sym (reading-number b) ∙ ap number_in e in
+      let z : first (read_tests b) ≡ 0 → ⊥ = refused-some b r e in
+      let l : Fails (read_tests b) (first (read_tests b)) × ((k : ℕ) → Fails (read_tests b) k → first (read_tests b) ≤ k) =
+      first-lowest 0 (read_tests b) (ascending b) (omega arith) in
+      let m : Fails (read_tests b) n × ((k : ℕ) → Fails (read_tests b) k → n ≤ k) = rw f at l in
+      (fails_applies b n m.0, λ k a. m.1 k (applies_fails b k a))
 
-  lowest-refused : Applies b n → ((k : ℕ) → Applies b k → n ≤ k) → (reading b).verdict ≡ Verdict.Refused n
+  lowest-refused : Applies b n → ((k : ℕ) → Applies b k → n ≤ k) → reading b ≡ Err r
   lowest-refused a h =
       let f : Fails (read_tests b) n = applies_fails b n a in
       let o : first (read_tests b) ≡ 0 → ⊥ = λ z. some_fails (read_tests b) n f (first-zero 0 (read_tests b) (ascending b) z) in
@@ -104,15 +93,12 @@ module _ (b : List ℕ) (n : ℕ) where
       first-lowest 0 (read_tests b) (ascending b) (omega arith) in
       let x : first (read_tests b) ≤ n = l.1 n f in
       let y : n ≤ first (read_tests b) = h (first (read_tests b)) (fails_applies b (first (read_tests b)) l.0) in
-      let m : first (read_tests b) ≡ n = omega arith in
-      refused-with b o ∙ ap (λ (k : ℕ). Verdict.Refused k) m
+      let m : n ≡ first (read_tests b) = omega arith in
+      let t : n ≤ 9 = applies_most b n a in
+      refused_reading_lem b o ∙ ap (λ (e : Reason). Err e) (reason-from r (first (read_tests b)) m (λ k. omega arith))
 
 pub lowest : Lowest
-lowest b n = (
-  (refused-lowest b n, λ a. lowest-refused b n a.0 a.1),
-  λ e. let m : (first (read_tests b) ≡ n) × (n ≡ 0 → ⊥) = refused_first b n e in
-      sym (refused_reading_lem b n (sym m.0) m.1),
-)
+lowest b r = (refused-lowest b r, λ a. lowest-refused b r a.0 a.1)
 
 pub write-after-read : WriteAfterRead
 write-after-read b out bytes h n =

@@ -8,6 +8,7 @@ use native.Mathlib.Omega.{arith}
 use borrow.Author.Tests.{leb-true, le-leb, eqb-true, eq-eqb, not-true}
 use lib.Dec.{leb, eqb}
 use lib.ListN.{length, get_or}
+use Rattle.std.proofs.Common.{Option, Some, None}
 use Rattle.endian.specs.Bytes.{window, all_pass, zeros}
 use Rattle.endian.proofs.Parts.{length-window-fits}
 use Rattle.endian.proofs.Tests.{and_left, and_right, and_both, same_equal, equal_same, all_at, all_of, all_zeros, zeros_all}
@@ -16,8 +17,7 @@ use Rattle.refusal.specs.Tests.{first, AllHold}
 use Rattle.refusal.proofs.Order.{first-zero, first_all}
 use Rattle.layout.specs.Limits.{length_allowed, most_nanoseconds, nanoseconds_allowed}
 use Rattle.layout.proofs.Laws.{metadata_facts, metadata_test, length_facts, length_test}
-use Rattle.block.specs.declared.Entry.{Entry}
-use Rattle.block.specs.declared.Entry.TheVariants.{Unused, Used}
+use Rattle.block.specs.declared.Holding.{Holding}
 use Rattle.block.specs.Entry.{same_time, entry_allowed, different_times, entries_allowed}
 use Rattle.block.specs.Block.{signature_bytes, number, pool_of, blockdev_of, entry_at, is_hex, all_zero, zero_fields, read_tests}
 use Rattle.block.specs.Accepted.{Hex, HexBytes, Within, Apart, Accepted}
@@ -47,32 +47,32 @@ hex_test x (inl h) =
 hex_test x (inr h) =
     or_right (leb 48 x && leb x 57) (leb 97 x && leb x 102) (and_both (leb 97 x) (leb x 102) (le-leb 97 x h.0) (le-leb x 102 h.1))
 
-within_facts : (e : Entry) → entry_allowed e ≡ true → Within e
-within_facts Unused h = tt
-within_facts (Used k) h =
+within_facts : (e : Option Holding) → entry_allowed e ≡ true → Within e
+within_facts None h = tt
+within_facts (Some k) h =
     let l : (1 ≤ k.bytes) × (k.bytes ≤ Rattle.layout.specs.Limits.record_limit) =
     length_facts k.bytes (and_left (length_allowed k.bytes) (nanoseconds_allowed k.nanoseconds) h) in
     (l.0, l.1, leb-true k.nanoseconds most_nanoseconds (and_right (length_allowed k.bytes) (nanoseconds_allowed k.nanoseconds) h))
 
-within_test : (e : Entry) → Within e → entry_allowed e ≡ true
-within_test Unused h = refl
-within_test (Used k) h =
+within_test : (e : Option Holding) → Within e → entry_allowed e ≡ true
+within_test None h = refl
+within_test (Some k) h =
     and_both (length_allowed k.bytes) (nanoseconds_allowed k.nanoseconds) (length_test k.bytes h.0 h.1) (le-leb k.nanoseconds most_nanoseconds h.2)
 
-apart_facts : (a b : Entry) → different_times a b ≡ true → Apart a b
+apart_facts : (a b : Option Holding) → different_times a b ≡ true → Apart a b
 unfolding same_time
-apart_facts Unused b h = tt
-apart_facts (Used k) Unused h = tt
-apart_facts (Used k) (Used l) h = λ p q.
+apart_facts None b h = tt
+apart_facts (Some k) None h = tt
+apart_facts (Some k) (Some l) h = λ p q.
     true≢false
     (sym (and_both (eqb k.seconds l.seconds) (eqb k.nanoseconds l.nanoseconds) (eq-eqb k.seconds l.seconds p) (eq-eqb k.nanoseconds l.nanoseconds q))
     ∙ not-true (eqb k.seconds l.seconds && eqb k.nanoseconds l.nanoseconds) h)
 
-apart_test : (a b : Entry) → Apart a b → different_times a b ≡ true
+apart_test : (a b : Option Holding) → Apart a b → different_times a b ≡ true
 unfolding same_time
-apart_test Unused b h = refl
-apart_test (Used k) Unused h = refl
-apart_test (Used k) (Used l) h = go (eqb k.seconds l.seconds) refl (eqb k.nanoseconds l.nanoseconds) refl
+apart_test None b h = refl
+apart_test (Some k) None h = refl
+apart_test (Some k) (Some l) h = go (eqb k.seconds l.seconds) refl (eqb k.nanoseconds l.nanoseconds) refl
   where
     go : (x : Bool) → eqb k.seconds l.seconds ≡ x → (y : Bool) → eqb k.nanoseconds l.nanoseconds ≡ y
         → not (eqb k.seconds l.seconds && eqb k.nanoseconds l.nanoseconds) ≡ true
@@ -87,14 +87,14 @@ hex_bytes s h = λ i k. hex_facts (get_or s i 0) (all_at is_hex s h i k)
 pub bytes_hex : (s : List ℕ) → HexBytes s → all_pass is_hex s ≡ true
 bytes_hex s h = all_of is_hex s (λ i k. hex_test (get_or s i 0) (h i k))
 
-pub entries_facts : (a b : Entry) → entries_allowed a b ≡ true → Within a × (Within b × Apart a b)
+pub entries_facts : (a b : Option Holding) → entries_allowed a b ≡ true → Within a × (Within b × Apart a b)
 entries_facts a b h =
     let l : entry_allowed b && different_times a b ≡ true = and_right (entry_allowed a) (entry_allowed b && different_times a b) h in (
       within_facts a (and_left (entry_allowed a) (entry_allowed b && different_times a b) h),
       (within_facts b (and_left (entry_allowed b) (different_times a b) l), apart_facts a b (and_right (entry_allowed b) (different_times a b) l)),
     )
 
-pub entries_test : (a b : Entry) → Within a → Within b → Apart a b → entries_allowed a b ≡ true
+pub entries_test : (a b : Option Holding) → Within a → Within b → Apart a b → entries_allowed a b ≡ true
 entries_test a b x y z =
     and_both (entry_allowed a) (entry_allowed b && different_times a b) (within_test a x)
     (and_both (entry_allowed b) (different_times a b) (within_test b y) (apart_test a b z))

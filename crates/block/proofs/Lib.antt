@@ -1,4 +1,5 @@
 -- The laws that callers cite.
+pub mod Passing
 pub mod Readings
 pub mod Written
 pub mod Exactly

@@ -9,6 +9,7 @@ use lib.Dec.{eqb, lit<, lit≤}
 use native.Mathlib.Nat.{le_of_eq}
 use lib.ListN.{length, get_or, take}
 use lib.Seq.{take_all, drop_at}
+use Rattle.std.proofs.Common.{Option, Some, None, Ok}
 use Rattle.endian.specs.Bytes.{le, to_le, window, Bytes}
 use Rattle.endian.proofs.Numbers.{le-to_le, to_le-le, length-to_le}
 use Rattle.endian.proofs.Parts.{length-window-fits, bytes_window, window-append, window_rest}
@@ -20,11 +21,8 @@ use Rattle.layout.specs.Limits.{size_allowed, length_allowed, most_nanoseconds, 
 use Rattle.layout.proofs.Laws.{metadata_facts, length_facts, length-fits}
 use Rattle.block.specs.declared.Holding.{Holding}
 use Rattle.block.specs.declared.BlockFields.{BlockFields}
-use Rattle.block.specs.declared.Entry.{Entry}
-use Rattle.block.specs.declared.Entry.TheVariants.{Unused, Used}
 use Rattle.block.specs.Entry.{entry_of, entry_allowed, different_times}
 use Rattle.block.specs.Block.{signature_bytes, number, pool_of, blockdev_of, entry_at, fields_of, limit_tests, read_tests, reading}
-use Rattle.block.specs.declared.Verdict.TheVariants.{Accepted}
 use Rattle.block.specs.Accepted as Obeying
 use Rattle.block.specs.Writing.{holding_of, body_fields, block_of}
 use Rattle.block.specs.Demand.{EntryFits}
@@ -46,7 +44,7 @@ holding-back s n u c = go (eqb s 0 && (eqb n 0 && (eqb u 0 && eqb c 0))) refl
     whole : Holding
     whole = record { seconds = s; nanoseconds = n; bytes = u; checksum = c }
 
-    go : (b : Bool) → (eqb s 0 && (eqb n 0 && (eqb u 0 && eqb c 0))) ≡ b → holding_of (cond (eqb s 0 && (eqb n 0 && (eqb u 0 && eqb c 0))) Unused (Used whole)) ≡ whole
+    go : (b : Bool) → (eqb s 0 && (eqb n 0 && (eqb u 0 && eqb c 0))) ≡ b → holding_of (cond (eqb s 0 && (eqb n 0 && (eqb u 0 && eqb c 0))) None (Some whole)) ≡ whole
     go true h =
         let h2 : eqb n 0 && (eqb u 0 && eqb c 0) ≡ true = and_right (eqb s 0) (eqb n 0 && (eqb u 0 && eqb c 0)) h in
         let h3 : eqb u 0 && eqb c 0 ≡ true = and_right (eqb n 0) (eqb u 0 && eqb c 0) h2 in
@@ -55,7 +53,7 @@ holding-back s n u c = go (eqb s 0 && (eqb n 0 && (eqb u 0 && eqb c 0))) refl
         let eu : u ≡ 0 = eqb-true u 0 (and_left (eqb u 0) (eqb c 0) h3) in
         let ec : c ≡ 0 = eqb-true c 0 (and_right (eqb u 0) (eqb c 0) h3) in
         rw (h, es, en, eu, ec)
-    go false h = ap (λ (x : Bool). holding_of (cond x Unused (Used whole))) h
+    go false h = ap (λ (x : Bool). holding_of (cond x None (Some whole))) h
 
 module _ (b : List ℕ) (bytes : Bytes b) (h : Obeying.Accepted b) where
   -- the bytes of a number, back from it
@@ -92,14 +90,14 @@ module _ (b : List ℕ) (bytes : Bytes b) (h : Obeying.Accepted b) where
       ∙ (sym (window-append b 0 4 508) ∙ window_rest b 0 512 (rw h.size (lit≤ tt)))
 
 -- an entry, back from its four numbers
-pub entry-back : (e : Entry) → entry_allowed e ≡ true
+pub entry-back : (e : Option Holding) → entry_allowed e ≡ true
     → entry_of (holding_of e).seconds (holding_of e).nanoseconds (holding_of e).bytes (holding_of e).checksum ≡ e
 unfolding entry_of
-entry-back Unused h = refl
-entry-back (Used k) h =
+entry-back None h = refl
+entry-back (Some k) h =
     let l : 1 ≤ k.bytes = (length_facts k.bytes (and_left (length_allowed k.bytes) (nanoseconds_allowed k.nanoseconds) h)).0 in
     let n : eqb k.bytes 0 ≡ false = ne_eqb k.bytes 0 (λ e. let z : k.bytes ≡ 0 = e in omega arith) in
-    ap (λ (x : Bool). cond x Unused (Used k)) (third (eqb k.seconds 0) (eqb k.nanoseconds 0) (eqb k.bytes 0) (eqb k.checksum 0) n)
+    ap (λ (x : Bool). cond x None (Some k)) (third (eqb k.seconds 0) (eqb k.nanoseconds 0) (eqb k.bytes 0) (eqb k.checksum 0) n)
   where
     third : (a b c d : Bool) → c ≡ false → (a && (b && (c && d))) ≡ false
     third true true c d e = ap (λ (x : Bool). x && d) e
@@ -107,10 +105,10 @@ entry-back (Used k) h =
     third false b c d e = refl
 
 -- the numbers of an entry fit their widths
-pub entry-fits : (e : Entry) → entry_allowed e ≡ true → EntryFits e
+pub entry-fits : (e : Option Holding) → entry_allowed e ≡ true → EntryFits e
     → ((holding_of e).seconds < 2 ^ 64) × ((holding_of e).nanoseconds < 2 ^ 32) × ((holding_of e).bytes < 2 ^ 32) × ((holding_of e).checksum < 2 ^ 32)
-entry-fits Unused h k = (lit< tt, lit< tt, lit< tt, lit< tt)
-entry-fits (Used w) h k =
+entry-fits None h k = (lit< tt, lit< tt, lit< tt, lit< tt)
+entry-fits (Some w) h k =
     let n : w.nanoseconds ≤ most_nanoseconds = leb-true w.nanoseconds most_nanoseconds (and_right (length_allowed w.bytes) (nanoseconds_allowed w.nanoseconds) h) in
     (k.0, omega arith, length-fits w.bytes (and_left (length_allowed w.bytes) (nanoseconds_allowed w.nanoseconds) h), k.1)
 
@@ -168,7 +166,7 @@ module _ (p u : List ℕ) (f : BlockFields) (hp : length p ≡ 32) (hu : length 
         and_left (entry_allowed f.b) (different_times f.a f.b)
         (and_right (entry_allowed f.a) (entry_allowed f.b && different_times f.a f.b) t.1.1.1.0)
 
-    read-entry : (at : ℕ) (e : Entry) → entry_allowed e ≡ true → EntryFits e
+    read-entry : (at : ℕ) (e : Option Holding) → entry_allowed e ≡ true → EntryFits e
         → window (block_of p u f) at 8 ≡ to_le 8 (holding_of e).seconds → window (block_of p u f) (at + 8) 4 ≡ to_le 4 (holding_of e).nanoseconds
         → window (block_of p u f) (at + 12) 4 ≡ to_le 4 (holding_of e).bytes → window (block_of p u f) (at + 16) 4 ≡ to_le 4 (holding_of e).checksum
         → entry_at (block_of p u f) at ≡ e
@@ -217,7 +215,7 @@ module _ (p u : List ℕ) (f : BlockFields) (hp : length p ≡ 32) (hu : length 
     )
 
     -- reading what was written
-    pub read_back : size_allowed f.device.sectors ≡ true → reading (block_of p u f) ≡ record { verdict = Accepted f; pool = p; blockdev = u }
+    pub read_back : size_allowed f.device.sectors ≡ true → reading (block_of p u f) ≡ Ok (record { fields = f; pool = p; blockdev = u })
     read_back h =
-        sym (accepted_reading_lem (block_of p u f) (first_all (read_tests (block_of p u f)) (read-tests h)))
+        accepted_reading_lem (block_of p u f) (first_all (read_tests (block_of p u f)) (read-tests h))
         ∙ rw (read-fields, field 4, field 5)

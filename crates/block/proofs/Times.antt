@@ -7,6 +7,10 @@ use native.Mathlib.Omega.{arith}
 use borrow.Author.Tests.{ltb-true, ltb-false, eqb-true, eqb-false, lt-ltb, le-ltb, eq-eqb, ne_eqb}
 use lib.Dec.{ltb, eqb}
 use Rattle.block.specs.declared.Time.{Time}
+use Rattle.std.specs.Ordering.{partial_lt, partial_ordering_then, is_some_and, is_lt}
+use Rattle.std.specs.declared.cmp.Ordering.TheVariants.{Less, Equal, Greater}
+use Rattle.std.proofs.Common.{Some, cond}
+use Rattle.block.specs.contracts.TimePartialOrd.TheImpl as TimePartialOrd
 use Rattle.block.specs.Entry.{later_than, same_time}
 
 -- u is before t, by seconds, then nanoseconds
@@ -125,3 +129,20 @@ same-not_later t u h =
     let s : (t.seconds ≡ u.seconds) × (t.nanoseconds ≡ u.nanoseconds) = same_facts t u h in
     let e : t.nanoseconds ≡ u.nanoseconds = s.1 in
     not_later_test u t (inr (sym s.0, omega arith))
+
+-- the derived comparisons, as callers cite them: u < t, and t == u
+pub later_derived : (t u : Time) → partial_lt TimePartialOrd.partial_cmp-value.it u t ≡ later_than t u
+unfolding later_than
+later_derived t u = go (ltb u.seconds t.seconds) (eqb u.seconds t.seconds) (ltb u.nanoseconds t.nanoseconds) (eqb u.nanoseconds t.nanoseconds)
+  where
+    go : (a b c d : Bool)
+        → is_some_and is_lt (partial_ordering_then (Some (cond a Less (cond b Equal Greater))) (Some (cond c Less (cond d Equal Greater)))) ≡ (a || (b && c))
+    go true b c d = refl
+    go false true true d = refl
+    go false true false true = refl
+    go false true false false = refl
+    go false false c d = refl
+
+pub same_derived : (t u : Time) → (eqb t.seconds u.seconds && eqb t.nanoseconds u.nanoseconds) ≡ same_time t u
+unfolding same_time
+same_derived t u = refl

@@ -1,10 +1,10 @@
 -- Laws of a block that is written: what is stored field by field is the table's bytes.
 use Prim.Native.Nat.{ℕ, ◌+◌}
 use mathlib.Core.Path.{◌≡◌, refl, sym, ap, ap₂, ◌∙◌}
-use mathlib.Core.Bool.{true, ◌&&◌}
+use mathlib.Core.Bool.{Bool, true, cond, ◌&&◌}
 use mathlib.Core.List.{List, [], ◌++◌, append_assoc, append-nil, flatten}
 use native.Mathlib.Omega.{arith}
-use borrow.Author.Tests.{eqb-true}
+use borrow.Author.Tests.{eqb-true, eq-eqb, ne_eqb}
 use lib.Dec.{eqb, lit<}
 use lib.ListN.{length, take, drop, length-append}
 use lib.Seq.{take_all, take_at, drop_at, drop-append-add}
@@ -14,7 +14,7 @@ use Rattle.endian.proofs.Parts.{splice-fits, length-splice}
 use Rattle.endian.proofs.Tests.{length-zeros, and_left, and_right, zeros-add}
 use Rattle.checksum.specs.Crc.{checksum}
 use Rattle.refusal.specs.Tests.{first, Ascending}
-use Rattle.refusal.proofs.Order.{first-zero, answer_no, answer-yes}
+use Rattle.refusal.proofs.Order.{first-zero}
 use Rattle.block.specs.declared.Holding.{Holding}
 use Rattle.block.specs.declared.BlockFields.{BlockFields}
 use Rattle.block.specs.Block.{signature_bytes}
@@ -118,14 +118,13 @@ length-block_of p u f hp hu =
     ∙ ap₂ ◌+◌ (length-to_le 4 (checksum (flatten (body_fields p u f)))) (length_body p u f hp hu)
 
 -- what a writer leaves, from its number
-pub written-refused : (out p u : List ℕ) (f : BlockFields) (n : ℕ) → n ≡ first (write_tests out p u f) → (n ≡ 0 → ⊥) → out ≡ written out p u f
+pub written-refused : (out p u : List ℕ) (f : BlockFields) → (first (write_tests out p u f) ≡ 0 → ⊥) → out ≡ written out p u f
 unfolding written
-written-refused out p u f n e h =
-    answer_no (block_of p u f) (λ (m : ℕ). out) n (first (write_tests out p u f)) e h
+written-refused out p u f h = ap (λ (b : Bool). cond b (block_of p u f) out) (sym (ne_eqb (first (write_tests out p u f)) 0 h))
 
 pub written-accepted : (out p u : List ℕ) (f : BlockFields) → first (write_tests out p u f) ≡ 0 → block_of p u f ≡ written out p u f
 unfolding written
-written-accepted out p u f e = answer-yes (block_of p u f) (λ (m : ℕ). out) (first (write_tests out p u f)) (first (write_tests out p u f)) refl e
+written-accepted out p u f e = ap (λ (b : Bool). cond b (block_of p u f) out) (sym (eq-eqb (first (write_tests out p u f)) 0 e))
 
 pub write-ascending : (out p u : List ℕ) (f : BlockFields) → Ascending 0 (write_tests out p u f)
 write-ascending out p u f = (lit< tt, (lit< tt, (lit< tt, (lit< tt, (lit< tt, (lit< tt, tt))))))
@@ -140,3 +139,9 @@ write_sizes out p u f e =
       eqb-true (length p) 32 (and_left (eqb (length p) 32) (eqb (length u) 32) k),
       eqb-true (length u) 32 (and_right (eqb (length p) 32) (eqb (length u) 32) k),
     )
+
+-- what an accepted write stores
+pub sealed_laid : (out p u : List ℕ) (f : BlockFields) → first (write_tests out p u f) ≡ 0 → sealed (body_laid (length out) p u f) ≡ block_of p u f
+sealed_laid out p u f z =
+    let sizes : (length out ≡ 512) × (length p ≡ 32) × (length u ≡ 32) = write_sizes out p u f z in
+    ap (λ (n : ℕ). sealed (body_laid n p u f)) sizes.0 ∙ sealed_body p u f sizes.1 sizes.2

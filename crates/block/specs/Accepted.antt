@@ -1,11 +1,10 @@
 -- Document 01's 'accepted' signature block, as a plain conjunction read off its table and limits, with no order of tests.
 -- The theorem `exactly` of `proofs/Demand.antt` says that reading accepts these blocks and no others.
-use Rattle.std.specs.Prelude.{ℕ, ◌%◌, ◌≤◌, ◌<◌, ◌≡◌, ◌⊎◌, List, length, get_or}
+use Rattle.std.specs.Prelude.{ℕ, ◌%◌, ◌≤◌, ◌<◌, ◌≡◌, ◌⊎◌, List, length, get_or, Option, Some, None}
 use Rattle.endian.specs.Bytes.{window, zeros}
 use Rattle.checksum.specs.Crc as Crc
 use Rattle.layout.specs.Limits.{record_limit, most_nanoseconds}
-use Rattle.block.specs.declared.Entry.{Entry}
-use Rattle.block.specs.declared.Entry.TheVariants.{Unused, Used}
+use Rattle.block.specs.declared.Holding.{Holding}
 use Rattle.block.specs.Block.{signature_bytes, number, pool_of, blockdev_of, entry_at}
 
 -- hex is 0-9 and a-f only
@@ -17,15 +16,15 @@ abbrev pub HexBytes : List ℕ → Type 0
 HexBytes s = (i : ℕ) → i < length s → Hex (get_or s i 0)
 
 -- used bytes of a used entry 1 to the record limit, nanoseconds at most 999,999,999
-abbrev pub Within : Entry → Type 0
-Within Unused = Unit {0}
-Within (Used h) = (1 ≤ h.bytes) × (h.bytes ≤ record_limit) × (h.nanoseconds ≤ most_nanoseconds)
+abbrev pub Within : Option Holding → Type 0
+Within None = Unit {0}
+Within (Some h) = (1 ≤ h.bytes) × (h.bytes ≤ record_limit) × (h.nanoseconds ≤ most_nanoseconds)
 
 -- two used entries have different times
-abbrev pub Apart : Entry → Entry → Type 0
-Apart Unused e = Unit {0}
-Apart (Used h) Unused = Unit {0}
-Apart (Used h) (Used k) = h.seconds ≡ k.seconds → h.nanoseconds ≡ k.nanoseconds → ⊥
+abbrev pub Apart : Option Holding → Option Holding → Type 0
+Apart None e = Unit {0}
+Apart (Some h) None = Unit {0}
+Apart (Some h) (Some k) = h.seconds ≡ k.seconds → h.nanoseconds ≡ k.nanoseconds → ⊥
 
 pub record Accepted (b : List ℕ) : Type 0 where
   pub size : length b ≡ 512

@@ -1,8 +1,8 @@
--- The numbers of an answer: the refusal number, 0 for none, and the values of each case.
-use Rattle.std.specs.Prelude.{ℕ, List, [], ◌∷◌}
+-- The values of an answer; its refusal number is `number_in` of it (`refusal`, Reasons).
+use Rattle.std.specs.Prelude.{ℕ, List, [], ◌∷◌, Result, Ok, Err}
+use Rattle.refusal.specs.declared.Reason.{Reason}
 use Rattle.block.specs.declared.BlockFields.{BlockFields}
-use Rattle.block.specs.declared.Verdict.{Verdict}
-use Rattle.block.specs.declared.Verdict.TheVariants.{Accepted, Refused}
+use Rattle.block.specs.declared.Reading.{Reading}
 use Rattle.block.specs.Writing.{holding_of}
 
 -- the numbers of a block: S, L, R, then the four of each entry
@@ -22,10 +22,6 @@ block_numbers x =
     ∷ []
 
 -- what `read` says of a block
-abbrev pub verdict_number : Verdict → ℕ
-verdict_number (Accepted x) = 0
-verdict_number (Refused n) = n
-
-abbrev pub verdict_values : Verdict → List ℕ
-verdict_values (Accepted x) = block_numbers x
-verdict_values (Refused n) = []
+abbrev pub reading_values : Result Reading Reason → List ℕ
+reading_values (Ok r) = block_numbers r.fields
+reading_values (Err e) = []

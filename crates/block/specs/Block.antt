@@ -1,15 +1,16 @@
 -- The signature block, read: the table of docs/FORMAT.md, 'Signature block', limits and refusals 1 to 9.
-use Rattle.std.specs.Prelude.{ℕ, ◌+◌, Bool, cond, ◌&&◌, ◌||◌, List, [], ◌∷◌, leb, eqb, length}
-use Rattle.endian.specs.Bytes.{le, window, same, all_pass, zeros}
+use Rattle.std.specs.Prelude.{ℕ, ◌+◌, Bool, ◌&&◌, ◌||◌, List, [], ◌∷◌, leb, eqb, length, Option, Result}
+use Rattle.endian.specs.Bytes.{le, window, splice, same, all_pass, zeros}
 use Rattle.checksum.specs.Crc.{checksum}
 use Rattle.refusal.specs.Numbers.{slice_size, signature, block_checksum, device_size, not_zero, uuid_byte, metadata_size, reserved_size, area_entry}
+use Rattle.refusal.specs.declared.Reason.{Reason}
+use Rattle.refusal.specs.Reasons.{answer}
 use Rattle.refusal.specs.Tests.{Test, ◌else_refuse◌, first}
 use Rattle.layout.specs.declared.Device.{Device}
 use Rattle.layout.specs.Limits.{size_allowed, metadata_allowed, reserved_allowed, sector_bytes}
-use Rattle.block.specs.declared.Entry.{Entry}
+use Rattle.block.specs.declared.Holding.{Holding}
 use Rattle.block.specs.declared.BlockFields.{BlockFields}
 use Rattle.block.specs.declared.Reading.{Reading}
-use Rattle.block.specs.declared.Verdict.TheVariants.{Accepted, Refused}
 use Rattle.block.specs.Entry.{entry_of, entries_allowed}
 
 -- offset 4, 16 bytes
@@ -33,8 +34,12 @@ pool_of b = window b 32 32
 abbrev pub blockdev_of : List ℕ → List ℕ
 blockdev_of b = window b 64 32
 
+-- a UUID of a block: 32 bytes, with zeros where a block is cut short
+unfoldable pub uuid_from : List ℕ → List ℕ
+uuid_from u = splice (zeros 32) 0 u
+
 -- 8, 4, 4, 4 bytes: seconds, nanoseconds, used bytes, CRC32 of the used bytes
-abbrev pub entry_at : List ℕ → ℕ → Entry
+abbrev pub entry_at : List ℕ → ℕ → Option Holding
 entry_at b at = entry_of (number b at 8) (number b (at + 8) 4) (number b (at + 12) 4) (number b (at + 16) 4)
 
 -- offset 96: area a; offset 128: area b
@@ -79,13 +84,10 @@ read_tests b =
     ∷ (zero_fields b else_refuse not_zero)
     ∷ limit_tests (pool_of b) (blockdev_of b) (fields_of b)
 
--- a refusal: its number, zero in every other field
-abbrev pub refused_reading : ℕ → Reading
-refused_reading n = record { verdict = Refused n; pool = zeros 32; blockdev = zeros 32 }
-
+-- what reading an accepted block answers
 abbrev pub accepted_reading : List ℕ → Reading
-accepted_reading b = record { verdict = Accepted (fields_of b); pool = pool_of b; blockdev = blockdev_of b }
+accepted_reading b = record { fields = fields_of b; pool = pool_of b; blockdev = blockdev_of b }
 
 -- what `read` answers: the lowest of 1 to 9 that applies, or the block's fields
-unfoldable pub reading : List ℕ → Reading
-reading b = cond (eqb (first (read_tests b)) 0) (accepted_reading b) (refused_reading (first (read_tests b)))
+unfoldable pub reading : List ℕ → Result Reading Reason
+reading b = answer (first (read_tests b)) (accepted_reading b)

@@ -1,19 +1,19 @@
 -- Demand 2, first half, as statements about what `read` and `write` answer; acceptance by the refusals' conditions, the test of zero fields and the
 -- order of times, by what they mean.
 -- `Offsets` is proved in `proofs/Offsets.antt`, `ZeroMeaning` in `proofs/Applying.antt`, the others in `proofs/Demand.antt`.
-use Rattle.std.specs.Prelude.{ℕ, ◌+◌, ◌*◌, ◌%◌, ◌^◌, ◌≤◌, ◌<◌, ◌≡◌, ◌⊎◌, ◌↔◌, true, List, [], ◌∷◌, length, get_or, take, drop}
+use Rattle.std.specs.Prelude.{ℕ, ◌+◌, ◌*◌, ◌%◌, ◌^◌, ◌≤◌, ◌<◌, ◌≡◌, ◌⊎◌, ◌↔◌, true, List, [], ◌∷◌, length, get_or, take, drop, Option, Some, None, Result, Ok, Err}
 use Rattle.layout.specs.Limits.{most_nanoseconds}
 use Rattle.endian.specs.Bytes.{Bytes, le, window}
 use Rattle.checksum.specs.Crc as Crc
+use Rattle.refusal.specs.declared.Reason.{Reason}
+use Rattle.refusal.specs.Reasons.{refusal_of}
 use Rattle.refusal.specs.Tests.{first}
+use Rattle.block.specs.declared.Holding.{Holding}
 use Rattle.block.specs.declared.Time.{Time}
-use Rattle.block.specs.declared.Entry.{Entry}
-use Rattle.block.specs.declared.Entry.TheVariants.{Unused, Used}
 use Rattle.block.specs.declared.BlockFields.{BlockFields}
 use Rattle.block.specs.declared.Reading.{Reading}
-use Rattle.block.specs.declared.Verdict.TheVariants as Verdict
 use Rattle.block.specs.Entry.{later_than}
-use Rattle.block.specs.Block.{signature_bytes, number, pool_of, blockdev_of, entry_at, fields_of, all_zero, reading, accepted_reading, refused_reading}
+use Rattle.block.specs.Block.{signature_bytes, number, pool_of, blockdev_of, entry_at, fields_of, all_zero, reading, accepted_reading}
 use Rattle.block.specs.Accepted.{HexBytes, Within, Apart, Accepted}
 use Rattle.block.specs.Writing.{holding_of, write_tests, written}
 
@@ -21,32 +21,32 @@ use Rattle.block.specs.Writing.{holding_of, write_tests, written}
 abbrev pub Exactly : Type 0
 Exactly =
     (b : List ℕ)
-    → (Accepted b → reading b ≡ accepted_reading b)
-    × ((f : BlockFields) → (reading b).verdict ≡ Verdict.Accepted f → Accepted b)
+    → (Accepted b → reading b ≡ Ok (accepted_reading b))
+    × ((r : Reading) → reading b ≡ Ok r → Accepted b)
 
--- What r says of the block b, by the offsets and sizes of the table.
-pub record ByOffset (b : List ℕ) (r : Reading) : Type 0 where
+-- What the answer a says of the block b, by the offsets and sizes of the table.
+pub record ByOffset (b : List ℕ) (a : Result Reading Reason) : Type 0 where
   pub signature : take 16 (drop 4 b) ≡ 33 ∷ 83 ∷ 116 ∷ 114 ∷ 97 ∷ 48 ∷ 116 ∷ 105 ∷ 115 ∷ 134 ∷ 255 ∷ 2 ∷ 94 ∷ 65 ∷ 114 ∷ 104 ∷ []
-  pub pool : r.pool ≡ take 32 (drop 32 b)
-  pub blockdev : r.blockdev ≡ take 32 (drop 64 b)
+  pub said : Reading
+  pub accepted : a ≡ Ok said
+  pub pool : said.pool ≡ take 32 (drop 32 b)
+  pub blockdev : said.blockdev ≡ take 32 (drop 64 b)
   -- the n bytes at an offset, as a number
   pub numbers : (at n : ℕ) → number b at n ≡ le (take n (drop at b))
-  pub fields : BlockFields
-  pub accepted : r.verdict ≡ Verdict.Accepted fields
   -- S, L, R
-  pub sectors : fields.device.sectors ≡ number b 20 8
-  pub metadata : fields.device.metadata ≡ number b 160 4
-  pub reserved : fields.device.reserved ≡ number b 164 4
+  pub sectors : said.fields.device.sectors ≡ number b 20 8
+  pub metadata : said.fields.device.metadata ≡ number b 160 4
+  pub reserved : said.fields.device.reserved ≡ number b 164 4
   -- area a: seconds, nanoseconds, used bytes, CRC32; of an unused entry all zero
-  pub a_seconds : (holding_of fields.a).seconds ≡ number b 96 8
-  pub a_nanoseconds : (holding_of fields.a).nanoseconds ≡ number b 104 4
-  pub a_bytes : (holding_of fields.a).bytes ≡ number b 108 4
-  pub a_checksum : (holding_of fields.a).checksum ≡ number b 112 4
+  pub a_seconds : (holding_of said.fields.a).seconds ≡ number b 96 8
+  pub a_nanoseconds : (holding_of said.fields.a).nanoseconds ≡ number b 104 4
+  pub a_bytes : (holding_of said.fields.a).bytes ≡ number b 108 4
+  pub a_checksum : (holding_of said.fields.a).checksum ≡ number b 112 4
   -- area b
-  pub b_seconds : (holding_of fields.b).seconds ≡ number b 128 8
-  pub b_nanoseconds : (holding_of fields.b).nanoseconds ≡ number b 136 4
-  pub b_bytes : (holding_of fields.b).bytes ≡ number b 140 4
-  pub b_checksum : (holding_of fields.b).checksum ≡ number b 144 4
+  pub b_seconds : (holding_of said.fields.b).seconds ≡ number b 128 8
+  pub b_nanoseconds : (holding_of said.fields.b).nanoseconds ≡ number b 136 4
+  pub b_bytes : (holding_of said.fields.b).bytes ≡ number b 140 4
+  pub b_checksum : (holding_of said.fields.b).checksum ≡ number b 144 4
 
 -- Each field of an accepted block is read from its place.
 abbrev pub Offsets : Type 0
@@ -93,12 +93,11 @@ Applies b n =
 abbrev pub NoneApplies : Type 0
 NoneApplies = (b : List ℕ) → (Accepted b ↔ ((length b ≡ 512) × ((n : ℕ) → 2 ≤ n → ¬ Applies b n)))
 
--- A block is refused with n exactly when that condition holds and none with a lower number does; there is zero in every other field.
+-- A block is refused with a reason exactly when the condition of its number holds and none with a lower number does.
 abbrev pub Lowest : Type 0
 Lowest =
-    (b : List ℕ) (n : ℕ)
-    → ((reading b).verdict ≡ Verdict.Refused n ↔ (Applies b n × ((k : ℕ) → Applies b k → n ≤ k)))
-    × ((reading b).verdict ≡ Verdict.Refused n → reading b ≡ refused_reading n)
+    (b : List ℕ) (r : Reason)
+    → (reading b ≡ Err r ↔ (Applies b (refusal_of r).number × ((k : ℕ) → Applies b k → (refusal_of r).number ≤ k)))
 
 -- Writing what was read gives the same 512 bytes.
 abbrev pub WriteAfterRead : Type 0
@@ -107,16 +106,16 @@ WriteAfterRead =
     → (first (write_tests out (pool_of b) (blockdev_of b) (fields_of b)) ≡ 0) × (written out (pool_of b) (blockdev_of b) (fields_of b) ≡ b)
 
 -- numbers as the machine's types have them, where no limit of the format is narrower
-abbrev pub EntryFits : Entry → Type 0
-EntryFits Unused = Unit {0}
-EntryFits (Used h) = (h.seconds < 2 ^ 64) × (h.checksum < 2 ^ 32)
+abbrev pub EntryFits : Option Holding → Type 0
+EntryFits None = Unit {0}
+EntryFits (Some h) = (h.seconds < 2 ^ 64) × (h.checksum < 2 ^ 32)
 
 -- Reading what was written gives the same fields.
 abbrev pub ReadAfterWrite : Type 0
 ReadAfterWrite =
     (out p u : List ℕ) (f : BlockFields) → f.device.sectors < 2 ^ 64 → EntryFits f.a → EntryFits f.b
     → first (write_tests out p u f) ≡ 0
-    → reading (written out p u f) ≡ record { verdict = Verdict.Accepted f; pool = p; blockdev = u }
+    → reading (written out p u f) ≡ Ok (record { fields = f; pool = p; blockdev = u })
 
 -- a time in nanoseconds
 abbrev pub nanoseconds_in : Time → ℕ

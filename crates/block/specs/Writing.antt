@@ -1,5 +1,5 @@
 -- The signature block, written: the table of docs/FORMAT.md, 'Signature block', in its order, and the refusals of a writer.
-use Rattle.std.specs.Prelude.{ℕ, cond, ◌&&◌, eqb, length}
+use Rattle.std.specs.Prelude.{ℕ, cond, ◌&&◌, eqb, length, Option, Some, None}
 use mathlib.Core.List.{List, [], ◌∷◌, ◌++◌, flatten}
 use Rattle.endian.specs.Bytes.{to_le, window, splice, zeros}
 use Rattle.checksum.specs.Crc.{checksum}
@@ -7,15 +7,13 @@ use Rattle.refusal.specs.Numbers.{slice_size, device_size}
 use Rattle.refusal.specs.Tests.{Test, ◌else_refuse◌, first}
 use Rattle.layout.specs.Limits.{size_allowed, sector_bytes}
 use Rattle.block.specs.declared.Holding.{Holding}
-use Rattle.block.specs.declared.Entry.{Entry}
-use Rattle.block.specs.declared.Entry.TheVariants.{Unused, Used}
 use Rattle.block.specs.declared.BlockFields.{BlockFields}
 use Rattle.block.specs.Block.{signature_bytes, limit_tests}
 
 -- the four numbers of an entry; of an unused one all zero
-abbrev pub holding_of : Entry → Holding
-holding_of Unused = record { seconds = 0; nanoseconds = 0; bytes = 0; checksum = 0 }
-holding_of (Used h) = h
+abbrev pub holding_of : Option Holding → Holding
+holding_of None = record { seconds = 0; nanoseconds = 0; bytes = 0; checksum = 0 }
+holding_of (Some h) = h
 
 -- bytes 4 to 511, field by field, as the table has them
 abbrev pub body_fields : List ℕ → List ℕ → BlockFields → List (List ℕ)

@@ -9,17 +9,18 @@
 ghost use Rattle.std.specs.Prelude.{◌≤◌, ◌<◌, length};
 ghost use Rattle.sampling.specs.Laying.{input_bytes};
 
-use block::{BlockFields, Entry, Holding, Verdict};
-use layout::{Device, DeviceMap, Located};
+use block::{Holding, Reading};
+use layout::{CopyMap, Device, DeviceMap};
+use refusal::{Reason, Refusal};
 use sampling::{number, print, refusal, say, short_hex};
 use text::Text;
 
 // The most bytes of a sample.
 const SAMPLE_LIMIT: usize = 4096;
 
-// Prints a refusal's number and ends the line.
-fn refused(n: u8) {
-    print(refusal(refusal::plain(n)));
+// Prints a refusal and ends the line.
+fn refused(r: Reason) {
+    print(refusal(Refusal::from(r)));
     say(b"\n");
 }
 
@@ -35,58 +36,50 @@ fn holding(h: Holding) {
 }
 
 // Prints an area entry.
-fn entry(e: Entry) {
+fn entry(e: Option<Holding>) {
     match e {
-        Entry::Unused => {
+        None => {
             say(b" -");
         }
-        Entry::Used(h) => holding(h),
+        Some(h) => holding(h),
     }
 }
 
 // Prints the device's three numbers.
 fn device(d: Device) {
-    print(number(d.sectors));
-    print(number(d.metadata as u64));
-    print(number(d.reserved as u64));
+    for n in [d.sectors, d.metadata as u64, d.reserved as u64] {
+        print(number(n));
+    }
 }
 
-// Whether a block that is written from these fields, over bytes 0xEE, is s.
-fn same_again(s: &[u8], pool: &[u8], blockdev: &[u8], f: BlockFields) -> bool {
+// Whether a block that is written from what was read, over bytes 0xEE, is s.
+fn written_again(s: &[u8], r: &Reading) -> bool {
     let mut out = [0xEEu8; layout::SECTOR_BYTES];
-    let n = block::write(&mut out, pool, blockdev, f);
-    (n == 0) & endian::same(s, &out)
+    block::write(&mut out, &r.pool, &r.blockdev, r.fields).is_ok() & (s == out.as_slice())
 }
 
 // Prints the line of an accepted block.
-fn accepted(s: &[u8], pool: &[u8], blockdev: &[u8], f: BlockFields) {
-    let d = f.device;
-    let a = f.a;
-    let b = f.b;
+fn accepted(s: &[u8], r: &Reading) {
     say(b"accepted");
-    device(d);
+    device(r.fields.device);
     say(b" ");
-    say(pool);
+    say(&r.pool);
     say(b" ");
-    say(blockdev);
-    entry(a);
-    entry(b);
-    if same_again(s, pool, blockdev, f) {
-        say(b" same\n");
+    say(&r.blockdev);
+    entry(r.fields.a);
+    entry(r.fields.b);
+    say(if written_again(s, r) {
+        b" same\n"
     } else {
-        say(b" DIFFERENT\n");
-    }
+        b" DIFFERENT\n"
+    });
 }
 
 // Prints the line of a sample.
 fn judge(s: &[u8]) {
-    let r = block::read(s);
-    let pool = r.pool;
-    let blockdev = r.blockdev;
-    let v = r.verdict;
-    match v {
-        Verdict::Accepted(f) => accepted(s, &pool, &blockdev, f),
-        Verdict::Refused(n) => refused(n),
+    match block::read(s) {
+        Ok(r) => accepted(s, &r),
+        Err(r) => refused(r),
     }
 }
 
@@ -107,28 +100,25 @@ fn samples(s: &[u8])
     requires { length s.now ≤ input_bytes }
 {
     let mut at = 0;
+    // A `while` in each program: a sample says where the next one begins, and a shared function over a closure would have a `requires`.
     while at < s.len() {
         at = sample(s, at);
     }
 }
 
 // Prints the first sectors of a copy's parts.
-fn copy(c: layout::CopyMap) {
-    print(number(c.header));
-    print(number(c.block));
-    print(number(c.a));
-    print(number(c.b));
-    print(number(c.reserved));
+fn copy_places(c: CopyMap) {
+    for n in [c.header, c.block, c.a, c.b, c.reserved] {
+        print(number(n));
+    }
 }
 
 // Prints both copies' places and the data range.
 fn print_map(p: DeviceMap) {
-    let front = p.front;
-    let back = p.back;
     say(b"front");
-    copy(front);
+    copy_places(p.front);
     say(b" back");
-    copy(back);
+    copy_places(p.back);
     say(b" data");
     print(number(p.start));
     print(number(p.end));
@@ -145,10 +135,9 @@ fn places(sectors: u64, metadata: u32, reserved: u32) {
     say(b"places");
     device(d);
     say(b" ");
-    let p = layout::locate(d);
-    match p {
-        Located::At(q) => print_map(q),
-        Located::Refused(n) => refused(n),
+    match layout::locate(d) {
+        Ok(p) => print_map(p),
+        Err(r) => refused(r),
     }
 }
 
@@ -169,26 +158,21 @@ fn words(n: u8) {
     print(Text::new().decimal(n as u64));
     say(b" ");
     let w = refusal::words_of(n);
-    let bytes = w.bytes;
-    say(endian::window(&bytes, 0, w.used));
+    say(endian::window(&w.bytes, 0, w.used));
     say(b"\n");
 }
 
 // Prints the lines of the refusal numbers, and of some that the table does not have.
 fn all_words() {
-    let mut n: u8 = 0;
-    while n <= 30 {
+    for n in 0..=30 {
         words(n);
-        n += 1;
     }
     words(255);
 }
 
 fn main() {
     let input = sampling::fetch();
-    let bytes = input.bytes;
-    let n = input.used;
-    samples(&bytes[..n]);
+    samples(&input.bytes[..input.used]);
     devices();
     all_words();
 }

@@ -1,4 +1,5 @@
 -- Where a day falls, as the function that finds its date has it: results as variables, each with what its call promised.
+use Rattle.std.proofs.Common.{Some, None}
 use Prim.Native.Nat.{ℕ, ◌/◌, ◌%◌, ◌≤◌, ◌<◌}
 use mathlib.Core.Path.{◌≡◌, ap, ◌∙◌}
 use mathlib.Core.Bool.{Bool, true, false, cond, ◌||◌}
@@ -6,7 +7,6 @@ use native.Mathlib.Omega.{arith}
 use borrow.Author.Tests.{lt-ltb, le-ltb}
 use lib.Dec.{eqb, lit≤}
 use Rattle.calendar.specs.declared.Place.{Place}
-use Rattle.calendar.specs.declared.Dated.TheVariants.{At, Beyond}
 use Rattle.calendar.specs.Calendar.{all_days, all_seconds, leap, year_length, month_in, month_length, year_of, month_of, dated, date_of}
 use Rattle.calendar.proofs.Walks.{all_years, all_months, Falls, falls}
 
@@ -37,11 +37,11 @@ month_place y m h e =
     let s : month_length y.at (month_of y).at ≤ 31 = month_short (leap y.at) (month_of y).at in
     (r.high, omega arith))
 
-pub past : (s : ℕ) → all_seconds ≤ s → Beyond ≡ date_of s
+pub past : (s : ℕ) → all_seconds ≤ s → None ≡ date_of s
 unfolding date_of
 past s h = rw (le-ltb s all_seconds h)
 
-pub date : (s : ℕ) (y m : Place) → s < all_seconds → y ≡ year_of (s / 86400) → m ≡ month_of y → At (dated y m (s % 86400)) ≡ date_of s
+pub date : (s : ℕ) (y m : Place) → s < all_seconds → y ≡ year_of (s / 86400) → m ≡ month_of y → Some (dated y m (s % 86400)) ≡ date_of s
 unfolding date_of
 date s y m h e f =
-    rw (lt-ltb s all_seconds h) (ap (λ (z : Place). At (dated y z (s % 86400))) f ∙ ap (λ (z : Place). At (dated z (month_of z) (s % 86400))) e)
+    rw (lt-ltb s all_seconds h) (ap (λ (z : Place). Some (dated y z (s % 86400))) f ∙ ap (λ (z : Place). Some (dated z (month_of z) (s % 86400))) e)

@@ -1,4 +1,5 @@
 -- What a date means, proved.
+use Rattle.std.proofs.Common.{Some, None}
 use Prim.Native.Nat.{ℕ, ◌+◌, ◌-◌, ◌*◌, ◌/◌, ◌%◌, ◌≤◌, ◌<◌}
 use mathlib.Core.Path.{◌≡◌, refl, sym, ap, subst, ◌∙◌}
 use mathlib.Core.Bool.{Bool, true, false, cond}
@@ -7,7 +8,6 @@ use native.Mathlib.Omega.{arith}
 use borrow.Author.Tests.{ltb-true}
 use lib.Dec.{ltb}
 use Rattle.calendar.specs.declared.Date.{Date}
-use Rattle.calendar.specs.declared.Dated.TheVariants.{At, Beyond}
 use Rattle.calendar.specs.declared.Place.{Place}
 use Rattle.calendar.specs.Calendar.{all_days, all_seconds, leap, year_length, month_in, month_length, sum, walk, year_of, month_of, dated, date_of}
 use Rattle.calendar.specs.Demand.{Valid, day_number, seconds_of, Meaning, Every, Past, Anchors}
@@ -15,7 +15,7 @@ use Rattle.calendar.proofs.Walks.{all_years, all_months, Falls, found, falls_bel
 use Rattle.calendar.proofs.Dates.{year_falls, month_falls, past, date}
 
 -- a choice that gives a date was for the first
-chosen : (b : Bool) (x d : Date) → cond b (At x) Beyond ≡ At d → (b ≡ true) × (x ≡ d)
+chosen : (b : Bool) (x d : Date) → cond b (Some x) None ≡ Some d → (b ≡ true) × (x ≡ d)
 chosen true x d e = (refl, cc)
 chosen false x d e = absurd (let z : ◌≡◌ {A = ℕ} 0 1 = cc in omega arith)
 
@@ -111,17 +111,17 @@ every d v =
     sym (ap year_of (days_of (day_number d) d.hour d.minute d.second h m s) ∙ found year_length 8030 1970 (day_number d) (in_year d) (in_year_lem d v)) in
     let p : in_month d ≡ month_of (in_year d) = sym (found (month_length d.year) 12 1 (day_of_year d) (in_month d) (in_month_lem d v)) in
     sym (date (seconds_of d) (in_year d) (in_month d) (omega arith) y p)
-    ∙ ap At
+    ∙ ap Some
     (same_date d _ _ _ _ _ _ refl refl (let w : 1 ≤ d.day = v.day_low in omega arith) (hour_of (day_number d) d.hour d.minute d.second h m s) (minute_of (day_number d) d.hour d.minute d.second h m s) (second_of (day_number d) d.hour d.minute d.second h m s))
 
 -- a date is not past the end
-not_past : (s : ℕ) → date_of s ≡ Beyond → all_seconds ≤ s
+not_past : (s : ℕ) → date_of s ≡ None → all_seconds ≤ s
 not_past s e =
     elim (dec_le all_seconds s) [
       | yes l ↦ l
       | no l ↦
           absurd
-          (let q : At (dated (year_of (s / 86400)) (month_of (year_of (s / 86400))) (s % 86400)) ≡ Beyond =
+          (let q : Some (dated (year_of (s / 86400)) (month_of (year_of (s / 86400))) (s % 86400)) ≡ None =
           date s (year_of (s / 86400)) (month_of (year_of (s / 86400))) (omega arith) refl refl ∙ e in
           let z : ◌≡◌ {A = ℕ} 0 1 = cc in
           omega arith)

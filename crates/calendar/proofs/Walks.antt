@@ -31,11 +31,6 @@ module _ (f : ℕ → ℕ) where
   unfolding sum
   sum-none i = refl
 
-  sum-some : (i k n : ℕ) → n < sum f i k → 0 < k
-  unfolding sum
-  sum-some i zero n h = omega arith
-  sum-some i (suc k) n h = omega arith
-
   walk_more : (k i n : ℕ) → f i ≤ n → walk f (suc k) i n ≡ walk f k (i + 1) (n - f i)
   unfolding walk
   walk_more k i n h = rw (le-ltb n (f i) h)
@@ -45,22 +40,19 @@ module _ (f : ℕ → ℕ) where
   walk_stop zero i n h = refl
   walk_stop (suc k) i n h = rw (lt-ltb n (f i) h)
 
-  -- As a loop has it at place i of those before e, whose length was asked for twice: one place more, and the end.
-  pub turn : (e i n t l : ℕ) (w : Place) → i < e → n < sum f i (e - i) → walk f (e - i) i n ≡ w → t ≡ f i → t ≤ n → l ≡ f i
-      → (i + 1 < e) × (n - l < sum f (i + 1) (e - (i + 1))) × (walk f (e - (i + 1)) (i + 1) (n - l) ≡ w)
-  turn e i n t l w h b q x m y =
+  -- As a loop has it at place i of those before e, whose length is t: one place more, a place that stops it, and the end.
+  pub turn : (e i n t : ℕ) (w : Place) → i < e → walk f (e - i) i n ≡ w → t ≡ f i → t ≤ n → walk f (e - (i + 1)) (i + 1) (n - t) ≡ w
+  turn e i n t w h q x m =
       let k : e - i ≡ suc (e - (i + 1)) = omega arith in
-      let s : sum f i (e - i) ≡ f i + sum f (i + 1) (e - (i + 1)) = ap (sum f i) k ∙ sum_more i (e - (i + 1)) in
-      let r : n - l < sum f (i + 1) (e - (i + 1)) = omega arith in
-      let p : 0 < e - (i + 1) = sum-some (i + 1) (e - (i + 1)) (n - l) r in (
-        omega arith,
-        r,
-        ap (λ (z : ℕ). walk f (e - (i + 1)) (i + 1) (n - z)) y
-            ∙ (sym (ap (λ (z : ℕ). walk f z i n) k ∙ walk_more (e - (i + 1)) i n (omega arith)) ∙ q),
-      )
+      ap (λ (z : ℕ). walk f (e - (i + 1)) (i + 1) (n - z)) x
+      ∙ (sym (ap (λ (z : ℕ). walk f z i n) k ∙ walk_more (e - (i + 1)) i n (omega arith)) ∙ q)
 
   pub stop : (e i n t : ℕ) (w : Place) → walk f (e - i) i n ≡ w → t ≡ f i → n < t → record { at = i; rest = n } ≡ w
   stop e i n t w q x h = sym (walk_stop (e - i) i n (omega arith)) ∙ q
+
+  pub end : (e i n : ℕ) (w : Place) → i ≡ e → walk f (e - i) i n ≡ w → record { at = e; rest = n } ≡ w
+  unfolding walk
+  end e i n w h q = let z : e - i ≡ 0 = omega arith in ap (λ (a : ℕ). record { at = a; rest = n }) (sym h) ∙ (sym (ap (λ (k : ℕ). walk f k i n) z) ∙ q)
 
   -- day n falls in w, one of the k places from i on
   pub record Falls (i k n : ℕ) (w : Place) : Type 0 where

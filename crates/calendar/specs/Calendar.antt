@@ -1,8 +1,6 @@
 -- The date of a number of seconds since 1970-01-01 00:00:00 UTC, by the Gregorian calendar. A day has 86,400 seconds.
-use Rattle.std.specs.Prelude.{ℕ, zero, suc, ◌+◌, ◌-◌, ◌/◌, ◌%◌, Bool, cond, not, ◌&&◌, ◌||◌, ltb, eqb}
+use Rattle.std.specs.Prelude.{Some, None, Option, ℕ, zero, suc, ◌+◌, ◌-◌, ◌/◌, ◌%◌, Bool, cond, not, ◌&&◌, ◌||◌, ltb, eqb}
 use Rattle.calendar.specs.declared.Date.{Date}
-use Rattle.calendar.specs.declared.Dated.{Dated}
-use Rattle.calendar.specs.declared.Dated.TheVariants.{At, Beyond}
 use Rattle.calendar.specs.declared.Place.{Place}
 
 -- a leap year: every fourth, but of the hundreds only every fourth
@@ -51,6 +49,6 @@ dated y m t =
     record { year = y.at; month = m.at; day = m.rest + 1; hour = t / 3600; minute = t % 3600 / 60; second = t % 60 }
 
 -- the date of a number of seconds
-unfoldable pub date_of : ℕ → Dated
+unfoldable pub date_of : ℕ → Option Date
 date_of s =
-    cond (ltb s all_seconds) (At (dated (year_of (s / 86400)) (month_of (year_of (s / 86400))) (s % 86400))) Beyond
+    cond (ltb s all_seconds) (Some (dated (year_of (s / 86400)) (month_of (year_of (s / 86400))) (s % 86400))) None

@@ -1,8 +1,7 @@
 -- What a date means: the day number of a civil date, that a date is found for each second and each date found, and some
 -- dates by themselves. `proofs/Demand.antt` proves it.
-use Rattle.std.specs.Prelude.{ℕ, ◌+◌, ◌-◌, ◌*◌, ◌≤◌, ◌<◌, ◌≡◌, [], ◌∷◌, map}
+use Rattle.std.specs.Prelude.{Some, None, ℕ, ◌+◌, ◌-◌, ◌*◌, ◌≤◌, ◌<◌, ◌≡◌, [], ◌∷◌, map}
 use Rattle.calendar.specs.declared.Date.{Date}
-use Rattle.calendar.specs.declared.Dated.TheVariants.{At, Beyond}
 use Rattle.calendar.specs.Calendar.{year_length, month_length, sum, date_of}
 
 -- a date that there is, from 1970 to 9999
@@ -27,21 +26,21 @@ seconds_of d = day_number d * 86400 + d.hour * 3600 + d.minute * 60 + d.second
 
 -- The date of a number of seconds is one that there is, with so many seconds before it.
 abbrev pub Meaning : Type 0
-Meaning = (s : ℕ) (d : Date) → date_of s ≡ At d → Valid d × (seconds_of d ≡ s)
+Meaning = (s : ℕ) (d : Date) → date_of s ≡ Some d → Valid d × (seconds_of d ≡ s)
 
 -- Every date from 1970 to 9999 is the date of its seconds, so that no two have the same.
 abbrev pub Every : Type 0
-Every = (d : Date) → Valid d → date_of (seconds_of d) ≡ At d
+Every = (d : Date) → Valid d → date_of (seconds_of d) ≡ Some d
 
 -- Past the year 9999, and only there, there is none: its years have as many days.
 abbrev pub Past : Type 0
 Past =
-    ((s : ℕ) → sum year_length 1970 8030 * 86400 ≤ s → date_of s ≡ Beyond)
-    × ((s : ℕ) → date_of s ≡ Beyond → sum year_length 1970 8030 * 86400 ≤ s)
+    ((s : ℕ) → sum year_length 1970 8030 * 86400 ≤ s → date_of s ≡ None)
+    × ((s : ℕ) → date_of s ≡ None → sum year_length 1970 8030 * 86400 ≤ s)
 
 -- the date and time of a number of seconds
 abbrev pub Shows : ℕ → ℕ → ℕ → ℕ → ℕ → ℕ → ℕ → Type 0
-Shows s y mo d h mi se = date_of s ≡ At (record { year = y; month = mo; day = d; hour = h; minute = mi; second = se })
+Shows s y mo d h mi se = date_of s ≡ Some (record { year = y; month = mo; day = d; hour = h; minute = mi; second = se })
 
 -- Dates that are known without any rule of the calendar.
 pub record Anchors : Type 0 where
@@ -62,4 +61,4 @@ pub record Anchors : Type 0 where
       ≡ 31 ∷ 28 ∷ 31 ∷ 30 ∷ 31 ∷ 30 ∷ 31 ∷ 31 ∷ 30 ∷ 31 ∷ 30 ∷ 31 ∷ []
   -- the last second of all, and the next
   pub final : Shows 253402300799 9999 12 31 23 59 59
-  pub past : date_of 253402300800 ≡ Beyond
+  pub past : date_of 253402300800 ≡ None

@@ -2,8 +2,8 @@
 // Every public call is total.
 #![tactic(auto)]
 
-ghost use Rattle.std.specs.Prelude.{◌≡◌, ◌<◌};
-ghost use Rattle.calendar.specs.Calendar.{all_days, leap, year_length, month_length, walk, date_of};
+ghost use Rattle.std.specs.Prelude.{◌≡◌, ℕ, ◌-◌, ◌≤◌};
+ghost use Rattle.calendar.specs.Calendar.{leap, year_length, month_length, walk, date_of};
 
 // A date and the time of its day. Months and days count from 1.
 #[derive(Clone, Copy)]
@@ -16,13 +16,6 @@ pub struct Date {
     pub second: u8,
 }
 
-// The date, or that it is past the year 9999.
-#[derive(Clone, Copy)]
-pub enum Dated {
-    At(Date),
-    Beyond,
-}
-
 // A year or a month, and the days of it that have passed.
 #[derive(Clone, Copy)]
 struct Place {
@@ -31,6 +24,7 @@ struct Place {
 }
 
 // Whether y is a leap year.
+#[tactic(auto, unfolding(crate::specs::Calendar::leap))]
 fn leap(y: u64) -> bool
     ensures { result ≡ leap y }
 {
@@ -38,70 +32,70 @@ fn leap(y: u64) -> bool
 }
 
 // The days of a year.
+#[tactic(auto, unfolding(crate::specs::Calendar::year_length))]
 fn year_length(y: u64) -> u64
     ensures { result ≡ year_length y }
 {
-    if leap(y) {
-        return 366;
-    }
-    365
+    if leap(y) { 366 } else { 365 }
 }
 
 // The days of a month.
+#[tactic(auto, unfolding(crate::specs::Calendar::month_in))]
 fn month_length(y: u64, m: u64) -> u64
     ensures { result ≡ month_length y m }
 {
-    if m == 2 {
-        if leap(y) {
-            return 29;
+    match m {
+        2 if leap(y) => 29,
+        2 => 28,
+        4 | 6 | 9 | 11 => 30,
+        _ => 31,
+    }
+}
+
+// The year or month in which a day falls, of those from `first` on and before `end`, days counted from the first of `first`.
+fn walk<F: Fn(u64) -> u64>(first: u64, end: u64, day: u64, length: F) -> Place
+    ghost f: { ℕ → ℕ }
+    requires order { first ≤ end }
+    requires callable { F.IsAlwaysCallable length }
+    requires lengths { (i r : ℕ) → F.post length i r → r ≡ f i }
+    ensures { result ≡ walk f (end - first) first day }
+{
+    let mut rest = day;
+    for at in first..end {
+        let n = length(at);
+        if rest < n {
+            return Place { at, rest };
         }
-        return 28;
+        rest -= n;
     }
-    if ((m == 4) | (m == 6)) | ((m == 9) | (m == 11)) {
-        return 30;
-    }
-    31
+    Place { at: end, rest }
 }
 
 // The year in which a day falls, days counted from the first of 1970.
 fn year_of(day: u64) -> Place
-    requires { day < all_days }
     ensures { result ≡ walk year_length 8030 1970 day }
 {
-    let mut y: u64 = 1970;
-    let mut n = day;
-    while year_length(y) <= n {
-        n -= year_length(y);
-        y += 1;
-    }
-    Place { at: y, rest: n }
+    walk(1970, 10000, day, year_length)
 }
 
-// The month in which a day of the year falls.
+// The month in which a day of year y falls.
 fn month_of(y: u64, day: u64) -> Place
-    requires { day < year_length y }
     ensures { result ≡ walk (month_length y) 12 1 day }
 {
-    let mut m: u64 = 1;
-    let mut n = day;
-    while month_length(y, m) <= n {
-        n -= month_length(y, m);
-        m += 1;
-    }
-    Place { at: m, rest: n }
+    walk(1, 13, day, move |m| month_length(y, m))
 }
 
-// The date of a number of seconds.
-pub fn date_of(seconds: u64) -> Dated
+// The date of a number of seconds, where it is not past the year 9999.
+pub fn date_of(seconds: u64) -> Option<Date>
     ensures { result ≡ date_of seconds }
 {
     if 253402300800 <= seconds {
-        return Dated::Beyond;
+        return None;
     }
     let y = year_of(seconds / 86400);
     let m = month_of(y.at, y.rest);
     let t = seconds % 86400;
-    Dated::At(Date {
+    Some(Date {
         year: y.at as u32,
         month: m.at as u8,
         day: (m.rest + 1) as u8,

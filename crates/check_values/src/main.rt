@@ -3,8 +3,6 @@
 // library. Assumes what `io` and `libc` do.
 #![tactic(auto)]
 
-ghost use Rattle.std.specs.Prelude.{◌≡◌, length};
-
 use sampling::{long_hex, print, say, short_hex};
 use text::Text;
 
@@ -17,7 +15,7 @@ fn line(value: Text, name: &[u8]) {
 }
 
 // Prints the checksum of s.
-fn sum(s: &[u8], name: &[u8]) {
+fn checked(s: &[u8], name: &[u8]) {
     line(short_hex(checksum::checksum(s)), name);
 }
 
@@ -25,41 +23,40 @@ fn sum(s: &[u8], name: &[u8]) {
 fn run(first: u8, step: u8) -> [u8; 32] {
     let mut s = [0u8; 32];
     let mut x = first;
-    let mut i = 0;
-    while i < 32 {
-        s[i] = x;
-        x = std::num::wrapping_add_u8(x, step);
-        i += 1;
+    for b in &mut s {
+        *b = x;
+        x = x.wrapping_add(step);
     }
     s
 }
 
 // Prints the checksum of s in two pieces, once for each place where it can be cut.
 fn cuts(s: &[u8], name: &[u8]) {
-    let mut i = 0;
-    while i <= s.len() {
-        let first = checksum::checksum(&s[..i]);
-        line(short_hex(checksum::continued(first, &s[i..])), name);
-        i += 1;
+    for i in 0..=s.len() {
+        let (front, back) = s.split_at(i);
+        line(
+            short_hex(checksum::continued(checksum::checksum(front), back)),
+            name,
+        );
     }
 }
 
 // The checksum's check values.
 fn checksums() {
-    sum(b"", b"the empty string");
-    sum(b"a", b"a");
-    sum(b"abc", b"abc");
-    sum(b"123456789", b"123456789");
-    sum(b"message digest", b"message digest");
-    sum(
+    checked(b"", b"the empty string");
+    checked(b"a", b"a");
+    checked(b"abc", b"abc");
+    checked(b"123456789", b"123456789");
+    checked(b"message digest", b"message digest");
+    checked(
         b"The quick brown fox jumps over the lazy dog",
         b"The quick brown fox jumps over the lazy dog",
     );
-    sum(&run(0, 0), b"32 bytes of 0x00");
-    sum(&run(255, 0), b"32 bytes of 0xff");
-    sum(&run(0, 1), b"32 bytes ascending from 0x00");
-    sum(&run(31, 255), b"32 bytes descending to 0x00");
-    sum(
+    checked(&run(0, 0), b"32 bytes of 0x00");
+    checked(&run(255, 0), b"32 bytes of 0xff");
+    checked(&run(0, 1), b"32 bytes ascending from 0x00");
+    checked(&run(31, 255), b"32 bytes descending to 0x00");
+    checked(
         b"\x01\xc0\0\0\0\0\0\0\0\0\0\0\0\0\0\0\x14\0\0\0\0\0\x04\0\0\0\0\x14\0\0\0\x18\x28\0\0\0\0\0\0\0\x02\0\0\0\0\0\0\0",
         b"a read command of 48 bytes",
     );
@@ -74,11 +71,11 @@ fn read(at: usize) {
     line(long_hex(endian::read_u64(s, at)), b"8 bytes read");
 }
 
-// Prints what a write of 4 bytes at `at` of ten zeros answers, and the first and the last 8 of the ten afterwards.
+// Prints whether a write of 4 bytes at `at` of ten zeros has no room, 1 for yes, and the first and the last 8 of the ten afterwards.
 fn write(at: usize) {
     let mut s = [0u8; 10];
     line(
-        short_hex(endian::write_u32(&mut s, at, 0x0403_0201) as u32),
+        short_hex(!endian::write_u32(&mut s, at, 0x0403_0201) as u32),
         b"answered",
     );
     line(
@@ -93,15 +90,12 @@ fn write(at: usize) {
 
 // The little-endian calls inside a slice, at its end, past it and at the largest offset.
 fn numbers() {
-    read(0);
-    read(2);
-    read(9);
-    read(10);
-    read(0xFFFF_FFFF_FFFF_FFFF);
-    write(0);
-    write(6);
-    write(7);
-    write(0xFFFF_FFFF_FFFF_FFFF);
+    for at in [0, 2, 9, 10, usize::MAX] {
+        read(at);
+    }
+    for at in [0, 6, 7, usize::MAX] {
+        write(at);
+    }
 }
 
 fn main() {

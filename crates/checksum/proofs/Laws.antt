@@ -1,15 +1,16 @@
 -- The laws that callers cite: the checksum in pieces, and its width.
-use Prim.Native.Nat.{ℕ, suc, ◌+◌, ◌*◌, ◌%◌, ◌^◌, ◌≤◌, ◌<◌}
+use Prim.Native.Nat.{ℕ, zero, suc, ◌+◌, ◌*◌, ◌%◌, ◌^◌, ◌≤◌, ◌<◌}
 use mathlib.Core.Path.{◌≡◌, refl, sym, ap, ◌∙◌}
-use mathlib.Core.List.{List, [], ◌∷◌, ◌++◌}
-use native.Mathlib.Nat.{mod-lt, lt_of_lt_of_le}
+use mathlib.Core.List.{List, [], ◌∷◌, ◌++◌, append_assoc, flatten}
+use native.Mathlib.Nat.{mod-lt, lt_of_lt_of_le, suc-mul}
 use native.Mathlib.Omega.{arith}
 use lib.Dec.{lit<, lit≤}
 use native.Mathlib.Numerals.{add-one}
 use lib.ListN.{length, get_or, take, drop, take-append-drop, drop_of_length-le}
 use lib.Seq.{drop-cons, drop-drop}
 use lib.Bits.{bit_xor, xor_comm, xor_zero_r, xor_self, xor_lt, xor_shifted}
-use Rattle.endian.specs.Bytes.{le, window}
+use Rattle.std.specs.Simd.{first_chunks}
+use Rattle.endian.specs.Bytes.{le}
 use Rattle.endian.proofs.Numbers.{le-nil, le-cons}
 use Rattle.shifts.specs.Shifts.{shifts}
 use Rattle.checksum.specs.Crc.{absorb, register, invert, checksum, continued}
@@ -25,13 +26,6 @@ unfolding register
 register-append c [] b = refl
 register-append c (x ∷ xs) b = register-append (absorb c x) xs b
 
--- n bytes from place i on, then the others
-pub register-part : (c : ℕ) (s : List ℕ) (i n : ℕ) → register c (drop i s) ≡ register (register c (window s i n)) (drop (i + n) s)
-unfolding window
-register-part c s i n =
-    ap (register c) (sym (take-append-drop n (drop i s)))
-    ∙ (register-append c (take n (drop i s)) (drop n (drop i s)) ∙ ap (register (register c (take n (drop i s)))) (drop-drop n i s))
-
 register-cons : (c b : ℕ) (s : List ℕ) → register c (b ∷ s) ≡ register (absorb c b) s
 unfolding register
 register-cons c b s = refl
@@ -41,6 +35,30 @@ pub register-drop : (c : ℕ) (s : List ℕ) (i : ℕ) → i < length s → regi
 register-drop c s i h =
     ap (register c) (drop-cons s i 0 h)
     ∙ (register-cons c (get_or s i 0) (drop (suc i) s) ∙ ap (λ (k : ℕ). register (absorb c (get_or s i 0)) (drop k s)) (sym (add-one i)))
+
+-- the chunks of n bytes, then the others, are all bytes
+pub chunks-rest : (n k : ℕ) (s : List ℕ) → flatten (first_chunks n k s) ++ drop (k * n) s ≡ s
+unfolding flatten
+chunks-rest n zero s = ap (λ (m : ℕ). drop m s) (let e : 0 * n ≡ 0 = omega arith in e)
+chunks-rest n (suc k) s =
+    let e : suc k * n ≡ n + k * n = rw suc-mul (omega arith) in
+    append_assoc (take n s) (flatten (first_chunks n k (drop n s))) (drop (suc k * n) s)
+    ∙ (ap (λ (l : List ℕ). take n s ++ (flatten (first_chunks n k (drop n s)) ++ l)) (ap (λ (m : ℕ). drop m s) e ∙ sym (drop-drop (k * n) n s))
+    ∙ (ap (λ (l : List ℕ). take n s ++ l) (chunks-rest n k (drop n s)) ∙ take-append-drop n s))
+
+-- one chunk, then the others and t
+pub register-chunk : (c : ℕ) (es : List (List ℕ)) (i : ℕ) (t : List ℕ) → i < length es
+    → register c (flatten (drop i es) ++ t) ≡ register (register c (get_or es i [])) (flatten (drop (i + 1) es) ++ t)
+unfolding flatten
+register-chunk c es i t h =
+    rw (drop-cons es i [] h, add-one i)
+    (ap (register c) (append_assoc (get_or es i []) (flatten (drop (suc i) es)) t)
+    ∙ register-append c (get_or es i []) (flatten (drop (suc i) es) ++ t))
+
+-- all chunks are passed
+pub register-chunks : (c : ℕ) (es : List (List ℕ)) (i : ℕ) (t : List ℕ) → length es ≤ i → register c (flatten (drop i es) ++ t) ≡ register c t
+unfolding flatten
+register-chunks c es i t h = rw (drop_of_length-le es h)
 
 -- all bytes are passed
 pub register-end : (c : ℕ) (s : List ℕ) (i : ℕ) → length s ≤ i → register c (drop i s) ≡ c

@@ -22,27 +22,12 @@ fn near_word(x: u32) -> u32
     shifts::byte_32(x) ^ (shifts::byte_24(x / 256) ^ high)
 }
 
-// The register after the eight bytes of s. The lookups of the last four do not wait for c, so they go first.
-fn eight(c: u32, s: &[u8]) -> u32
-    requires { length s.now ≡ 8 }
+// The register after eight bytes. The lookups of the last four do not wait for c, so they go first.
+fn eight(c: u32, s: &[u8; 8]) -> u32
     ensures { result ≡ register c s.now }
 {
     let last = near_word(endian::read_u32(s, 4));
     far_word(c ^ endian::read_u32(s, 0)) ^ last
-}
-
-// The register after all of s, whose length is a multiple of eight.
-fn eights(c: u32, s: &[u8]) -> u32
-    requires { length s.now % 8 ≡ 0 }
-    ensures { result ≡ register c s.now }
-{
-    let mut r = c;
-    let mut i = 0;
-    while i < s.len() {
-        r = eight(r, &s[i..i + 8]);
-        i += 8;
-    }
-    r
 }
 
 // The register after one byte.
@@ -53,25 +38,19 @@ fn one(c: u32, b: u8) -> u32
     shifts::half_8(x) ^ (shifts::half_4(x / 16) ^ (x / 256))
 }
 
-// The register after all of s, byte by byte.
-fn ones(c: u32, s: &[u8]) -> u32
-    ensures { result ≡ register c s.now }
-{
-    let mut r = c;
-    let mut i = 0;
-    while i < s.len() {
-        r = one(r, s[i]);
-        i += 1;
-    }
-    r
-}
-
-// The register after all of s.
+// The register after all of s: eight bytes a step, and the last ones byte by byte.
 fn run(c: u32, s: &[u8]) -> u32
     ensures { result ≡ register c s.now }
 {
-    let n = s.len() / 8 * 8;
-    ones(eights(c, &s[..n]), &s[n..])
+    let (eights, ones) = s.as_chunks::<8>();
+    let mut r = c;
+    for e in eights {
+        r = eight(r, e);
+    }
+    for b in ones {
+        r = one(r, *b);
+    }
+    r
 }
 
 // The checksum of s.

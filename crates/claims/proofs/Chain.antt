@@ -1,9 +1,8 @@
 -- Updates, cuts and mends, one after the other.
-use Prim.Native.Nat.{ℕ, zero, suc, ◌+◌, ◌≤◌, ◌<◌}
-use mathlib.Core.Path.{◌≡◌, refl, sym, ap, subst, ◌∙◌}
+use Prim.Native.Nat.{ℕ, zero, suc, ◌≤◌, ◌<◌}
+use mathlib.Core.Path.{◌≡◌, refl, sym, ap, subst}
 use mathlib.Core.Logic.{◌⊎◌, inl, inr}
-use mathlib.Core.Bool.{Bool, cond}
-use mathlib.Core.List.{List, [], ◌∷◌, ◌++◌, flatten}
+use mathlib.Core.List.{List, [], ◌∷◌, flatten}
 use native.Mathlib.Decide.{ℕ_discrete}
 use borrow.Author.Tests.{eq-eqb, ne_eqb}
 use native.Mathlib.Omega.{arith}
@@ -28,11 +27,7 @@ taken : (gs : Groups) (g : ℕ) → group_start gs g ≤ length (stores gs)
 unfolding group_start flatten
 taken gs zero = omega arith
 taken [] (suc g) = omega arith
-taken (s ∷ gs) (suc g) =
-    let l : group_start gs g ≤ length (stores gs) = taken gs g in
-    let a : length (s ++ stores (take g gs)) ≡ length s + length (stores (take g gs)) = length-append s (stores (take g gs)) in
-    let b : length (s ++ stores gs) ≡ length s + length (stores gs) = length-append s (stores gs) in
-    omega arith
+taken (s ∷ gs) (suc g) = omega (arith, taken gs g, length-append s (stores (take g gs)), length-append s (stores gs))
 
 module _ (v : Device) (gs : Groups) (d : Sectors) (s : Sound d) (fit : AllSized gs) where
   -- the device as before a group is sound
@@ -40,7 +35,7 @@ module _ (v : Device) (gs : Groups) (d : Sectors) (s : Sound d) (fit : AllSized 
   before_sound g =
       record {
         size = landed-size (store_in gs) d s.size (group_start gs g)
-            (λ i l. let m : group_start gs g ≤ length (stores gs) = taken gs g in fit i (omega arith));
+            (λ i l. fit i (omega (arith, taken gs g)));
       }
 
   pub cuts : (g : ℕ) → Cuts v gs g d
@@ -59,17 +54,11 @@ module _ (v : Device) (gs : Groups) (d : Sectors) (s : Sound d) (fit : AllSized 
       torn : ℕ → List ℕ → Sectors
       torn i w = put (before gs g d) (record { sector = (store_in gs i).sector; content = w })
 
-      hit : (i : ℕ) (w : List ℕ) (n : ℕ) → n ≡ (store_in gs i).sector → torn i w n ≡ w
-      hit i w n h = ap (λ (t : Bool). cond t w (before gs g d n)) (eq-eqb n (store_in gs i).sector h)
-
-      miss : (i : ℕ) (w : List ℕ) (n : ℕ) → (n ≡ (store_in gs i).sector → ⊥) → torn i w n ≡ before gs g d n
-      miss i w n h = ap (λ (t : Bool). cond t w (before gs g d n)) (ne_eqb n (store_in gs i).sector h)
-
       sized : (i : ℕ) (w : List ℕ) → length w ≡ 512 → (n : ℕ) → length (torn i w n) ≡ 512
       sized i w l n =
           elim (ℕ_discrete n (store_in gs i).sector) [
-            | yes h ↦ ap length (hit i w n h) ∙ l
-            | no h ↦ ap length (miss i w n h) ∙ (before_sound g).size n
+            | yes h ↦ rw (eq-eqb n (store_in gs i).sector h) l
+            | no h ↦ rw (ne_eqb n (store_in gs i).sector h) ((before_sound g).size n)
           ]
 
       anywhere : (i : ℕ) (w : List ℕ) → group_start gs g ≤ i → i < group_start gs (suc g) → (n : ℕ)
@@ -77,7 +66,7 @@ module _ (v : Device) (gs : Groups) (d : Sectors) (s : Sound d) (fit : AllSized 
       anywhere i w a b n =
           elim (ℕ_discrete n (store_in gs i).sector) [
             | yes h ↦ inr (inr (h, (i, a, b, sym h)))
-            | no h ↦ inl (miss i w n h)
+            | no h ↦ inl (rw (ne_eqb n (store_in gs i).sector h))
           ]
 
 pub cutting : Cutting

@@ -17,8 +17,8 @@ use Rattle.block.proofs.Readings.{ascending}
 use Rattle.copy.specs.Copy.{block_in}
 use Rattle.discovery.specs.Discovery.{copy_on}
 use Rattle.crash.specs.Crash.{Sectors, Sound, Groups, stores, store_in, landed, copy_from, all_landed}
-use Rattle.stores.specs.declared.Given.{Given}
-use Rattle.stores.specs.declared.Given.TheVariants.{At}
+use Rattle.std.specs.Prelude.{Result, Ok}
+use Rattle.refusal.specs.declared.Reason.{Reason}
 use Rattle.stores.specs.States.{InStepOn, AllFit}
 use Rattle.stores.proofs.InStep.{in_step_facts}
 use Rattle.update.specs.Demand as UpdateDemand
@@ -40,9 +40,9 @@ module _ (v : Device) (d : Sectors) (gs : Groups) (s : Sound d) (fit : AllFit v 
   follows : (i : ℕ) → i ≤ length (stores gs) → (w : Side) → held v d gs i w ≡ copy_from w v (landed (store_in gs) i d)
   follows i l w = (following v d (store_in gs) i ok s (λ j m. (fit j (omega arith)).size)).leaves w
 
-  module _ (answer : List ℕ → List ℕ → ℕ → List ℕ → Given) (bytes : List ℕ → List ℕ → ℕ → List ℕ → List ℕ) (t : Time) (r : List ℕ)
+  module _ (answer : List ℕ → List ℕ → ℕ → List ℕ → Result ℕ Reason) (bytes : List ℕ → List ℕ → ℕ → List ℕ → List ℕ) (t : Time) (r : List ℕ)
       (given : (i : ℕ) (out : List ℕ) → i < length (stores gs) → length out ≡ 512
-      → (answer (copy_from Front v (landed (store_in gs) i d)) (copy_from Back v (landed (store_in gs) i d)) i out ≡ At (store_in gs i).sector)
+      → (answer (copy_from Front v (landed (store_in gs) i d)) (copy_from Back v (landed (store_in gs) i d)) i out ≡ Ok (store_in gs i).sector)
       × (bytes (copy_from Front v (landed (store_in gs) i d)) (copy_from Back v (landed (store_in gs) i d)) i out ≡ (store_in gs i).content))
       (after : InStepOn (copy_from Front v (all_landed gs d)) (copy_from Back v (all_landed gs d)) t r) where
     along : Along v d gs answer bytes t r

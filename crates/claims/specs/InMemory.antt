@@ -1,13 +1,12 @@
 -- A caller that keeps the two copies in memory and applies each store to them as it goes, as the C header's example does. `proofs/InMemory.antt`
 -- proves `Updating` and `Mending`.
-use Rattle.std.specs.Prelude.{ℕ, ◌≤◌, ◌<◌, ◌≡◌, List, length}
+use Rattle.std.specs.Prelude.{ℕ, ◌≤◌, ◌<◌, ◌≡◌, List, length, Result, Ok}
+use Rattle.refusal.specs.declared.Reason.{Reason}
 use Rattle.layout.specs.declared.Device.{Device}
 use Rattle.layout.specs.declared.Side.{Side}
 use Rattle.layout.specs.declared.Side.TheVariants.{Front, Back}
 use Rattle.block.specs.declared.Time.{Time}
 use Rattle.crash.specs.Crash.{Sectors, Groups, stores, store_in, landed, copy_from}
-use Rattle.stores.specs.declared.Given.{Given}
-use Rattle.stores.specs.declared.Given.TheVariants.{At}
 use Rattle.stores.specs.States.{InStepOn, Answered}
 use Rattle.update.specs.Plan as Update
 use Rattle.update.specs.Demand as UpdateDemand
@@ -21,11 +20,11 @@ held v d gs i w = applied_first v (store_in gs) i (copy_from Front v d) (copy_fr
 
 -- Of the stores of gs, asked for with those copies: however many were applied, the copies are what reading the device gives on which as many have
 -- landed; each store is then given with its sector and its 512 bytes; and after the last the copies are in step on the record r with its time t.
-pub record Along (v : Device) (d : Sectors) (gs : Groups) (answer : List ℕ → List ℕ → ℕ → List ℕ → Given) (bytes : List ℕ → List ℕ → ℕ → List ℕ → List ℕ)
+pub record Along (v : Device) (d : Sectors) (gs : Groups) (answer : List ℕ → List ℕ → ℕ → List ℕ → Result ℕ Reason) (bytes : List ℕ → List ℕ → ℕ → List ℕ → List ℕ)
     (t : Time) (r : List ℕ) : Type 0 where
   pub reads : (i : ℕ) → i ≤ length (stores gs) → (w : Side) → held v d gs i w ≡ copy_from w v (landed (store_in gs) i d)
   pub given : (i : ℕ) (out : List ℕ) → i < length (stores gs) → length out ≡ 512
-      → (answer (held v d gs i Front) (held v d gs i Back) i out ≡ At (store_in gs i).sector)
+      → (answer (held v d gs i Front) (held v d gs i Back) i out ≡ Ok (store_in gs i).sector)
       × (bytes (held v d gs i Front) (held v d gs i Back) i out ≡ (store_in gs i).content)
   pub in_step : InStepOn (held v d gs (length (stores gs)) Front) (held v d gs (length (stores gs)) Back) t r
 

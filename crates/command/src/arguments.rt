@@ -1,11 +1,11 @@
-// The command line: its word, its arguments by their numbers, and its options. It is lent with all its arguments one after the other,
-// each ended by a zero byte, the program's name first. A word or an option that is not known is said, and then nothing is opened.
+// The command line: its word, its arguments and its options. It is lent with all its arguments one after the other, each ended by a
+// zero byte, the program's name first. A word or an option that is not known is said, and then nothing is opened.
 // Assumes what `io` does.
 use crate::say::{complain, complain_text};
-use text::Text;
+use std::fmt::Display;
 
 // The command's words.
-#[derive(Clone, Copy)]
+#[derive(Clone, Copy, PartialEq, Eq)]
 pub(crate) enum Word {
     Find,
     Check,
@@ -24,7 +24,6 @@ pub(crate) enum Word {
     Restore,
     Help,
     Version,
-    Unknown,
 }
 
 // The most bytes of an argument.
@@ -33,127 +32,108 @@ const LONGEST: usize = 4096;
 // What ends an argument.
 const END: u8 = 0;
 
-// Places among a request's arguments: those that are no options, then the values of options.
-pub(crate) const IMAGE: usize = 0;
-
-pub(crate) const SECOND: usize = 1;
-
-pub(crate) const THIRD: usize = 2;
-
-pub(crate) const POOL: usize = 3;
-
-pub(crate) const DEVICE: usize = 4;
-
-pub(crate) const METADATA: usize = 5;
-
-pub(crate) const RESERVED: usize = 6;
-
-pub(crate) const BLOCK: usize = 7;
-
-pub(crate) const LOW_WATER: usize = 8;
-
-pub(crate) const WIDTH: usize = 9;
-
-const PLACES: usize = 10;
-
-// No place: no option waits for its value.
-const NOWHERE: usize = 10;
-
-// What may follow a word: how many arguments have to, whether it writes to the image and so takes --dry-run, which last words it
-// takes, and whether it has the options of `format` or of `show`.
+// What may follow a word: how many arguments have to, and how many may; whether it writes to the image and so takes --dry-run, which last
+// words it takes, and whether it has the options of `format` or of `show`.
 #[derive(Clone, Copy)]
-pub(crate) struct Rules {
-    pub arguments: usize,
-    pub writes: bool,
-    pub replace: bool,
-    pub unreadable: bool,
-    pub both: bool,
-    pub sizes: bool,
-    pub plain: bool,
+struct Rules {
+    least: usize,
+    most: usize,
+    writes: bool,
+    replace: bool,
+    unreadable: bool,
+    both: bool,
+    sizes: bool,
+    plain: bool,
 }
 
-// What is asked for. An argument is its number on the command line, 0 where it is not given.
+// The options with a value.
+#[derive(Clone, Copy, PartialEq, Eq)]
+enum Setting {
+    Pool,
+    Device,
+    Metadata,
+    Reserved,
+    Block,
+    LowWater,
+    Width,
+}
+
+// The image's name, and which argument of the command line it is.
 #[derive(Clone, Copy)]
-pub(crate) struct Request {
+pub(crate) struct Image<'a> {
+    pub number: usize,
+    pub name: &'a [u8],
+}
+
+// What is asked for: a word, its arguments as they stand on the command line, and its options.
+#[derive(Clone, Copy)]
+pub(crate) struct Request<'a> {
     pub word: Word,
-    pub good: bool,
     pub help: bool,
     pub dry: bool,
     pub plain: bool,
     pub replace: bool,
     pub unreadable: bool,
     pub both: bool,
-    pub at: [usize; 10],
-    pub given: usize,
-    // The place of the option whose value comes next.
-    pub next: usize,
+    // The first argument, for `help` a word.
+    pub image: Option<Image<'a>>,
+    pub second: Option<&'a [u8]>,
+    pub third: Option<&'a [u8]>,
+    pub pool: Option<&'a [u8]>,
+    pub device: Option<&'a [u8]>,
+    pub metadata: Option<&'a [u8]>,
+    pub reserved: Option<&'a [u8]>,
+    pub block: Option<&'a [u8]>,
+    pub low_water: Option<&'a [u8]>,
+    pub width: Option<&'a [u8]>,
+}
+
+// Why a command line is wrong: no word is known by its name, or what is wrong with what follows was said.
+#[derive(Clone, Copy)]
+pub(crate) enum Wrong<'a> {
+    Name(&'a [u8]),
+    Use(Word),
+}
+
+// A command line of which a part was read: whether that part is wrong, how many arguments were given, and the option whose value comes
+// next.
+#[derive(Clone, Copy)]
+struct Part<'a> {
+    request: Request<'a>,
+    wrong: bool,
+    given: usize,
+    waiting: Option<Setting>,
 }
 
 // The word that these bytes are.
-pub(crate) fn word_of(s: &[u8]) -> Word {
-    if endian::same(s, b"find") {
-        return Word::Find;
+pub(crate) fn word_of(s: &[u8]) -> Option<Word> {
+    match s {
+        b"find" => Some(Word::Find),
+        b"check" => Some(Word::Check),
+        b"show" => Some(Word::Show),
+        b"format" => Some(Word::Format),
+        b"mend" => Some(Word::Mend),
+        b"allocate" => Some(Word::Allocate),
+        b"release" => Some(Word::Release),
+        b"head" => Some(Word::Head),
+        b"mark" => Some(Word::Mark),
+        b"update" => Some(Word::Update),
+        b"record" => Some(Word::Record),
+        b"dump" => Some(Word::Dump),
+        b"receive" => Some(Word::Receive),
+        b"backup" => Some(Word::Backup),
+        b"restore" => Some(Word::Restore),
+        b"help" | b"--help" | b"-h" => Some(Word::Help),
+        b"version" | b"--version" => Some(Word::Version),
+        _ => None,
     }
-    if endian::same(s, b"check") {
-        return Word::Check;
-    }
-    if endian::same(s, b"show") {
-        return Word::Show;
-    }
-    if endian::same(s, b"format") {
-        return Word::Format;
-    }
-    if endian::same(s, b"mend") {
-        return Word::Mend;
-    }
-    if endian::same(s, b"allocate") {
-        return Word::Allocate;
-    }
-    if endian::same(s, b"release") {
-        return Word::Release;
-    }
-    word_after(s)
-}
-
-// The same, of the other words.
-fn word_after(s: &[u8]) -> Word {
-    if endian::same(s, b"head") {
-        return Word::Head;
-    }
-    if endian::same(s, b"mark") {
-        return Word::Mark;
-    }
-    if endian::same(s, b"update") {
-        return Word::Update;
-    }
-    if endian::same(s, b"record") {
-        return Word::Record;
-    }
-    if endian::same(s, b"dump") {
-        return Word::Dump;
-    }
-    if endian::same(s, b"receive") {
-        return Word::Receive;
-    }
-    if endian::same(s, b"backup") {
-        return Word::Backup;
-    }
-    if endian::same(s, b"restore") {
-        return Word::Restore;
-    }
-    if endian::same(s, b"help") | endian::same(s, b"--help") | endian::same(s, b"-h") {
-        return Word::Help;
-    }
-    if endian::same(s, b"version") | endian::same(s, b"--version") {
-        return Word::Version;
-    }
-    Word::Unknown
 }
 
 // The rules of a word that takes so many arguments and only reads.
 fn reading(arguments: usize) -> Rules {
     Rules {
-        arguments,
+        least: arguments,
+        most: arguments,
         writes: false,
         replace: false,
         unreadable: false,
@@ -163,246 +143,262 @@ fn reading(arguments: usize) -> Rules {
     }
 }
 
-// The rules of a word that writes, with the last words that it takes.
-fn writing(arguments: usize, replace: bool, unreadable: bool, sizes: bool) -> Rules {
+// The rules of a word that takes so many arguments and writes.
+fn writing(arguments: usize) -> Rules {
     Rules {
-        arguments,
         writes: true,
-        replace,
-        unreadable,
-        both: false,
-        sizes,
-        plain: false,
+        ..reading(arguments)
     }
 }
 
-// The rules of a word.
-pub(crate) fn rules_of(w: Word) -> Rules {
-    match w {
-        Word::Find => reading(1),
-        Word::Check => reading(1),
-        Word::Show => Rules {
-            arguments: 1,
-            writes: false,
-            replace: false,
-            unreadable: false,
-            both: false,
-            sizes: false,
-            plain: true,
-        },
-        Word::Format => writing(1, true, false, true),
-        Word::Mend => writing(1, false, true, false),
-        Word::Allocate => writing(3, false, false, false),
-        Word::Release => writing(2, false, false, false),
-        Word::Head => writing(2, false, false, false),
-        Word::Mark => writing(2, false, false, false),
-        Word::Update => writing(2, false, false, false),
-        Word::Record => reading(1),
-        Word::Dump => reading(1),
-        Word::Receive => Rules {
-            arguments: 0,
-            writes: false,
-            replace: false,
-            unreadable: false,
-            both: true,
-            sizes: false,
-            plain: false,
-        },
-        Word::Backup => reading(2),
-        Word::Restore => writing(2, true, false, false),
-        Word::Help => reading(0),
-        Word::Version => reading(0),
-        Word::Unknown => reading(0),
+impl Word {
+    fn rules(self) -> Rules {
+        match self {
+            Word::Find | Word::Check | Word::Record | Word::Dump => reading(1),
+            Word::Show => Rules {
+                plain: true,
+                ..reading(1)
+            },
+            Word::Format => Rules {
+                replace: true,
+                sizes: true,
+                ..writing(1)
+            },
+            Word::Mend => Rules {
+                unreadable: true,
+                ..writing(1)
+            },
+            Word::Allocate => writing(3),
+            Word::Release | Word::Head | Word::Mark | Word::Update => writing(2),
+            Word::Receive => Rules {
+                both: true,
+                ..reading(0)
+            },
+            Word::Backup => reading(2),
+            Word::Restore => Rules {
+                replace: true,
+                ..writing(2)
+            },
+            Word::Help => Rules {
+                most: 1,
+                ..reading(0)
+            },
+            Word::Version => reading(0),
+        }
+    }
+
+    // Whether the word writes to the image.
+    pub(crate) fn writes(self) -> bool {
+        self.rules().writes
     }
 }
 
 // A request for a word, with nothing else given.
-fn begun(word: Word) -> Request {
+fn begun<'a>(word: Word) -> Request<'a> {
     Request {
-        word: word,
-        good: true,
+        word,
         help: false,
         dry: false,
         plain: false,
         replace: false,
         unreadable: false,
         both: false,
-        at: [0usize; 10],
-        given: 0,
-        next: NOWHERE,
+        image: None,
+        second: None,
+        third: None,
+        pool: None,
+        device: None,
+        metadata: None,
+        reserved: None,
+        block: None,
+        low_water: None,
+        width: None,
     }
 }
 
-// A request that is wrong.
-fn wrong(p: Request) -> Request {
-    let mut q = p;
-    q.good = false;
-    q
+// The option with a value that these bytes are.
+fn setting_of(r: Rules, s: &[u8]) -> Option<Setting> {
+    match s {
+        b"--width" if r.plain => Some(Setting::Width),
+        b"--pool" if r.sizes => Some(Setting::Pool),
+        b"--device" if r.sizes => Some(Setting::Device),
+        b"--metadata" if r.sizes => Some(Setting::Metadata),
+        b"--reserved" if r.sizes => Some(Setting::Reserved),
+        b"--block" if r.sizes => Some(Setting::Block),
+        b"--low-water" if r.sizes => Some(Setting::LowWater),
+        _ => None,
+    }
 }
 
-// The same, and says which argument is not known.
-fn not_known(p: Request, s: &[u8]) -> Request {
+// Says which argument is not known.
+fn say_unknown(s: &[u8]) {
     complain(b"amseokbin: not known: ");
     complain(s);
     complain(b"\n");
-    wrong(p)
 }
 
-// A request's argument at a place; 0 where it is not given.
-pub(crate) fn at(p: Request, k: usize) -> usize {
-    let a = p.at;
-    if k < PLACES {
-        return a[k];
-    }
-    0
-}
-
-// A request with argument i of the command line at a place.
-fn with_at(p: Request, k: usize, i: usize) -> Request {
-    let mut q = p;
-    if k < PLACES {
-        q.at[k] = i;
-    }
-    q
-}
-
-// Whether a word takes a word of help.
-fn is_help(w: Word) -> bool {
-    match w {
-        Word::Help => true,
-        _ => false,
-    }
-}
-
-// A request with one more argument that is no option, number i on the command line.
-fn with_argument(p: Request, s: &[u8], i: usize) -> Request {
-    let w = p.word;
-    let r = rules_of(w);
-    let mut q = p;
-    if r.replace & endian::same(s, b"replace") {
-        q.replace = true;
-        return q;
-    }
-    if r.unreadable & endian::same(s, b"unreadable") {
-        q.unreadable = true;
-        return q;
-    }
-    if (r.both & !p.both) & endian::same(s, b"both") {
-        q.both = true;
-        return q;
-    }
-    let most = if is_help(w) { 1 } else { r.arguments };
-    let n = p.given;
-    if n < most {
-        if n < 3 {
-            let mut t = with_at(p, n, i);
-            t.given = n + 1;
-            return t;
+impl<'a> Request<'a> {
+    // With the value of an option.
+    fn with_setting(self, setting: Setting, s: &'a [u8]) -> Request<'a> {
+        let value = Some(s);
+        match setting {
+            Setting::Pool => Request {
+                pool: value,
+                ..self
+            },
+            Setting::Device => Request {
+                device: value,
+                ..self
+            },
+            Setting::Metadata => Request {
+                metadata: value,
+                ..self
+            },
+            Setting::Reserved => Request {
+                reserved: value,
+                ..self
+            },
+            Setting::Block => Request {
+                block: value,
+                ..self
+            },
+            Setting::LowWater => Request {
+                low_water: value,
+                ..self
+            },
+            Setting::Width => Request {
+                width: value,
+                ..self
+            },
         }
     }
-    not_known(p, s)
-}
 
-// The place of the option with a value that these bytes are.
-fn place_of(r: Rules, s: &[u8]) -> usize {
-    if r.plain & endian::same(s, b"--width") {
-        return WIDTH;
-    }
-    if !r.sizes {
-        return NOWHERE;
-    }
-    if endian::same(s, b"--pool") {
-        return POOL;
-    }
-    if endian::same(s, b"--device") {
-        return DEVICE;
-    }
-    if endian::same(s, b"--metadata") {
-        return METADATA;
-    }
-    if endian::same(s, b"--reserved") {
-        return RESERVED;
-    }
-    if endian::same(s, b"--block") {
-        return BLOCK;
-    }
-    if endian::same(s, b"--low-water") {
-        return LOW_WATER;
-    }
-    NOWHERE
-}
-
-// A request with one more option.
-fn with_option(p: Request, s: &[u8]) -> Request {
-    let w = p.word;
-    let r = rules_of(w);
-    let mut q = p;
-    if endian::same(s, b"--help") | endian::same(s, b"-h") {
-        q.help = true;
-        return q;
-    }
-    if r.writes & endian::same(s, b"--dry-run") {
-        q.dry = true;
-        return q;
-    }
-    if r.plain & endian::same(s, b"--plain") {
-        q.plain = true;
-        return q;
-    }
-    let k = place_of(r, s);
-    if k == NOWHERE {
-        return not_known(p, s);
-    }
-    q.next = k;
-    q
-}
-
-// Whether these bytes are an option: they begin with a dash.
-fn is_option(s: &[u8]) -> bool {
-    if s.len() == 0 {
-        return false;
-    }
-    s[0] == 45
-}
-
-// How many bytes stand before the next `end` in s, from a place on.
-fn length_to(s: &[u8], from: usize, end: u8) -> usize {
-    let rest = endian::window(s, from, s.len());
-    for i in 0..rest.len() {
-        if rest[i] == end {
-            return i;
+    // With one more argument, number i on the command line, of which so many were given before.
+    fn with_argument(self, given: usize, s: &'a [u8], i: usize) -> Request<'a> {
+        match given {
+            0 => Request {
+                image: Some(Image { number: i, name: s }),
+                ..self
+            },
+            1 => Request {
+                second: Some(s),
+                ..self
+            },
+            _ => Request {
+                third: Some(s),
+                ..self
+            },
         }
     }
-    rest.len()
-}
 
-// The piece of s that begins at a place: the bytes before the next `end`.
-pub(crate) fn piece(s: &[u8], from: usize, end: u8) -> &[u8] {
-    endian::window(s, from, length_to(s, from, end))
-}
-
-// Where the piece after it begins.
-fn after(s: &[u8], from: usize, end: u8) -> usize {
-    from.saturating_add(length_to(s, from, end))
-        .saturating_add(1)
-}
-
-// Where piece i begins, counted from 0.
-pub(crate) fn start_of(s: &[u8], i: usize, end: u8) -> usize {
-    let mut at = 0;
-    for _ in 0..i {
-        at = after(s, at, end);
+    // The image's name; no bytes where none is given.
+    pub(crate) fn path(self) -> &'a [u8] {
+        self.image.map_or(&[], |image| image.name)
     }
-    at
+}
+
+impl<'a> Part<'a> {
+    fn with(self, request: Request<'a>) -> Part<'a> {
+        Part { request, ..self }
+    }
+
+    fn failed(self) -> Part<'a> {
+        Part {
+            wrong: true,
+            ..self
+        }
+    }
+
+    // With one more argument that is no option, number i on the command line.
+    fn with_argument(self, s: &'a [u8], i: usize) -> Part<'a> {
+        let p = self.request;
+        let r = p.word.rules();
+        match s {
+            b"replace" if r.replace => self.with(Request { replace: true, ..p }),
+            b"unreadable" if r.unreadable => self.with(Request {
+                unreadable: true,
+                ..p
+            }),
+            b"both" if r.both && !p.both => self.with(Request { both: true, ..p }),
+            _ if self.given < r.most => Part {
+                request: p.with_argument(self.given, s, i),
+                given: self.given.saturating_add(1),
+                ..self
+            },
+            _ => {
+                say_unknown(s);
+                self.failed()
+            }
+        }
+    }
+
+    // With one more option.
+    fn with_option(self, s: &'a [u8]) -> Part<'a> {
+        let p = self.request;
+        let r = p.word.rules();
+        match s {
+            b"--help" | b"-h" => self.with(Request { help: true, ..p }),
+            b"--dry-run" if r.writes => self.with(Request { dry: true, ..p }),
+            b"--plain" if r.plain => self.with(Request { plain: true, ..p }),
+            _ => match setting_of(r, s) {
+                Some(setting) => Part {
+                    waiting: Some(setting),
+                    ..self
+                },
+                None => {
+                    say_unknown(s);
+                    self.failed()
+                }
+            },
+        }
+    }
+
+    // With argument i of the command line, which is s.
+    fn and(self, s: &'a [u8], i: usize) -> Part<'a> {
+        if LONGEST < s.len() {
+            complain(b"amseokbin: an argument is too long\n");
+            return self.failed();
+        }
+        if let Some(setting) = self.waiting {
+            return Part {
+                request: self.request.with_setting(setting, s),
+                waiting: None,
+                ..self
+            };
+        }
+        if s.first() == Some(&b'-') {
+            return self.with_option(s);
+        }
+        self.with_argument(s, i)
+    }
+
+    // The request, where the command line has ended and nothing is wrong or missing.
+    fn ended(self) -> Result<Request<'a>, Wrong<'a>> {
+        let p = self.request;
+        if self.wrong {
+            return Err(Wrong::Use(p.word));
+        }
+        if p.help {
+            return Ok(p);
+        }
+        if self.waiting.is_some() {
+            complain(b"amseokbin: an option has no value\n");
+            return Err(Wrong::Use(p.word));
+        }
+        if self.given < p.word.rules().least {
+            complain(b"amseokbin: an argument is missing\n");
+            return Err(Wrong::Use(p.word));
+        }
+        Ok(p)
+    }
 }
 
 // An argument by its number; no bytes where it is not given, or too long.
 pub(crate) fn argument(line: &[u8], i: usize) -> &[u8] {
-    let s = piece(line, start_of(line, i, END), END);
-    if LONGEST < s.len() {
-        return endian::window(s, 0, 0);
-    }
-    s
+    line.split(|x| *x == END)
+        .nth(i)
+        .filter(|s| s.len() <= LONGEST)
+        .unwrap_or(&[])
 }
 
 // How many arguments there are.
@@ -410,79 +406,28 @@ fn count(line: &[u8]) -> usize {
     line.iter().filter(|x| **x == END).count()
 }
 
-// A request with argument i of the command line, which is s.
-fn taken(p: Request, s: &[u8], i: usize) -> Request {
-    if LONGEST < s.len() {
-        complain(b"amseokbin: an argument is too long\n");
-        return wrong(p);
-    }
-    let k = p.next;
-    if k != NOWHERE {
-        let mut q = with_at(p, k, i);
-        q.next = NOWHERE;
-        return q;
-    }
-    if is_option(s) {
-        return with_option(p, s);
-    }
-    with_argument(p, s, i)
-}
-
-// The word of the command line.
-fn first_word(line: &[u8]) -> Word {
-    word_of(argument(line, 1))
-}
-
-// A request as it is when the command line has ended: wrong where something is missing.
-fn ended(p: Request) -> Request {
-    let w = p.word;
-    let r = rules_of(w);
-    if !p.good | p.help {
-        return p;
-    }
-    if p.next != NOWHERE {
-        complain(b"amseokbin: an option has no value\n");
-        return wrong(p);
-    }
-    if p.given < r.arguments {
-        complain(b"amseokbin: an argument is missing\n");
-        return wrong(p);
-    }
-    p
-}
-
-// Whether a word is known.
-fn is_known(w: Word) -> bool {
-    match w {
-        Word::Unknown => false,
-        _ => true,
-    }
-}
-
-// The number after the last argument that is looked at.
-fn end_of(w: Word, line: &[u8]) -> usize {
-    if is_known(w) {
-        return count(line);
-    }
-    0
-}
-
 // What the command line asks for. Behind a word that is not known nothing is looked at.
-pub(crate) fn asked(line: &[u8]) -> Request {
-    let w = first_word(line);
-    let n = end_of(w, line);
-    let mut p = begun(w);
-    let mut at = start_of(line, 2, END);
-    for i in 2..n {
-        p = taken(p, piece(line, at, END), i);
-        at = after(line, at, END);
+pub(crate) fn asked(line: &[u8]) -> Result<Request<'_>, Wrong<'_>> {
+    let name = argument(line, 1);
+    let Some(word) = word_of(name) else {
+        return Err(Wrong::Name(name));
+    };
+    let mut part = Part {
+        request: begun(word),
+        wrong: false,
+        given: 0,
+        waiting: None,
+    };
+    let arguments = line.split(|x| *x == END).enumerate().take(count(line));
+    for (i, s) in arguments.skip(2) {
+        part = part.and(s, i);
     }
-    ended(p)
+    part.ended()
 }
 
 // Says that a value is not what it has to be: which, and what it has to be.
-pub(crate) fn bad_value(s: &[u8], what: Text) {
+pub(crate) fn bad_value<T: Display + Drop>(s: &[u8], what: T) {
     complain(b"amseokbin: ");
     complain(s);
-    complain_text(what.add(b"\n"));
+    complain_text(format_args!(" {what}\n"));
 }

@@ -1,19 +1,21 @@
 // The words `update`, `allocate`, `release`, `head` and `mark`: a new record in place of the present one, by an update that survives
 // a power cut. Assumes what `io` and `std` do.
-use crate::after::Expected;
 use crate::copies::Look;
 use crate::say::{note, print};
-use crate::storing::Work;
-use crate::{after, copies, facts, files, say, sentences, storing};
-use allocation::{Allocation, Released};
+use crate::sentences::{HeadWords, NoMark, SegmentWords};
+use crate::statuses::Status;
+use crate::storing::{List, Work};
+use crate::{after, copies, facts, files, say};
 use block::Time;
-use discovery::Answer;
-use heads::{Change, Changed};
-use refusal::Refusal;
+use heads::Change;
+use items::Head;
+use refusal::Reason;
 use segments::Segment;
+use std::fmt;
+use std::fmt::Display;
+use std::io::Error;
 use std::rt::Files;
-use text::Text;
-use update::Planned;
+use update::Plan;
 
 // The time one nanosecond after t; t where there is none.
 fn next_time(t: Time) -> Time {
@@ -23,306 +25,204 @@ fn next_time(t: Time) -> Time {
             nanoseconds: t.nanoseconds + 1,
         };
     }
-    if t.seconds == 18446744073709551615 {
-        return t;
-    }
-    Time {
-        seconds: t.seconds + 1,
-        nanoseconds: 0,
+    match t.seconds.checked_add(1) {
+        Some(seconds) => Time {
+            seconds,
+            nanoseconds: 0,
+        },
+        None => t,
     }
 }
 
 // The time of a new record: the clock's, or, where that is not later than the present record's, one nanosecond after it.
 fn new_time(now: Time, present: Time) -> Time {
-    if block::later(now, present) {
-        return now;
+    if present < now {
+        now
+    } else {
+        next_time(present)
     }
-    next_time(present)
 }
 
 // Whether the copies can be changed at all: all that matters was read.
-pub(crate) fn sure(path: &[u8], look: Look<'_>) -> bool {
+pub(crate) fn sure(look: Look<'_>) -> bool {
     if !look.sure {
         note(
-            path,
-            Text::new().add(b"not done: a sector that matters could not be read"),
+            look.path,
+            "not done: a sector that matters could not be read",
         );
     }
     look.sure
 }
 
-// The update that puts a record in place of the present one, or its refusal.
-fn planned(now: Time, front: &[u8], back: &[u8], r: &[u8]) -> Planned {
-    let t = new_time(now, facts::found_time(front, back));
-    update::work_out(front, back, t, r)
+// How the record is changed: at what time, and whether its stores are only listed.
+#[derive(Clone, Copy)]
+pub(crate) struct Way {
+    pub now: Time,
+    pub dry: bool,
+}
+
+// What an update does to the record, as it is said before the number of its stores: a segment more at a position, one less, another
+// head, or what a file has.
+#[derive(Clone, Copy)]
+enum Step {
+    Adds(u64, Segment),
+    Releases(u64, Segment),
+    Head(Head),
+    File,
+}
+
+impl Display for Step {
+    fn fmt<W: fmt::Write>(&self, f: &mut fmt::Formatter<W>) -> fmt::Result {
+        match self {
+            Step::Adds(i, g) => write!(f, "segment {i} {}\n", SegmentWords(*g)),
+            Step::Releases(i, g) => write!(f, "releases {i} {}\n", SegmentWords(*g)),
+            Step::Head(h) => write!(f, "head {}\n", HeadWords(*h)),
+            Step::File => Ok(()),
+        }
+    }
+}
+
+// The update that puts the record r in place of the present one, or its refusal, which is said.
+fn planned(look: Look<'_>, now: Time, r: &[u8]) -> Result<Plan, Status> {
+    let t = new_time(now, facts::found_time(look.copies()));
+    match update::work_out(look.copies(), t, r) {
+        Ok(p) => Ok(p),
+        Err(n) => {
+            facts::note_short(look);
+            Err(facts::refuse_record(look.path, n, r))
+        }
+    }
 }
 
 // Puts a record in place of the present one, or lists the stores that would.
-fn apply(
-    path: &[u8],
-    look: Look<'_>,
-    now: Time,
-    dry: bool,
-    before: Text,
-    front: &[u8],
-    back: &[u8],
-    r: &[u8],
-) -> u8 {
-    let a = planned(now, front, back, r);
-    let Planned::Plan(p) = a else {
-        return refused(path, look, a, r);
+fn apply(look: Look<'_>, way: Way, step: Step, r: &[u8]) -> Status {
+    let p = match planned(look, way.now, r) {
+        Ok(p) => p,
+        Err(status) => return status,
     };
-    let w = Work::Change(p);
-    let mut list = [0u8; storing::LIST];
-    let all = storing::work_out(w, front, back, r, &mut list);
+    let list = List::of(Work::Change(p), look.copies(), r);
     let out = look.drive.out;
-    let ok = print(out, before.decimal(storing::count(w)).add(b" stores\n"));
-    if dry {
-        return facts::unless(
-            storing::print_all(ok, w, r.len() as u64, &list).good & all,
-            facts::FAILED,
-        );
+    let printed = print(out, format_args!("{step}{} stores\n", list.count()));
+    if way.dry {
+        let listed = printed.and_then(|()| list.print(out, r.len() as u64));
+        return Status::printed(listed).max(list.status());
     }
-    if !(ok.good & all) {
-        return facts::nothing_stored(path);
+    if printed.is_err() || !list.is_whole() {
+        return facts::nothing_stored(look.path);
     }
-    let h = p.entry;
-    let e = Expected {
-        given: true,
-        time: facts::time_of(h),
-    };
-    after::carried_out(path, look.drive, w, &list, b"updated: ", e)
+    after::carried_out(look, &list, "updated", Some(block::time_of(p.entry)))
 }
 
-// The refusal of an update with the record r.
-fn refused(path: &[u8], look: Look<'_>, p: Planned, r: &[u8]) -> u8 {
-    match p {
-        Planned::Refused(n) => {
-            facts::note_short(path, look);
-            facts::refuse_record(path, n, r)
-        }
-        Planned::Plan(_) => facts::WELL,
-    }
-}
-
-// Reads a file, up to as many bytes as out has; how many, or nothing where it could not be read.
-fn read_file<R: Files>(rt: &R, file: &[u8], out: &mut [u8]) -> Option<usize> {
-    match files::open(rt, file) {
-        Ok(mut f) => match say::read_all(&mut f, out) {
-            Ok(n) => Some(n),
-            Err(e) => {
-                say::fail(file, e);
-                None
-            }
-        },
-        Err(e) => {
-            say::fail(file, e);
-            None
-        }
-    }
+// Reads a file, up to as many bytes as out has; how many.
+fn read_file<R: Files>(rt: &R, file: &[u8], out: &mut [u8]) -> Result<usize, Error> {
+    let mut f = files::open(rt, file)?;
+    say::read_all(&mut f, out)
 }
 
 // The word `update`.
-pub(crate) fn update_word<R: Files>(
-    rt: &R,
-    path: &[u8],
-    look: Look<'_>,
-    now: Time,
-    dry: bool,
-    file: &[u8],
-    front: &[u8],
-    back: &[u8],
-) -> u8 {
-    let mut r = [0u8; copies::RECORD + 1];
-    let Some(bytes) = read_file(rt, file, &mut r) else {
-        return facts::FAILED;
+pub(crate) fn update_word<R: Files>(rt: &R, look: Look<'_>, way: Way, file: &[u8]) -> Status {
+    let mut bytes = [0u8; copies::RECORD + 1];
+    let length = match read_file(rt, file, &mut bytes) {
+        Ok(length) => length,
+        Err(e) => {
+            say::fail(file, e);
+            return Status::Failed;
+        }
     };
-    if !sure(path, look) {
-        return facts::FAILED;
+    if !sure(look) {
+        return Status::Failed;
     }
-    let s = endian::window(&r, 0, bytes);
-    let status = apply(path, look, now, dry, Text::new(), front, back, s);
-    let n = record::check(look.device, s);
-    if (status == facts::REFUSED) & (n.number != 0) {
-        note(file, Text::new().add(b"the record in it is not accepted"));
+    let r = endian::window(&bytes, 0, length);
+    let status = apply(look, way, Step::File, r);
+    if status == Status::Refused && record::check(look.numbers(), r).is_err() {
+        note(file, "the record in it is not accepted");
     }
     status
 }
 
-// The line of a segment after a first word and its position.
-fn segment_line(first: &[u8], position: u64, g: Segment) -> Text {
-    let t = Text::new().add(first).decimal(position).add(b" ");
-    sentences::add_segment(t, g).add(b"\n")
-}
-
 // The word `allocate`, of a record that was found.
-fn allocate_in(
-    path: &[u8],
-    look: Look<'_>,
-    now: Time,
-    dry: bool,
-    kind: u16,
-    sectors: u64,
-    front: &[u8],
-    back: &[u8],
-    r: &[u8],
-) -> u8 {
+fn allocate_in(look: Look<'_>, way: Way, kind: u16, sectors: u64, r: &[u8]) -> Status {
     let mut out = [0u8; copies::RECORD];
-    let a = allocation::allocate(look.device, r, kind, sectors, &mut out);
-    match a {
-        Allocation::Refused(n) => facts::refuse_record(path, n, r),
-        Allocation::Placed(start, len) => {
+    match allocation::allocate(look.numbers(), r, kind, sectors, &mut out) {
+        Err(n) => facts::refuse_record(look.path, n, r),
+        Ok(a) => {
             let g = Segment {
                 kind,
-                start,
+                start: a.start,
                 sectors,
             };
-            let position = items::count_of(r) as u64;
-            let t = segment_line(b"segment ", position, g);
-            apply(
-                path,
-                look,
-                now,
-                dry,
-                t,
-                front,
-                back,
-                endian::window(&out, 0, len),
-            )
+            let step = Step::Adds(items::count_of(r) as u64, g);
+            apply(look, way, step, endian::window(&out, 0, a.length))
         }
     }
 }
 
 // The word `release`, of a record that was found.
-fn release_in(
-    path: &[u8],
-    look: Look<'_>,
-    now: Time,
-    dry: bool,
-    position: u64,
-    front: &[u8],
-    back: &[u8],
-    r: &[u8],
-) -> u8 {
+fn release_in(look: Look<'_>, way: Way, position: u64, r: &[u8]) -> Status {
     let mut out = [0u8; copies::RECORD];
-    let a = allocation::release(look.device, r, position as usize, &mut out);
-    match a {
-        Released::Refused(n) => facts::refuse_record(path, n, r),
-        Released::Length(len) => {
-            let g = items::segment_at(r, position as usize);
-            let t = segment_line(b"releases ", position, g);
-            apply(
-                path,
-                look,
-                now,
-                dry,
-                t,
-                front,
-                back,
-                endian::window(&out, 0, len),
-            )
+    match allocation::release(look.numbers(), r, position as usize, &mut out) {
+        Err(n) => facts::refuse_record(look.path, n, r),
+        Ok(length) => {
+            let step = Step::Releases(position, items::segment_at(r, position as usize));
+            apply(look, way, step, endian::window(&out, 0, length))
         }
     }
 }
 
-// The words `head` and `mark`, of a record that was found.
-fn head_in(
-    path: &[u8],
-    look: Look<'_>,
-    now: Time,
-    dry: bool,
-    change: Change,
-    front: &[u8],
-    back: &[u8],
-    r: &[u8],
-) -> u8 {
+// The words `head` and `mark`, of a record that was found. Where the record stays as it is, that is said where an update could put
+// another in its place.
+fn head_in(look: Look<'_>, way: Way, change: Change, r: &[u8]) -> Status {
     let mut out = [0u8; copies::RECORD];
-    let a = heads::rewrite(look.device, r, change, &mut out);
-    match a {
-        Changed::Refused(n) => refused_head(path, look, n, r),
-        Changed::Length(len) => {
-            let s = endian::window(&out, 0, len);
-            let t = sentences::head_line(s);
-            if endian::same(r, s) {
-                return unchanged(path, look, now, t, front, back, s);
-            }
-            apply(path, look, now, dry, t, front, back, s)
-        }
-    }
-}
-
-// Says that the record stays as it is, where an update could put another in its place.
-fn unchanged(
-    path: &[u8],
-    look: Look<'_>,
-    now: Time,
-    before: Text,
-    front: &[u8],
-    back: &[u8],
-    r: &[u8],
-) -> u8 {
-    let a = planned(now, front, back, r);
-    let Planned::Plan(_) = a else {
-        return refused(path, look, a, r);
+    let length = match heads::rewrite(look.numbers(), r, change, &mut out) {
+        Ok(length) => length,
+        Err(n) => return refused_head(look, n, r),
     };
-    let out = look.drive.out;
-    let ok = print(out, before.add(b"the same record: nothing to store\n"));
-    facts::unless(ok.good, facts::FAILED)
+    let s = endian::window(&out, 0, length);
+    let step = Step::Head(items::head_of(s));
+    if r != s {
+        return apply(look, way, step, s);
+    }
+    match planned(look, way.now, s) {
+        Ok(_) => Status::printed(print(
+            look.drive.out,
+            format_args!("{step}the same record: nothing to store\n"),
+        )),
+        Err(status) => status,
+    }
 }
 
 // The refusal of another head for the record r. An accepted one is refused with 17 where its head has no low water mark.
-fn refused_head(path: &[u8], look: Look<'_>, n: Refusal, r: &[u8]) -> u8 {
-    let accepted = record::check(look.device, r).number == 0;
-    if accepted & (n.number == refusal::RECORD_FORM) {
-        note(path, sentences::no_mark());
-        return facts::REFUSED;
+fn refused_head(look: Look<'_>, n: Reason, r: &[u8]) -> Status {
+    let accepted = record::check(look.numbers(), r).is_ok();
+    if accepted && n == Reason::RecordForm {
+        note(look.path, NoMark);
+        return Status::Refused;
     }
-    facts::refuse_record(path, n, r)
+    facts::refuse_record(look.path, n, r)
 }
 
-// What is asked of the record: a new segment of a kind and so many sectors, the one at a position given back, another head, or
-// nothing that is known.
+// What is asked of the record: a new segment of a kind and so many sectors, the one at a position given back, or another head.
 #[derive(Clone, Copy)]
 pub(crate) enum Wish {
     Allocate(u16, u64),
     Release(u64),
     Head(Change),
-    Nothing,
 }
 
 // The words `allocate`, `release`, `head` and `mark`.
-pub(crate) fn wish_word(
-    path: &[u8],
-    look: Look<'_>,
-    now: Time,
-    dry: bool,
-    wish: Wish,
-    front: &[u8],
-    back: &[u8],
-) -> u8 {
-    if !sure(path, look) {
-        return facts::FAILED;
+pub(crate) fn wish_word(look: Look<'_>, way: Way, wish: Wish) -> Status {
+    if !sure(look) {
+        return Status::Failed;
     }
-    let mut r = [0u8; copies::RECORD];
-    let a = discovery::read_found(front, back, &mut r);
-    let Answer::Found(q, _) = a else {
-        return refused_found(path, look, a);
+    let mut bytes = [0u8; copies::RECORD];
+    let length = match facts::read_found(look, &mut bytes) {
+        Ok(found) => found.finding.bytes as usize,
+        Err(n) => return facts::refuse_found(look, n),
     };
-    let s = endian::window(&r, 0, q.bytes as usize);
+    let r = endian::window(&bytes, 0, length);
     match wish {
-        Wish::Allocate(kind, sectors) => {
-            allocate_in(path, look, now, dry, kind, sectors, front, back, s)
-        }
-        Wish::Release(position) => release_in(path, look, now, dry, position, front, back, s),
-        Wish::Head(change) => head_in(path, look, now, dry, change, front, back, s),
-        Wish::Nothing => facts::USAGE,
-    }
-}
-
-// The refusal of an answer of discovery.
-fn refused_found(path: &[u8], look: Look<'_>, a: Answer) -> u8 {
-    match a {
-        Answer::Refused(n) => facts::refuse_found(path, look, n),
-        Answer::Found(_, _) => facts::WELL,
+        Wish::Allocate(kind, sectors) => allocate_in(look, way, kind, sectors, r),
+        Wish::Release(position) => release_in(look, way, position, r),
+        Wish::Head(change) => head_in(look, way, change, r),
     }
 }

@@ -10,10 +10,7 @@ const NO_TEXT: &str = "the file whose name is no text";
 
 // The name of a file as text.
 fn name(file: &[u8]) -> &str {
-    match std::str::from_utf8(file) {
-        Ok(s) => s,
-        Err(_) => NO_TEXT,
-    }
+    std::str::from_utf8(file).unwrap_or(NO_TEXT)
 }
 
 // Opens a file for reading.

@@ -24,6 +24,7 @@ mod say;
 mod sentences;
 mod sets;
 mod show;
+mod statuses;
 mod storing;
 
 ghost use Rattle.std.specs.Prelude.{◌≤◌};
@@ -32,15 +33,31 @@ use arguments::{Request, Word};
 use block::Time;
 use image::Drive;
 use run::Given;
-use say::Output;
+use statuses::Status;
 use std::fmt::InlineText;
 use std::fs::{File, OpenOptions};
 use std::io::{Error, Stderr, Stdin, Stdout};
 use std::random::RandomSource;
 use std::rt::Files;
 
-// What the command line wants: with access 0 nothing more, and the command has this status; with 1 that the image, argument
-// number `image`, is opened for reading, with 2 for writing. With image 0 no image is opened.
+// How the image is opened.
+#[derive(Clone, Copy, PartialEq, Eq)]
+pub enum Access {
+    Read,
+    Write,
+}
+
+// What the command line wants: nothing more, and the command has this status; the command with no image; or the image, argument number
+// `image`, open.
+#[derive(Clone, Copy)]
+enum Want {
+    Nothing(Status),
+    NoImage,
+    Image { access: Access, image: usize },
+}
+
+// The same in numbers, which the C interface has: with access 0 nothing more; with 1 that the image is opened for reading, with 2 for
+// writing. With image 0 no image is opened.
 #[derive(Clone, Copy)]
 pub struct Asked {
     pub status: u32,
@@ -48,15 +65,19 @@ pub struct Asked {
     pub image: u64,
 }
 
-// What the machine gives: the access and the descriptor by which the image is open (0 where none is), the terminal's columns (0 where
-// there is none), and the time.
+// An image that is open by a descriptor.
+#[derive(Clone, Copy)]
+pub struct Descriptor {
+    pub number: u64,
+    pub access: Access,
+}
+
+// What the machine gives: the image, where one is open, the terminal's columns, where there is one, and the time.
 #[derive(Clone, Copy)]
 pub struct Machine {
-    pub access: u64,
-    pub image: u64,
-    pub columns: u64,
-    pub seconds: u64,
-    pub nanoseconds: u64,
+    pub image: Option<Descriptor>,
+    pub columns: Option<u64>,
+    pub now: Time,
 }
 
 // The three standard streams.
@@ -67,75 +88,59 @@ pub struct Streams {
     pub errors: Stderr,
 }
 
-// The status of a command that could not do what it is to do.
-const FAILED: u32 = 3;
-
-// A status, 3 at the most.
-fn status(n: u8) -> u32
-    ensures { result ≤ 3 }
-{
-    if n < 3 { n as u32 } else { 3 }
-}
-
-// Nothing more is wanted.
-fn done(n: u8) -> Asked
-    ensures { (result.status ≤ 3) × (result.access ≤ 2) }
-{
-    Asked {
-        status: status(n),
-        access: 0,
-        image: 0,
+// How the image is opened for a request. A dry run only reads.
+fn access_of(p: Request<'_>) -> Access {
+    if p.word.writes() && !p.dry {
+        Access::Write
+    } else {
+        Access::Read
     }
 }
 
-// A word that takes no image is wanted.
-fn without_image() -> Asked
-    ensures { (result.status ≤ 3) × (result.access ≤ 2) }
-{
-    Asked {
-        status: 0,
-        access: 1,
-        image: 0,
+// What a request wants, whose values have to be what they are for.
+fn wanted(p: Request<'_>) -> Want {
+    if p.help || matches!(p.word, Word::Help | Word::Version | Word::Receive) {
+        return Want::NoImage;
+    }
+    if run::values_of(p).is_none() {
+        return Want::Nothing(help::wrong(arguments::Wrong::Use(p.word)));
+    }
+    Want::Image {
+        access: access_of(p),
+        image: p.image.map_or(0, |image| image.number),
     }
 }
 
-// What a request that is not wrong wants.
-fn wanted(line: &[u8], p: Request) -> Asked
-    ensures { (result.status ≤ 3) × (result.access ≤ 2) }
-{
-    let w = p.word;
-    if p.help {
-        return without_image();
-    }
-    match w {
-        Word::Help => without_image(),
-        Word::Version => without_image(),
-        Word::Receive => without_image(),
-        Word::Unknown => done(help::unknown(line, 1)),
-        _ => open(line, p),
-    }
-}
-
-// How the image is opened for a word: 2 for writing, else 1. A dry run only reads.
-fn access_of(w: Word, dry: bool) -> u32
+// The number of an access.
+fn number_of(access: Access) -> u32
     ensures { result ≤ 2 }
 {
-    let r = arguments::rules_of(w);
-    if r.writes & !dry { 2 } else { 1 }
+    match access {
+        Access::Read => 1,
+        Access::Write => 2,
+    }
 }
 
-// The image of a request, whose values have to be what they are for.
-fn open(line: &[u8], p: Request) -> Asked
+// What is wanted, in numbers.
+fn numbers(want: Want) -> Asked
     ensures { (result.status ≤ 3) × (result.access ≤ 2) }
 {
-    let w = p.word;
-    if !run::values_good(line, p) {
-        return done(help::wrong(w));
-    }
-    Asked {
-        status: 0,
-        access: access_of(w, p.dry),
-        image: arguments::at(p, arguments::IMAGE) as u64,
+    match want {
+        Want::Nothing(status) => Asked {
+            status: u32::from(status),
+            access: 0,
+            image: 0,
+        },
+        Want::NoImage => Asked {
+            status: 0,
+            access: number_of(Access::Read),
+            image: 0,
+        },
+        Want::Image { access, image } => Asked {
+            status: 0,
+            access: number_of(access),
+            image: image as u64,
+        },
     }
 }
 
@@ -143,56 +148,61 @@ fn open(line: &[u8], p: Request) -> Asked
 pub fn read_request(line: &[u8]) -> Asked
     ensures { (result.status ≤ 3) × (result.access ≤ 2) }
 {
-    let p = arguments::asked(line);
-    let w = p.word;
-    if !p.good {
-        return done(help::wrong(w));
-    }
-    wanted(line, p)
-}
-
-// What a program in C says in place of the command's name: five numbers with blanks between them.
-fn read_machine(line: &[u8]) -> Option<Machine> {
-    let s = arguments::argument(line, 0);
-    Some(Machine {
-        access: run::number_at(s, 0)?,
-        image: run::number_at(s, 1)?,
-        columns: run::number_at(s, 2)?,
-        seconds: run::number_at(s, 3)?,
-        nanoseconds: run::number_at(s, 4)?,
+    numbers(match arguments::asked(line) {
+        Ok(p) => wanted(p),
+        Err(why) => Want::Nothing(help::wrong(why)),
     })
 }
 
-// Says why a file that is named in the command line, or the image, cannot be opened.
-fn say_failed(line: &[u8], e: Error) {
-    let p = arguments::asked(line);
-    say::fail(
-        arguments::argument(line, arguments::at(p, arguments::IMAGE)),
-        e,
-    );
+// A number where it is not 0.
+fn some(n: u64) -> Option<u64> {
+    if n == 0 { None } else { Some(n) }
 }
 
-// Does what the command line wants without an image, and answers the command's status.
-fn answer(streams: Streams, line: &[u8]) -> u32
-    ensures { result ≤ 3 }
-{
-    let p = arguments::asked(line);
-    let w = p.word;
-    let out = Output {
-        to: streams.output,
-        good: true,
+// The access with a number: 2 for writing.
+fn access_numbered(n: u64) -> Access {
+    if n == 2 { Access::Write } else { Access::Read }
+}
+
+// What a program in C says in place of the command's name: five numbers with blanks between them, the access and the descriptor by which
+// the image is open (0 where none is), the terminal's columns (0 where there is none), and the time in seconds and nanoseconds.
+fn read_machine(line: &[u8]) -> Option<Machine> {
+    let s = arguments::argument(line, 0);
+    let access = access_numbered(number_at(s, 0)?);
+    let descriptor = number_at(s, 1)?;
+    let columns = number_at(s, 2)?;
+    let seconds = number_at(s, 3)?;
+    let nanoseconds = number_at(s, 4)?;
+    Some(Machine {
+        image: some(descriptor).map(|number| Descriptor { number, access }),
+        columns: some(columns),
+        now: Time {
+            seconds,
+            nanoseconds: (nanoseconds % 1000000000) as u32,
+        },
+    })
+}
+
+// Number i of numbers with blanks between them.
+fn number_at(s: &[u8], i: usize) -> Option<u64> {
+    words::number(s.split(|c| *c == b' ').nth(i)?)
+}
+
+// Does what the command line wants without an image.
+fn answer(streams: Streams, line: &[u8]) -> Status {
+    let out = streams.output;
+    let p = match arguments::asked(line) {
+        Ok(p) => p,
+        Err(why) => return help::wrong(why),
     };
-    if !p.good {
-        return status(help::wrong(w));
-    }
     if p.help {
-        return status(help::print_word(out, w));
+        return help::print_word(out, p.word);
     }
-    match w {
-        Word::Help => status(help::run(out, line, arguments::at(p, arguments::IMAGE))),
-        Word::Version => status(help::version(out)),
-        Word::Receive => status(pieces::run(streams.input, out, streams.errors, p.both)),
-        _ => status(help::unknown(line, 1)),
+    match p.word {
+        Word::Help => help::run(out, p.image.map(|image| image.name)),
+        Word::Version => help::version(out),
+        Word::Receive => pieces::run(streams.input, out, streams.errors, p.both),
+        _ => help::wrong(arguments::Wrong::Name(arguments::argument(line, 1))),
     }
 }
 
@@ -206,64 +216,58 @@ pub fn carry_out<R: Files + RandomSource>(
 ) -> u32
     ensures { result ≤ 3 }
 {
-    let out = Output {
-        to: streams.output,
-        good: true,
+    let drive = Drive {
+        image,
+        out: streams.output,
     };
     let g = Given {
-        drive: Drive { image, out },
-        line,
+        drive,
         columns: m.columns,
-        now: Time {
-            seconds: m.seconds,
-            nanoseconds: (m.nanoseconds % 1000000000) as u32,
-        },
+        now: m.now,
     };
-    status(run::run(rt, arguments::asked(line), g))
+    let status = match arguments::asked(line) {
+        Ok(p) => run::run(rt, p, g),
+        Err(why) => help::wrong(why),
+    };
+    u32::from(status)
 }
 
 // The image, open by a descriptor that is already there.
-fn opened<R: Files<File = File>>(rt: &R, m: Machine) -> Result<File, Error> {
-    let n = m.image;
+fn opened<R: Files<File = File>>(rt: &R, d: Descriptor) -> Result<File, Error> {
+    let n = d.number;
     let path: InlineText<40> = InlineText::of(format_args!("/proc/self/fd/{n}"));
     let mut how = OpenOptions::new();
-    how.read(true).write(m.access == 2);
+    how.read(true).write(d.access == Access::Write);
     how.open(rt, path.as_str())
 }
 
-// The same with what the machine gives, which opens the image where the command line has one.
-fn carry_out_by<R: Files<File = File> + RandomSource>(
-    rt: &R,
-    streams: Streams,
-    line: &[u8],
-    m: Machine,
-) -> u32
-    ensures { result ≤ 3 }
-{
-    if m.image == 0 {
-        return answer(streams, line);
-    }
-    match opened(rt, m) {
-        Ok(image) => carry_out(rt, streams, &image, line, m),
-        Err(e) => {
-            say_failed(line, e);
-            FAILED
-        }
-    }
+// Says why the image cannot be opened; the status.
+fn refuse_image(line: &[u8], e: Error) -> Status {
+    let path = match arguments::asked(line) {
+        Ok(p) => p.path(),
+        Err(_) => &[],
+    };
+    say::fail(path, e);
+    Status::Failed
 }
 
-// The same with a command line that begins with what the machine gives; with another one it says that it is a part of the command.
+// Does what the command line wants with what the machine gives, which opens the image where the command line has one. A command line
+// begins with that; with another one it says that it is a part of the command. Answers the command's status.
 pub fn perform<R: Files<File = File> + RandomSource>(rt: &R, streams: Streams, line: &[u8]) -> u32
     ensures { result ≤ 3 }
 {
-    match read_machine(line) {
-        Some(m) => carry_out_by(rt, streams, line, m),
-        None => {
-            io::write_all(
-                2,
-                b"amseokbin: this program is a part of the command, which ./build makes\n",
-            );
-            FAILED
-        }
+    let Some(m) = read_machine(line) else {
+        io::write_all(
+            2,
+            b"amseokbin: this program is a part of the command, which ./build makes\n",
+        );
+        return u32::from(Status::Failed);
+    };
+    let Some(d) = m.image else {
+        return u32::from(answer(streams, line));
+    };
+    match opened(rt, d) {
+        Ok(image) => carry_out(rt, streams, &image, line, m),
+        Err(e) => u32::from(refuse_image(line, e)),
     }
 }

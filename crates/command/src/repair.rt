@@ -1,149 +1,108 @@
 // The word `mend`: brings the two copies in step. Assumes what `io` and `std` do.
 use crate::copies::Look;
 use crate::say::{note, print};
-use crate::storing::Work;
-use crate::{after, copies, facts, sentences, storing};
-use layout::Side;
-use mend::{Mending, Rewrite};
-use text::Text;
+use crate::sentences::{Name, RefusalWords};
+use crate::statuses::Status;
+use crate::storing::{List, Work};
+use crate::{after, facts};
+use mend::Rewrite;
+use refusal::Reason;
+use std::fmt;
+use std::fmt::Display;
 
-// A text with what a mend does.
-pub(crate) fn summary(t: Text, m: Mending) -> Text {
-    match m {
-        Mending::InStep => t.add(b"nothing to store"),
-        Mending::Refused(n) => sentences::refused(t, n),
-        Mending::Needed(p) => {
-            let side = p.kept;
-            let u = facts::add_side(t.add(b"keeps "), side).add(b", rewrites ");
-            facts::add_side(u, copy::other_side(side))
-                .add(b", ")
-                .decimal(mend::count(m))
-                .add(b" stores")
+// What a mend does.
+#[derive(Clone, Copy)]
+pub(crate) struct Summary(pub Result<Option<Rewrite>, Reason>);
+
+impl Display for Summary {
+    fn fmt<W: fmt::Write>(&self, f: &mut fmt::Formatter<W>) -> fmt::Result {
+        match self.0 {
+            Ok(None) => f.write_str("nothing to store"),
+            Err(n) => write!(f, "{}", RefusalWords(n)),
+            Ok(Some(p)) => write!(
+                f,
+                "keeps {}, rewrites {}, {} stores",
+                Name::from(p.kept),
+                Name::from(copy::other_side(p.kept)),
+                mend::count(self.0)
+            ),
         }
     }
 }
 
 // Whether a mend may be done: all that matters was read, or, where it is told to go on without, all that matters of the copy
 // that is kept.
-fn allowed(
-    path: &[u8],
-    look: Look<'_>,
-    unreadable: bool,
-    p: Rewrite,
-    front: &[u8],
-    back: &[u8],
-    fm: &[u8],
-    bm: &[u8],
-) -> bool {
-    if look.sure {
+fn allowed(look: Look<'_>, unreadable: bool, p: Rewrite) -> bool {
+    let kept = look.copy(p.kept).lent().known();
+    if look.sure || unreadable && kept {
         return true;
     }
-    let side = p.kept;
-    let kept = match side {
-        Side::Front => sectors::known(front, fm),
-        Side::Back => sectors::known(back, bm),
-    };
-    if unreadable & kept {
-        return true;
-    }
-    let t = Text::new().add(b"not done: a sector that matters could not be read");
-    if kept {
-        note(
-            path,
-            t.add(
-                b"; mend IMAGE unreadable keeps the copy that was read whole and rewrites the other",
-            ),
-        );
+    let rest = if kept {
+        "; mend IMAGE unreadable keeps the copy that was read whole and rewrites the other"
     } else {
-        note(path, t.add(b" in the copy that would be kept"));
-    }
+        " in the copy that would be kept"
+    };
+    note(
+        look.path,
+        format_args!("not done: a sector that matters could not be read{rest}"),
+    );
     false
 }
 
 // Whether both copies' places lie within the image.
-fn within(path: &[u8], look: Look<'_>) -> bool {
-    let d = look.device;
-    if d.sectors <= look.sectors {
+fn within(look: Look<'_>) -> bool {
+    if look.numbers().sectors <= look.sectors {
         return true;
     }
     note(
-        path,
-        Text::new().add(b"not done: the pool's back copy lies past the image's end"),
+        look.path,
+        "not done: the pool's back copy lies past the image's end",
     );
     false
 }
 
 // Writes a mend that was worked out, or lists its stores, and says what is then found.
-fn store(
-    path: &[u8],
-    look: Look<'_>,
-    m: Mending,
-    p: Rewrite,
-    dry: bool,
-    front: &[u8],
-    back: &[u8],
-) -> u8 {
-    let w = Work::Repair(m);
-    let mut list = [0u8; storing::LIST];
-    let all = storing::work_out(w, front, back, &[0u8; 0], &mut list);
+fn store(look: Look<'_>, m: Result<Option<Rewrite>, Reason>, p: Rewrite, dry: bool) -> Status {
+    let list = List::of(Work::Repair(m), look.copies(), &[]);
     let out = look.drive.out;
-    let ok = print(out, summary(Text::new(), m).add(b"\n"));
+    let printed = print(out, format_args!("{}\n", Summary(m)));
     if dry {
-        return facts::unless(
-            storing::print_all(ok, w, p.bytes as u64, &list).good & all,
-            facts::FAILED,
-        );
+        let listed = printed.and_then(|()| list.print(out, p.bytes as u64));
+        return Status::printed(listed).max(list.status());
     }
-    if !(ok.good & all) {
-        return facts::nothing_stored(path);
+    if printed.is_err() || !list.is_whole() {
+        return facts::nothing_stored(look.path);
     }
-    after::carried_out(path, look.drive, w, &list, b"mended: ", after::any())
+    after::carried_out(look, &list, "mended", None)
 }
 
-pub(crate) fn run(
-    path: &[u8],
+// Does a mend that is needed.
+fn mended(
     look: Look<'_>,
+    m: Result<Option<Rewrite>, Reason>,
+    p: Rewrite,
     dry: bool,
     unreadable: bool,
-    front: &[u8],
-    back: &[u8],
-    front_marks: &[u8],
-    back_marks: &[u8],
-) -> u8 {
-    let sure = facts::unless(look.sure, facts::FAILED);
-    let m = mend::work_out(front, back);
+) -> Status {
+    if !allowed(look, unreadable, p) {
+        return Status::Failed;
+    }
+    if !within(look) {
+        return look.status().max(Status::Refused);
+    }
+    let t = facts::found_time(look.copies());
+    facts::note_lost(look, true, t);
+    store(look, m, p, dry)
+}
+
+pub(crate) fn run(look: Look<'_>, dry: bool, unreadable: bool) -> Status {
+    let m = mend::work_out(look.copies());
     match m {
-        Mending::Refused(n) => facts::worse(sure, facts::refuse_found(path, look, n)),
-        Mending::InStep => {
-            let out = look.drive.out;
-            let ok = print(out, Text::new().add(b"in step: nothing to store\n"));
-            facts::worse(sure, facts::unless(ok.good, facts::FAILED))
+        Err(n) => look.status().max(facts::refuse_found(look, n)),
+        Ok(None) => {
+            let printed = print(look.drive.out, "in step: nothing to store\n");
+            look.status().max(Status::printed(printed))
         }
-        Mending::Needed(p) => {
-            if !allowed(
-                path,
-                look,
-                unreadable,
-                p,
-                front,
-                back,
-                front_marks,
-                back_marks,
-            ) {
-                return facts::FAILED;
-            }
-            if !within(path, look) {
-                return facts::worse(sure, facts::REFUSED);
-            }
-            facts::note_lost(
-                path,
-                look,
-                true,
-                facts::found_time(front, back),
-                front,
-                back,
-            );
-            store(path, look, m, p, dry, front, back)
-        }
+        Ok(Some(p)) => mended(look, m, p, dry, unreadable),
     }
 }

@@ -1,7 +1,7 @@
-// Lines on standard output and standard error. Assumes what `io` and `std` do.
-use std::fmt::InlineText;
+// Lines on standard output and standard error, and transfers that take more than one call. Assumes what `io` and `std` do.
+use std::fmt;
+use std::fmt::{Display, InlineText};
 use std::io::{Error, ErrorKind, Print, Read, Stdout};
-use text::Text;
 
 // How often one transfer is taken up again, after a call that moved a part or that a signal interrupted.
 pub(crate) const TURNS: u64 = 100000;
@@ -12,11 +12,54 @@ const INTERRUPTED: i32 = 4;
 // The descriptor of standard error.
 const ERRORS: i32 = 2;
 
-// Standard output, and whether everything before was written to it.
+// A line in the making: none is longer.
+pub(crate) type Line = InlineText<256>;
+
+// Not everything was printed. Where standard output failed, that was said.
 #[derive(Clone, Copy)]
-pub(crate) struct Output {
-    pub to: Stdout,
-    pub good: bool,
+pub(crate) struct Lost;
+
+pub(crate) type Printed = Result<(), Lost>;
+
+// Why a transfer ended before all was moved: a call moved nothing, after so many bytes; each call was interrupted; or one failed.
+#[derive(Drop)]
+pub(crate) enum Short {
+    Ended(usize),
+    Interrupted,
+    Failed(Error),
+}
+
+// The number of an error; 0 where it has none.
+#[derive(Clone, Copy, PartialEq, Eq)]
+pub(crate) struct ErrorNumber(pub u64);
+
+impl ErrorNumber {
+    pub(crate) fn of(e: &Error) -> ErrorNumber {
+        ErrorNumber(
+            e.raw_os_error()
+                .map_or(0, |n| u64::try_from(n).unwrap_or(0)),
+        )
+    }
+}
+
+// The words for an error number.
+impl Display for ErrorNumber {
+    fn fmt<W: fmt::Write>(&self, f: &mut fmt::Formatter<W>) -> fmt::Result {
+        // the system's numbers, of which there are more than these
+        match self.0 {
+            1 => f.write_str("Operation not permitted"),
+            4 => f.write_str("Interrupted system call"),
+            5 => f.write_str("Input/output error"),
+            9 => f.write_str("Bad file descriptor"),
+            11 => f.write_str("Resource temporarily unavailable"),
+            21 => f.write_str("Is a directory"),
+            27 => f.write_str("File too large"),
+            28 => f.write_str("No space left on device"),
+            30 => f.write_str("Read-only file system"),
+            32 => f.write_str("Broken pipe"),
+            n => write!(f, "error {n}"),
+        }
+    }
 }
 
 // The error of a call that was interrupted each time that it was tried.
@@ -24,144 +67,111 @@ pub(crate) fn given_up() -> Error {
     Error::from_raw_os_error(INTERRUPTED)
 }
 
-// The number of an error; 0 where it has none.
-pub(crate) fn number(e: &Error) -> u64 {
-    match e.raw_os_error() {
-        Some(n) => u64::try_from(n).unwrap_or(0),
-        None => 0,
-    }
-}
-
 // Whether a call that failed so is to be tried again: a signal interrupted it.
 pub(crate) fn interrupted(e: &Error) -> bool {
     e.kind() == ErrorKind::Interrupted
 }
 
-// Writes all of s to standard output, by as many calls as that takes; where that fails, the number of the error.
-fn write_all(to: Stdout, s: &[u8]) -> Result<(), u64> {
-    let mut done = 0;
+// Moves so many bytes by as many calls as that takes; each is told how many were moved before it.
+pub(crate) fn transfer<F: FnMut(usize) -> Result<usize, Error>>(
+    bytes: usize,
+    mut call: F,
+) -> Result<(), Short>
+    requires { F.IsAlwaysCallable call }
+{
+    let mut done = 0usize;
+    // a count, since a call may be interrupted without end
     for _ in 0..TURNS {
-        if s.len() <= done {
+        if bytes <= done {
             return Ok(());
         }
-        match to.write_some(&s[done..]) {
-            Ok(0) => return Err(0),
-            Ok(more) => done += more,
+        match call(done) {
+            Ok(0) => return Err(Short::Ended(done)),
+            Ok(more) => done = done.saturating_add(more),
             Err(e) => {
                 if !interrupted(&e) {
-                    return Err(number(&e));
+                    return Err(Short::Failed(e));
                 }
             }
         }
     }
-    if s.len() <= done {
+    if bytes <= done {
         return Ok(());
     }
-    Err(number(&given_up()))
+    Err(Short::Interrupted)
+}
+
+// Writes all of s to standard output.
+fn write_all(to: Stdout, s: &[u8]) -> Result<(), ErrorNumber> {
+    let moved = transfer(s.len(), |done| {
+        to.write_some(s.get(done..).unwrap_or(&[]))
+    });
+    match moved {
+        Ok(()) => Ok(()),
+        Err(Short::Ended(_)) => Err(ErrorNumber(0)),
+        Err(Short::Interrupted) => Err(ErrorNumber::of(&given_up())),
+        Err(Short::Failed(e)) => Err(ErrorNumber::of(&e)),
+    }
 }
 
 // Reads until out is full or the file ends; how many bytes, or the error of a read that failed.
 pub(crate) fn read_all<F: Read>(file: &mut F, out: &mut [u8]) -> Result<usize, Error> {
-    let mut done = 0;
-    for _ in 0..TURNS {
-        if out.len() <= done {
-            return Ok(done);
-        }
-        match file.read(&mut out[done..]) {
-            Ok(0) => return Ok(done),
-            Ok(more) => done += more,
-            Err(e) => {
-                if !interrupted(&e) {
-                    return Err(e);
-                }
-            }
-        }
+    let bytes = out.len();
+    let moved = transfer(bytes, |done| {
+        file.read(out.get_mut(done..).unwrap_or(&mut []))
+    });
+    match moved {
+        Ok(()) => Ok(bytes),
+        Err(Short::Ended(done)) => Ok(done),
+        Err(Short::Interrupted) => Err(given_up()),
+        Err(Short::Failed(e)) => Err(e),
     }
-    if out.len() <= done {
-        return Ok(done);
-    }
-    Err(given_up())
 }
 
-// A text on standard error. Where that fails there is nobody to tell.
+// Bytes on standard error. Where that fails there is nobody to tell.
 pub(crate) fn complain(s: &[u8]) {
     io::write_all(ERRORS, s);
 }
 
-// The same, of a text in the making.
-pub(crate) fn complain_text(t: Text) {
-    let bytes = t.bytes;
-    complain(endian::window(&bytes, 0, t.used));
+// The same of a text.
+pub(crate) fn complain_text<T: Display + Drop>(text: T) {
+    let line: Line = InlineText::of(text);
+    complain(line.as_str().as_bytes());
 }
 
 // A line on standard error about the image, or another file, at a path.
-pub(crate) fn note(path: &[u8], t: Text) {
+pub(crate) fn note<T: Display + Drop>(path: &[u8], text: T) {
     complain(path);
     complain(b": ");
-    complain_text(t.add(b"\n"));
+    complain_text(format_args!("{text}\n"));
 }
 
-// How many bytes of the text of an error are its words: its number stands behind them.
-fn words(all: &str) -> usize {
-    match all.find(" (os error ") {
-        Some(n) => n,
-        None => all.len(),
-    }
-}
-
-// A line on standard error about a file at a path: the words of the error of a call that failed.
+// A line on standard error about a file at a path: the words of the error of a call that failed, without its number.
 pub(crate) fn fail(path: &[u8], e: Error) {
     let all: InlineText<96> = InlineText::of(e);
-    let s = all.as_str();
+    let text = all.as_str();
+    let words = text
+        .split_once(" (os error ")
+        .map_or(text, |(words, _)| words);
     complain(path);
     complain(b": ");
-    complain(endian::window(s.as_bytes(), 0, words(s)));
+    complain(words.as_bytes());
     complain(b"\n");
 }
 
-// What stands when not everything was written.
-pub(crate) fn lost(ok: Output) -> Output {
-    Output {
-        to: ok.to,
-        good: false,
+// Bytes on standard output. What cannot be written is said.
+pub(crate) fn put(to: Stdout, s: &[u8]) -> Printed {
+    match write_all(to, s) {
+        Ok(()) => Ok(()),
+        Err(e) => {
+            complain_text(format_args!("amseokbin: standard output could not be written: {e}\n"));
+            Err(Lost)
+        }
     }
 }
 
-// Bytes on standard output, where everything before them was written; whether these were too. The first that is not is said.
-pub(crate) fn put(ok: Output, s: &[u8]) -> Output {
-    if !ok.good {
-        return ok;
-    }
-    let Err(e) = write_all(ok.to, s) else {
-        return ok;
-    };
-    complain_text(reason(
-        Text::new().add(b"amseokbin: standard output could not be written: "),
-        e,
-    )
-    .add(b"\n"));
-    lost(ok)
-}
-
-// The same, of a text in the making.
-pub(crate) fn print(ok: Output, t: Text) -> Output {
-    let bytes = t.bytes;
-    put(ok, endian::window(&bytes, 0, t.used))
-}
-
-// A text with the words for an error number.
-pub(crate) fn reason(t: Text, e: u64) -> Text {
-    match e {
-        1 => t.add(b"Operation not permitted"),
-        4 => t.add(b"Interrupted system call"),
-        5 => t.add(b"Input/output error"),
-        9 => t.add(b"Bad file descriptor"),
-        11 => t.add(b"Resource temporarily unavailable"),
-        21 => t.add(b"Is a directory"),
-        27 => t.add(b"File too large"),
-        28 => t.add(b"No space left on device"),
-        30 => t.add(b"Read-only file system"),
-        32 => t.add(b"Broken pipe"),
-        _ => t.add(b"error ").decimal(e),
-    }
+// The same of a text.
+pub(crate) fn print<T: Display + Drop>(to: Stdout, text: T) -> Printed {
+    let line: Line = InlineText::of(text);
+    put(to, line.as_str().as_bytes())
 }

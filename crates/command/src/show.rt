@@ -1,445 +1,381 @@
 // The word `show`: the pool for people, with every segment, the free room and a picture; or, with `--plain`, one key and value a
 // line. Assumes what `io` and `std` do.
 use crate::copies::Look;
-use crate::say::{Output, print};
-use crate::{copies, facts, picture, sentences};
-use allocation::{FreeTotal, RunCount};
+use crate::facts::OtherWords;
+use crate::say::{Line, Printed, print};
+use crate::sentences::{
+    AreaName, CountWords, DateWords, HeadWords, KindName, Name, RecordRefusal, SectorWords,
+    SizeWords, YesNo, number_of, text_of,
+};
+use crate::statuses::Status;
+use crate::{copies, facts, picture};
 use block::Reading;
-use discovery::{Answer, Finding, Other};
+use discovery::Found;
 use items::Head;
-use refusal::Refusal;
+use refusal::Reason;
 use runs::Run;
 use segments::Segment;
-use text::Text;
+use std::fmt;
+use std::fmt::{Display, InlineText};
+use std::io::Stdout;
 
-// The numbers of a table of free runs, of which there is one more than segments at the most: a start and a length for each.
-const RUNS: usize = 2 * (copies::RECORD / items::ITEM_BYTES + 1);
+// The free runs of a record, of which there is one more than segments at the most.
+const RUNS: usize = copies::RECORD / items::ITEM_BYTES + 1;
 
-// What is known of the record that is shown.
+// What is known of the record that is shown, and its bytes.
 #[derive(Clone, Copy)]
-pub(crate) struct Shown {
-    pub found: Finding,
-    pub other: Other,
-    pub step: bool,
-    pub unread: bool,
-    pub refusal: Refusal,
-    pub columns: u64,
+struct Shown<'a> {
+    look: Look<'a>,
+    block: Result<Reading, Reason>,
+    found: Found,
+    step: bool,
+    checked: Result<(), Reason>,
+    columns: u64,
+    record: &'a [u8],
 }
 
-// A text with yes or no.
-fn add_yes(t: Text, yes: bool) -> Text {
-    if yes { t.add(b"yes\n") } else { t.add(b"no\n") }
+// A start, a length and its size.
+#[derive(Clone, Copy)]
+struct RowWords {
+    start: u64,
+    sectors: u64,
 }
 
-// The number of free runs of an accepted record, and of its free sectors; 0 of any other.
-fn run_count(look: Look<'_>, r: &[u8]) -> u64 {
-    let n = allocation::count_runs(look.device, r);
-    match n {
-        RunCount::Runs(k) => k,
-        RunCount::Refused(_) => 0,
+impl Display for RowWords {
+    fn fmt<W: fmt::Write>(&self, f: &mut fmt::Formatter<W>) -> fmt::Result {
+        let size = SizeWords(self.sectors);
+        write!(f, "{:12}  {:12}  {size}", self.start, self.sectors)
     }
 }
 
-fn free_sectors(look: Look<'_>, r: &[u8]) -> u64 {
-    let n = allocation::free_total(look.device, r);
-    match n {
-        FreeTotal::Sectors(k) => k,
-        FreeTotal::Refused(_) => 0,
+// The row of a segment or a free run for people: its position, its place, and in column 48 what it is.
+#[derive(Clone, Copy)]
+struct TableRow<T> {
+    position: u64,
+    place: RowWords,
+    what: T,
+}
+
+impl<T: Display> Display for TableRow<T> {
+    fn fmt<W: fmt::Write>(&self, f: &mut fmt::Formatter<W>) -> fmt::Result {
+        let place: Line = InlineText::of(self.place);
+        write!(
+            f,
+            "{:6}  {:<40}{}",
+            self.position,
+            place.as_str(),
+            self.what
+        )
     }
 }
 
-// A number of a table; 0 past its end.
-fn number_at(table: &[u64], i: u64) -> u64 {
-    if i < table.len() as u64 {
-        return table[i as usize];
-    }
-    0
-}
-
-// A free run by its number, from a table of starts and lengths.
-fn run_of(table: &[u64], i: u64) -> Run {
-    if 4096 < i {
-        return Run {
-            start: 0,
-            sectors: 0,
-        };
-    }
-    Run {
-        start: number_at(table, 2 * i),
-        sectors: number_at(table, 2 * i + 1),
+fn segment_row(i: u64, g: Segment) -> TableRow<KindName> {
+    TableRow {
+        position: i,
+        place: RowWords {
+            start: g.start,
+            sectors: g.sectors,
+        },
+        what: KindName(g.kind),
     }
 }
 
-// A key with a number, as a line.
-fn pair(ok: Output, key: &[u8], n: u64) -> Output {
-    print(ok, Text::new().add(key).add(b"=").decimal(n).add(b"\n"))
+fn run_row(i: u64, g: Run) -> TableRow<&'static str> {
+    TableRow {
+        position: i,
+        place: RowWords {
+            start: g.start,
+            sectors: g.sectors,
+        },
+        what: "free",
+    }
 }
 
-// A key with a number in its middle.
-fn item(ok: Output, first: &[u8], i: u64, last: &[u8], n: u64) -> Output {
-    print(
-        ok,
-        Text::new()
-            .add(first)
-            .add(b".")
-            .decimal(i)
-            .add(b".")
-            .add(last)
-            .add(b"=")
-            .decimal(n)
-            .add(b"\n"),
-    )
+impl Shown<'_> {
+    fn out(self) -> Stdout {
+        self.look.drive.out
+    }
+
+    // The number of the free sectors of an accepted record.
+    fn free(self) -> u64 {
+        allocation::free_total(self.look.numbers(), self.record).unwrap_or(0)
+    }
+
+    // The sectors of the data range that are in a segment.
+    fn allocated(self) -> u64 {
+        let d = self.look.numbers();
+        layout::data_end(d)
+            .saturating_sub(layout::data_start(d))
+            .saturating_sub(self.free())
+    }
 }
 
-fn plain_segment(ok: Output, r: &[u8], i: usize) -> Output {
-    let g = items::segment_at(r, i);
-    let k = item(ok, b"segment", i as u64, b"kind", g.kind as u64);
-    let s = item(k, b"segment", i as u64, b"start", g.start);
-    item(s, b"segment", i as u64, b"sectors", g.sectors)
+// A key with a value, as a line.
+fn pair<T: Display + Drop>(out: Stdout, key: &str, value: T) -> Printed {
+    print(out, format_args!("{key}={value}\n"))
 }
 
-fn plain_run(ok: Output, i: u64, g: Run) -> Output {
-    let s = item(ok, b"free", i, b"start", g.start);
-    item(s, b"free", i, b"sectors", g.sectors)
+fn plain_segment(out: Stdout, i: usize, g: Segment) -> Printed {
+    print(out, format_args!("segment.{i}.kind={}\n", g.kind))?;
+    print(out, format_args!("segment.{i}.start={}\n", g.start))?;
+    print(out, format_args!("segment.{i}.sectors={}\n", g.sectors))
+}
+
+fn plain_run(out: Stdout, i: usize, g: Run) -> Printed {
+    print(out, format_args!("free.{i}.start={}\n", g.start))?;
+    print(out, format_args!("free.{i}.sectors={}\n", g.sectors))
 }
 
 // The lines of all segments, for people or plain.
-fn segments(before: Output, plain: bool, r: &[u8]) -> Output {
-    let n = items::count_of(r);
-    let mut ok = before;
-    let mut i = 0;
-    while i < n {
-        let next = segment_line(ok, plain, r, i);
-        ok = next;
-        i += 1;
+fn print_segments(s: Shown<'_>, plain: bool) -> Printed {
+    // the library reads the segments of a record's bytes by their numbers
+    for i in 0..items::count_of(s.record) {
+        let g = items::segment_at(s.record, i);
+        if plain {
+            plain_segment(s.out(), i, g)?;
+        } else {
+            print(s.out(), format_args!("{}\n", segment_row(i as u64, g)))?;
+        }
     }
-    ok
+    Ok(())
 }
 
-fn segment_line(ok: Output, plain: bool, r: &[u8], i: usize) -> Output {
-    if plain {
-        return plain_segment(ok, r, i);
+// The lines of all free runs.
+fn print_runs(out: Stdout, plain: bool, runs: &[Run]) -> Printed {
+    for (i, g) in runs.iter().enumerate() {
+        if plain {
+            plain_run(out, i, *g)?;
+        } else {
+            print(out, format_args!("{}\n", run_row(i as u64, *g)))?;
+        }
     }
-    print(
-        ok,
-        segment_row(i as u64, items::segment_at(r, i)).add(b"\n"),
-    )
-}
-
-// The row of a segment for people, with its position first and its kind last.
-fn segment_row(i: u64, g: Segment) -> Text {
-    let t = row(Text::new().padded(i, 6).add(b"  "), g.start, g.sectors);
-    sentences::add_kind(picture::pad_to(t, 48), g.kind)
-}
-
-// A text with a start, a length and its size.
-fn row(t: Text, start: u64, sectors: u64) -> Text {
-    facts::add_size(
-        t.padded(start, 12)
-            .add(b"  ")
-            .padded(sectors, 12)
-            .add(b"  "),
-        sectors,
-    )
-}
-
-// The lines of all free runs: one more than segments at the most.
-fn runs(before: Output, plain: bool, look: Look<'_>, r: &[u8]) -> Output {
-    let mut table = [0u64; RUNS];
-    allocation::free_run_numbers(look.device, r, &mut table);
-    run_lines(before, plain, run_count(look, r), &table)
-}
-
-fn run_lines(before: Output, plain: bool, n: u64, table: &[u64]) -> Output {
-    let mut ok = before;
-    let mut i = 0;
-    while i < n {
-        let next = run_line(ok, plain, i, run_of(table, i));
-        ok = next;
-        i += 1;
-    }
-    ok
-}
-
-fn run_line(ok: Output, plain: bool, i: u64, g: Run) -> Output {
-    if plain {
-        return plain_run(ok, i, g);
-    }
-    let t = row(Text::new().padded(i, 6).add(b"  "), g.start, g.sectors);
-    print(ok, picture::pad_to(t, 48).add(b"free\n"))
-}
-
-// The sectors of the data range that are in a segment.
-fn allocated(look: Look<'_>, r: &[u8]) -> u64 {
-    let d = look.device;
-    let data = picture::less(layout::data_end(d), layout::data_start(d));
-    picture::less(data, free_sectors(look, r))
-}
-
-// Prints UUIDs.
-fn uuids(ok: Output, first: &[u8], second: &[u8], q: Reading) -> Output {
-    let pool = q.pool;
-    let uuid = q.blockdev;
-    let a = facts::print_uuid(ok, Text::new().add(first), pool);
-    facts::print_uuid(a, Text::new().add(second), uuid)
+    Ok(())
 }
 
 // The first lines of the plain form: identity, place and time.
-fn plain_first(look: Look<'_>, s: Shown, q: Reading) -> Output {
-    let d = look.device;
-    let f = s.found;
-    let side = f.side;
-    let area = f.area;
-    let u = uuids(look.drive.out, b"pool=", b"device=", q);
-    let n = pair(u, b"sectors", d.sectors);
-    let m = pair(n, b"metadata", d.metadata as u64);
-    let e = pair(m, b"reserved", d.reserved as u64);
-    let p = print(
-        e,
-        facts::add_side(Text::new().add(b"found="), side).add(b"\n"),
-    );
-    let a = print(
-        p,
-        facts::add_area(Text::new().add(b"area="), area).add(b"\n"),
-    );
-    let b = pair(a, b"bytes", f.bytes as u64);
-    let c = pair(b, b"seconds", f.seconds);
-    pair(c, b"nanoseconds", f.nanoseconds as u64)
-}
-
-// The next lines: the other copy, in step, sure, the record's number, and which segments clash.
-fn plain_state(ok: Output, look: Look<'_>, s: Shown) -> Output {
-    let o = s.other;
-    let a = print(
-        ok,
-        facts::add_other(Text::new().add(b"other="), o, s.unread).add(b"\n"),
-    );
-    let b = print(a, add_yes(Text::new().add(b"in-step="), s.step));
-    let c = print(b, add_yes(Text::new().add(b"sure="), look.sure));
-    let n = s.refusal;
-    plain_clash(pair(c, b"record", n.number as u64), n)
-}
-
-// The line of the two segments that share a sector, where a record is refused for that.
-fn plain_clash(ok: Output, n: Refusal) -> Output {
-    if n.number != refusal::SEGMENT_CLASH {
-        return ok;
+fn plain_first(s: Shown<'_>) -> Printed {
+    let out = s.out();
+    let d = s.look.numbers();
+    let f = s.found.finding;
+    if let Ok(b) = s.block {
+        pair(out, "pool", text_of(&b.pool))?;
+        pair(out, "device", text_of(&b.blockdev))?;
     }
-    print(
-        ok,
-        Text::new()
-            .add(b"clash=")
-            .decimal(n.first)
-            .add(b" ")
-            .decimal(n.second)
-            .add(b"\n"),
-    )
+    pair(out, "sectors", d.sectors)?;
+    pair(out, "metadata", d.metadata)?;
+    pair(out, "reserved", d.reserved)?;
+    pair(out, "found", Name::from(f.side))?;
+    pair(out, "area", AreaName(f.area))?;
+    pair(out, "bytes", f.bytes)?;
+    pair(out, "seconds", f.seconds)?;
+    pair(out, "nanoseconds", f.nanoseconds)
+}
+
+// The next lines: the other copy, in step, sure, the record's number, and, where two segments share a sector, which.
+fn plain_state(s: Shown<'_>) -> Printed {
+    let out = s.out();
+    let other = OtherWords {
+        other: s.found.other,
+        unread: s.look.lacks_block(),
+    };
+    pair(out, "other", other)?;
+    pair(out, "in-step", YesNo(s.step))?;
+    pair(out, "sure", YesNo(s.look.sure))?;
+    match s.checked {
+        Ok(()) => pair(out, "record", 0u8),
+        Err(n) => {
+            pair(out, "record", number_of(n))?;
+            match n {
+                Reason::SegmentClash(first, second) => {
+                    print(out, format_args!("clash={first} {second}\n"))
+                }
+                _ => Ok(()),
+            }
+        }
+    }
 }
 
 // The lines of the head of an accepted record.
-fn plain_head(ok: Output, h: Head) -> Output {
-    let a = pair(ok, b"head", items::head_kind(h) as u64);
-    let b = pair(a, b"block-size", items::block_size(h) as u64);
+fn plain_head(out: Stdout, h: Head) -> Printed {
+    pair(out, "head", items::head_kind(h))?;
+    pair(out, "block-size", items::block_size(h))?;
     match h {
-        Head::Marked(_, mark) => pair(b, b"low-water", mark as u64),
-        _ => b,
+        Head::Marked(_, mark) => pair(out, "low-water", mark),
+        _ => Ok(()),
     }
 }
 
-// The lines of an accepted record.
-fn plain_record(ok: Output, look: Look<'_>, r: &[u8]) -> Output {
-    let a = plain_head(ok, items::head_of(r));
-    let b = pair(a, b"segments", items::count_of(r) as u64);
-    let c = segments(b, true, r);
-    let d = pair(c, b"allocated", allocated(look, r));
-    let e = pair(d, b"free-runs", run_count(look, r));
-    let f = pair(e, b"free", free_sectors(look, r));
-    runs(f, true, look, r)
-}
-
-fn plain(look: Look<'_>, s: Shown, q: Reading, r: &[u8]) -> Output {
-    let a = plain_first(look, s, q);
-    let b = plain_state(a, look, s);
-    let n = s.refusal;
-    if n.number != 0 {
-        return b;
-    }
-    plain_record(b, look, r)
+// The lines of an accepted record, with its free runs.
+fn plain_record(s: Shown<'_>, runs: &[Run]) -> Printed {
+    let out = s.out();
+    plain_head(out, items::head_of(s.record))?;
+    pair(out, "segments", items::count_of(s.record))?;
+    print_segments(s, true)?;
+    pair(out, "allocated", s.allocated())?;
+    pair(out, "free-runs", runs.len())?;
+    pair(out, "free", s.free())?;
+    print_runs(out, true, runs)
 }
 
 // The first lines for people.
-fn people_first(look: Look<'_>, s: Shown, q: Reading) -> Output {
-    let d = look.device;
-    let u = uuids(look.drive.out, b"pool      ", b"device    ", q);
-    let n = amount(u, Text::new().add(b"drive     "), d.sectors);
-    let e = facts::add_count(
-        Text::new().add(b"ends      metadata "),
-        d.metadata as u64,
-        b"sector",
-    );
-    let m = facts::add_count(e.add(b", reserved "), d.reserved as u64, b"sector");
-    people_record(print(n, m.add(b", at each end\n")), look, s)
+fn people_first(s: Shown<'_>) -> Printed {
+    let out = s.out();
+    let d = s.look.numbers();
+    if let Ok(b) = s.block {
+        print(out, format_args!("pool      {}\n", text_of(&b.pool)))?;
+        print(out, format_args!("device    {}\n", text_of(&b.blockdev)))?;
+    }
+    print(out, format_args!("drive     {}\n", SectorWords(d.sectors)))?;
+    print(
+        out,
+        format_args!(
+            "ends      metadata {}, reserved {}, at each end\n",
+            CountWords(d.metadata as u64, "sector"),
+            CountWords(d.reserved as u64, "sector")
+        ),
+    )
+}
+
+// What is said of the copies that a record was found in.
+fn copies_words(s: Shown<'_>) -> &'static str {
+    if !s.look.sure {
+        "not all read: perhaps not the newest"
+    } else if s.step {
+        "in step"
+    } else {
+        "NOT in step"
+    }
 }
 
 // The lines of the found record.
-fn people_record(ok: Output, look: Look<'_>, s: Shown) -> Output {
-    let f = s.found;
-    let side = f.side;
-    let area = f.area;
-    let t = facts::add_count(Text::new().add(b"record    "), f.bytes as u64, b"byte");
-    let p = facts::add_area(facts::add_side(t.add(b", "), side).add(b" "), area);
-    let a = print(ok, p.add(b"\n"));
-    let when = facts::add_date(Text::new().add(b"time      "), facts::record_time(f));
-    let b = print(a, when.add(b"\n"));
-    if !look.sure {
-        return print(
-            b,
-            Text::new().add(b"copies    not all read: perhaps not the newest\n"),
-        );
-    }
-    if s.step {
-        return print(b, Text::new().add(b"copies    in step\n"));
-    }
-    print(b, Text::new().add(b"copies    NOT in step\n"))
-}
-
-// A line with a number of sectors and their size.
-fn amount(ok: Output, t: Text, sectors: u64) -> Output {
-    let u = facts::add_count(t, sectors, b"sector").add(b", ");
-    print(ok, facts::add_size(u, sectors).add(b"\n"))
-}
-
-// The lines of an accepted record, and the picture.
-fn people_content(ok: Output, look: Look<'_>, columns: u64, r: &[u8]) -> Output {
-    let e = print(
-        ok,
-        sentences::add_head(Text::new().add(b"head      "), r).add(b"\n"),
-    );
-    let a = amount(
-        e,
-        Text::new().add(b"block     "),
-        items::block_size(items::head_of(r)) as u64,
-    );
-    let c = facts::add_count(
-        Text::new().add(b"used      "),
-        items::count_of(r) as u64,
-        b"segment",
-    );
-    let b = amount(a, c.add(b", "), allocated(look, r));
-    let s = segments(b, false, r);
-    let f = facts::add_count(Text::new().add(b"free      "), run_count(look, r), b"run");
-    let h = amount(s, f.add(b", "), free_sectors(look, r));
-    let k = runs(h, false, look, r);
-    picture::draw(k, look.device, columns, r)
-}
-
-// The line of a record that is not accepted; where two segments share a sector, a line for each and one for what both hold.
-fn people_refused(ok: Output, n: Refusal, r: &[u8]) -> Output {
-    let a = print(
-        ok,
-        sentences::refused_record(Text::new().add(b"content   "), n, r).add(b"\n"),
-    );
-    if n.number != refusal::SEGMENT_CLASH {
-        return a;
-    }
-    let g = items::segment_at(r, n.first as usize);
-    let h = items::segment_at(r, n.second as usize);
-    let b = clash_line(clash_line(a, n.first, g), n.second, h);
+fn people_state(s: Shown<'_>) -> Printed {
+    let out = s.out();
+    let f = s.found.finding;
     print(
-        b,
-        add_shared(Text::new().add(b"clash     "), g, h).add(b"\n"),
-    )
+        out,
+        format_args!(
+            "record    {}, {} {}\n",
+            CountWords(f.bytes as u64, "byte"),
+            Name::from(f.side),
+            AreaName(f.area)
+        ),
+    )?;
+    let date = DateWords(facts::record_time(f));
+    print(out, format_args!("time      {date}\n"))?;
+    print(out, format_args!("copies    {}\n", copies_words(s)))
+}
+
+// The lines of an accepted record with its free runs, and the picture.
+fn people_record(s: Shown<'_>, runs: &[Run]) -> Printed {
+    let out = s.out();
+    let h = items::head_of(s.record);
+    print(out, format_args!("head      {}\n", HeadWords(h)))?;
+    let block = SectorWords(items::block_size(h) as u64);
+    print(out, format_args!("block     {block}\n"))?;
+    let segments = CountWords(items::count_of(s.record) as u64, "segment");
+    let used = SectorWords(s.allocated());
+    print(out, format_args!("used      {segments}, {used}\n"))?;
+    print_segments(s, false)?;
+    let count = CountWords(runs.len() as u64, "run");
+    let free = SectorWords(s.free());
+    print(out, format_args!("free      {count}, {free}\n"))?;
+    print_runs(out, false, runs)?;
+    picture::draw(out, s.look.numbers(), s.columns, s.record)
 }
 
 // The line of one of two segments that share a sector: its row, and its last sector.
-fn clash_line(ok: Output, i: u64, g: Segment) -> Output {
+fn clash_line(out: Stdout, i: u64, g: Segment) -> Printed {
+    let last = picture::end_of(g).saturating_sub(1);
     print(
-        ok,
-        segment_row(i, g)
-            .add(b", last sector ")
-            .decimal(picture::less(picture::end_of(g), 1))
-            .add(b"\n"),
+        out,
+        format_args!("{}, last sector {last}\n", segment_row(i, g)),
     )
 }
 
-// A text with the sectors that two segments both hold.
-fn add_shared(t: Text, g: Segment, h: Segment) -> Text {
-    let first = picture::most(g.start, h.start);
+// The line of the sectors that two segments both hold.
+fn shared_line(out: Stdout, g: Segment, h: Segment) -> Printed {
+    let first = g.start.max(h.start);
     let n = picture::shared(g, h.start, picture::end_of(h));
     if n == 1 {
-        return t.add(b"both hold sector ").decimal(first);
+        return print(out, format_args!("clash     both hold sector {first}\n"));
     }
-    let u = t
-        .add(b"both hold sectors ")
-        .decimal(first)
-        .add(b" to ")
-        .decimal(picture::less(picture::sum(first, n), 1))
-        .add(b", ");
-    facts::add_count(u, n, b"sector")
+    let last = first.saturating_add(n).saturating_sub(1);
+    let count = CountWords(n, "sector");
+    print(
+        out,
+        format_args!("clash     both hold sectors {first} to {last}, {count}\n"),
+    )
 }
 
-fn people(look: Look<'_>, s: Shown, q: Reading, r: &[u8]) -> Output {
-    let a = people_first(look, s, q);
-    let n = s.refusal;
-    if n.number != 0 {
-        return people_refused(a, n, r);
+// The line of a record that is not accepted; where two segments share a sector, a line for each and one for what both hold.
+fn people_refused(s: Shown<'_>, n: Reason) -> Printed {
+    let out = s.out();
+    let r = s.record;
+    print(out, format_args!("content   {}\n", RecordRefusal(n, r)))?;
+    let Reason::SegmentClash(first, second) = n else {
+        return Ok(());
+    };
+    let g = items::segment_at(r, first as usize);
+    let h = items::segment_at(r, second as usize);
+    clash_line(out, first, g)?;
+    clash_line(out, second, h)?;
+    shared_line(out, g, h)
+}
+
+fn print_plain(s: Shown<'_>, runs: &[Run]) -> Printed {
+    plain_first(s)?;
+    plain_state(s)?;
+    match s.checked {
+        Ok(()) => plain_record(s, runs),
+        Err(_) => Ok(()),
     }
-    people_content(a, look, s.columns, r)
+}
+
+fn print_people(s: Shown<'_>, runs: &[Run]) -> Printed {
+    people_first(s)?;
+    people_state(s)?;
+    match s.checked {
+        Ok(()) => people_record(s, runs),
+        Err(n) => people_refused(s, n),
+    }
 }
 
 // Shows a record that was found.
-fn show_found(
-    path: &[u8],
-    look: Look<'_>,
-    as_plain: bool,
-    s: Shown,
-    front: &[u8],
-    back: &[u8],
-    r: &[u8],
-) -> u8 {
-    let q = facts::first_reading(front, back);
-    let ok = if as_plain {
-        plain(look, s, q, r)
+fn show_found(s: Shown<'_>, plain: bool) -> Status {
+    let mut table = [Run {
+        start: 0,
+        sectors: 0,
+    }; RUNS];
+    let count = allocation::free_runs(s.look.numbers(), s.record, &mut table).unwrap_or(0);
+    let runs = table.get(..count as usize).unwrap_or(&[]);
+    let printed = if plain {
+        print_plain(s, runs)
     } else {
-        people(look, s, q, r)
+        print_people(s, runs)
     };
-    let f = s.found;
-    let n = s.refusal;
-    facts::note_state(path, look, s.step, facts::record_time(f), front, back);
-    facts::worse(
-        facts::unless(n.number == 0, facts::REFUSED),
-        facts::unless(ok.good, facts::FAILED),
-    )
+    facts::note_state(s.look, s.step, facts::record_time(s.found.finding));
+    Status::unless(s.checked.is_ok(), Status::Refused).max(Status::printed(printed))
 }
 
 // The word `show`.
-pub(crate) fn run(
-    path: &[u8],
-    look: Look<'_>,
-    as_plain: bool,
-    columns: u64,
-    front: &[u8],
-    back: &[u8],
-    front_marks: &[u8],
-    back_marks: &[u8],
-) -> u8 {
-    let sure = facts::unless(look.sure, facts::FAILED);
+pub(crate) fn run(look: Look<'_>, plain: bool, columns: u64) -> Status {
+    let step = discovery::examine(look.copies()).step;
     let mut bytes = [0u8; copies::RECORD];
-    let v = discovery::examine(front, back);
-    let a = discovery::read_found(front, back, &mut bytes);
-    match a {
-        Answer::Refused(n) => facts::worse(sure, facts::refuse_found(path, look, n)),
-        Answer::Found(f, o) => {
-            let r = endian::window(&bytes, 0, f.bytes as usize);
-            let s = Shown {
-                found: f,
-                other: o,
-                step: v.step,
-                unread: facts::block_unread(front_marks, back_marks),
-                refusal: record::check(look.device, r),
-                columns: columns,
+    let status = match facts::read_found(look, &mut bytes) {
+        Err(n) => facts::refuse_found(look, n),
+        Ok(found) => {
+            let record = endian::window(&bytes, 0, found.finding.bytes as usize);
+            let shown = Shown {
+                look,
+                block: facts::first_block(look.copies()),
+                found,
+                step,
+                checked: record::check(look.numbers(), record),
+                columns,
+                record,
             };
-            facts::worse(sure, show_found(path, look, as_plain, s, front, back, r))
+            show_found(shown, plain)
         }
-    }
+    };
+    look.status().max(status)
 }

@@ -1,292 +1,260 @@
 // The stores of an update or of a mend: all worked out first, then listed, or written group by group with a flush after each
 // group, and none after one that failed. Assumes what `io` and `std` do.
-ghost use Rattle.std.specs.Prelude.{◌<◌, ◌^◌};
-
 use crate::image;
-use crate::say::{Output, note, print, reason};
-use block::{BlockFields, Entry, Verdict};
-use mend::Mending;
+use crate::image::Fault;
+use crate::say::{Printed, note, print};
+use crate::sentences::AreaName;
+use crate::statuses::Status;
+use block::BlockFields;
+use discovery::Copies;
+use mend::Rewrite;
+use refusal::Reason;
+use std::fmt;
+use std::fmt::Display;
 use std::fs::File;
-use stores::Given;
-use text::Text;
+use std::io::Stdout;
 use update::Plan;
 
-// The most stores that an update or a mend has, and the bytes of the list of them: for each store its sector's number, then
-// its 512 bytes.
-pub(crate) const MOST: u64 = 2 * (layout::RECORD_LIMIT / image::SECTOR) + 2;
+// The most stores that an update or a mend has.
+const MOST: usize = 2 * (layout::RECORD_LIMIT / image::SECTOR) as usize + 2;
 
-pub(crate) const STRIDE: usize = 8 + layout::SECTOR_BYTES;
-
-pub(crate) const LIST: usize = MOST as usize * STRIDE;
+// A store: the number of its sector, where there is such a store, and its bytes.
+#[derive(Clone, Copy)]
+struct Store {
+    sector: Option<u64>,
+    bytes: [u8; layout::SECTOR_BYTES],
+}
 
 // What is stored: an update with its record's length, or a mend.
 #[derive(Clone, Copy)]
 pub(crate) enum Work {
     Change(Plan),
-    Repair(Mending),
+    Repair(Result<Option<Rewrite>, Reason>),
 }
 
-// How many stores there are.
-pub(crate) fn count(w: Work) -> u64 {
-    match w {
-        Work::Change(p) => update::count(p),
-        Work::Repair(m) => mend::count(m),
+// All stores of a work.
+#[derive(Clone, Copy)]
+pub(crate) struct List {
+    work: Work,
+    stores: [Store; MOST],
+}
+
+// A write or a flush failed, which was said.
+#[derive(Clone, Copy)]
+pub(crate) struct Stopped;
+
+impl Work {
+    // How many stores there are.
+    fn count(self) -> u64 {
+        match self {
+            Work::Change(p) => update::count(p),
+            Work::Repair(m) => mend::count(m),
+        }
+    }
+
+    // The group of a store; 4 past the last.
+    fn group(self, i: u64) -> u8 {
+        match self {
+            Work::Change(p) => update::group(p, i),
+            Work::Repair(m) => mend::group(m, i),
+        }
+    }
+
+    // Whether a flush belongs after a store.
+    fn flush_after(self, i: u64) -> bool {
+        match self {
+            Work::Change(p) => update::flush(p, i),
+            Work::Repair(m) => mend::flush(m, i),
+        }
+    }
+
+    // A store by its number; r is the new record.
+    fn store(self, c: Copies<'_>, r: &[u8], i: u64) -> Store {
+        let mut bytes = [0u8; layout::SECTOR_BYTES];
+        let given = match self {
+            Work::Change(p) => update::store(p, c, r, i, &mut bytes),
+            Work::Repair(m) => mend::store(m, c, i, &mut bytes),
+        };
+        Store {
+            sector: given.ok(),
+            bytes,
+        }
+    }
+
+    // Whether the stores of a group hold a part of the record.
+    fn holds_record(self, group: u8) -> bool {
+        match self {
+            Work::Change(_) => matches!(group, 0 | 2),
+            Work::Repair(_) => group == 1,
+        }
+    }
+
+    // Whether a group is the last store of a mend, which makes an entry unused.
+    fn clears_entry(self, group: u8) -> bool {
+        matches!(self, Work::Repair(_)) && group == 3
+    }
+
+    // The number of a store within its record's sectors.
+    fn part(self, i: u64) -> u64 {
+        match self {
+            Work::Change(p) => {
+                let sectors = stores::sectors(p.entry.bytes) as u64;
+                if i <= sectors { i } else { i - sectors - 1 }
+            }
+            Work::Repair(_) => i.saturating_sub(1),
+        }
     }
 }
 
-// The group of a store; 4 past the last.
-fn group(w: Work, i: u64) -> u8 {
-    match w {
-        Work::Change(p) => update::group(p, i),
-        Work::Repair(m) => mend::group(m, i),
-    }
-}
-
-// Whether a flush belongs after a store.
-fn flush_after(w: Work, i: u64) -> bool {
-    match w {
-        Work::Change(p) => update::flush(p, i),
-        Work::Repair(m) => mend::flush(m, i),
-    }
-}
-
-// A store by its number.
-fn given(w: Work, f: &[u8], b: &[u8], r: &[u8], i: u64, out: &mut [u8]) -> Given {
-    match w {
-        Work::Change(p) => update::store(p, f, b, r, i, out),
-        Work::Repair(m) => mend::store(m, f, b, i, out),
-    }
-}
-
-// Where a store stands in the list; past its end where there is none.
-fn place(i: u64) -> usize
-    ensures { result < 2 ^ 32 }
-{
-    if MOST <= i {
-        return LIST;
-    }
-    i as usize * STRIDE
-}
-
-// Puts a store into the list; whether there is such a store.
-fn list_store(w: Work, f: &[u8], b: &[u8], r: &[u8], i: u64, list: &mut [u8]) -> bool {
-    let mut s = [0u8; layout::SECTOR_BYTES];
-    let g = given(w, f, b, r, i, &mut s);
-    let sector = match g {
-        Given::At(x) => x,
-        Given::Refused(_) => 0,
-    };
-    endian::write_u64(list, place(i), sector);
-    endian::put(list, place(i) + 8, &s);
-    (sector != 0) & (i < MOST)
-}
-
-// Works all stores out, into the list; whether all of them are there.
-pub(crate) fn work_out(w: Work, f: &[u8], b: &[u8], r: &[u8], list: &mut [u8]) -> bool {
-    let n = count(w);
-    let mut all = true;
-    let mut i = 0;
-    while i < n {
-        let there = list_store(w, f, b, r, i, list);
-        all = all & there;
-        i += 1;
-    }
-    all
-}
-
-// Says that a store could not be written.
-fn note_failed(path: &[u8], sector: u64, e: u64) {
-    let t = Text::new()
-        .add(b"sector ")
-        .decimal(sector)
-        .add(b" could not be written: ");
-    note(path, add_reason(t, e).add(b"; nothing was stored after it"));
-}
-
-// A text with the reason why a write or a flush failed.
-fn add_reason(t: Text, e: u64) -> Text {
-    if e == image::ENDED {
-        return t.add(b"past the image's end");
-    }
-    reason(t, e)
-}
-
-// Writes a sector; whether it was written.
-pub(crate) fn write(image: &File, path: &[u8], sector: u64, s: &[u8]) -> bool {
-    let e = image::write(image, sector, s);
-    if e == image::DONE {
-        return true;
-    }
-    note_failed(path, sector, e);
-    false
-}
-
-// Waits for the device, where that is due; whether that went well.
-pub(crate) fn flush(image: &File, path: &[u8], due: bool) -> bool {
-    if !due {
-        return true;
-    }
-    let e = image::flush(image);
-    if e == image::DONE {
-        return true;
-    }
-    let t = Text::new().add(b"could not be flushed: ");
-    note(path, add_reason(t, e).add(b"; nothing was stored after it"));
-    false
-}
-
-// Writes a store of the list, with a flush after the last of its group; whether that went well.
-fn write_store(image: &File, path: &[u8], w: Work, i: u64, list: &[u8]) -> bool {
-    let at = place(i);
-    let sector = endian::read_u64(list, at);
-    if !write(
-        image,
+// Says what could not be written or flushed.
+fn say_stopped<T: Display + Drop>(path: &[u8], what: T, fault: Fault) -> Stopped {
+    note(
         path,
-        sector,
-        endian::window(list, at + 8, layout::SECTOR_BYTES),
-    ) {
-        return false;
-    }
-    flush(image, path, flush_after(w, i))
+        format_args!("{what}: {fault}; nothing was stored after it"),
+    );
+    Stopped
 }
 
-// Writes all stores of the list, up to the first that fails; whether all went well. A flush comes first, so that what the copies were
-// read from has landed too.
-pub(crate) fn write_all(image: &File, path: &[u8], w: Work, list: &[u8]) -> bool {
-    let n = count(w);
-    if !flush(image, path, true) {
-        return false;
+// Writes a sector.
+pub(crate) fn write(image: &File, path: &[u8], sector: u64, s: &[u8]) -> Result<(), Stopped> {
+    image::write(image, sector, s).map_err(|fault| {
+        say_stopped(
+            path,
+            format_args!("sector {sector} could not be written"),
+            fault,
+        )
+    })
+}
+
+// Waits for the device, where that is due.
+pub(crate) fn flush(image: &File, path: &[u8], due: bool) -> Result<(), Stopped> {
+    if !due {
+        return Ok(());
     }
-    let mut i = 0;
-    while i < n {
-        if !write_store(image, path, w, i, list) {
-            return false;
+    image::flush(image).map_err(|fault| say_stopped(path, "could not be flushed", fault))
+}
+
+impl List {
+    // Works all stores of a work out; r is the new record.
+    pub(crate) fn of(work: Work, c: Copies<'_>, r: &[u8]) -> List {
+        let count = work.count();
+        let mut stores = [Store {
+            sector: None,
+            bytes: [0; layout::SECTOR_BYTES],
+        }; MOST];
+        for (i, store) in stores.iter_mut().enumerate().take(count as usize) {
+            *store = work.store(c, r, i as u64);
         }
-        i += 1;
+        List { work, stores }
     }
-    true
-}
 
-// Whether an entry is used.
-fn used(e: Entry) -> bool {
-    match e {
-        Entry::Used(_) => true,
-        Entry::Unused => false,
+    // How many stores there are.
+    pub(crate) fn count(&self) -> u64 {
+        self.work.count()
     }
-}
 
-// A text with what a stored block says; the last store of a mend is the one that makes an entry unused.
-fn add_block(t: Text, f: BlockFields, last: bool) -> Text {
-    let a = f.a;
-    let b = f.b;
-    if !used(a) & !used(b) {
-        return t.add(b"block, both entries unused");
+    // Whether all of them are there.
+    pub(crate) fn is_whole(&self) -> bool {
+        let count = self.count() as usize;
+        count <= MOST
+            && self
+                .stores
+                .iter()
+                .take(count)
+                .all(|store| store.sector.is_some())
     }
-    if last {
-        if used(a) {
-            return t.add(b"block, area b unused");
-        }
-        return t.add(b"block, area a unused");
-    }
-    let x = copy::newest(f);
-    crate::facts::add_area(t.add(b"block, area "), x).add(b" used")
-}
 
-// A text with the part of a record of n bytes that a store holds, sector j of it.
-fn add_part(t: Text, n: u64, j: u64) -> Text {
-    let s = image::SECTOR;
-    if n <= s {
-        return t.add(b"record, ").decimal(n).add(b" bytes");
-    }
-    if MOST < j {
-        return t;
-    }
-    let first = s * j;
-    let last = if n < first + s {
-        n - 1
-    } else {
-        first + (s - 1)
-    };
-    t.add(b"record, bytes ")
-        .decimal(first)
-        .add(b" to ")
-        .decimal(last)
-}
-
-// The number of a store within its record's sectors.
-fn part_of(w: Work, i: u64) -> u64 {
-    match w {
-        Work::Change(p) => {
-            let e = p.entry;
-            let k = stores::sectors(e.bytes) as u64;
-            if i <= k {
-                return i;
+    // Writes all stores, up to the first that fails, with a flush after the last of each group. A flush comes first, so that what the
+    // copies were read from has landed too.
+    pub(crate) fn write(&self, image: &File, path: &[u8]) -> Result<(), Stopped> {
+        flush(image, path, true)?;
+        for (i, store) in self.stores.iter().enumerate().take(self.count() as usize) {
+            if let Some(sector) = store.sector {
+                write(image, path, sector, &store.bytes)?;
             }
-            i - k - 1
+            flush(image, path, self.work.flush_after(i as u64))?;
         }
-        Work::Repair(_) => {
-            if i == 0 {
-                return 0;
-            }
-            i - 1
+        Ok(())
+    }
+
+    // Prints a line for each store; n is the record's length.
+    pub(crate) fn print(&self, out: Stdout, n: u64) -> Printed {
+        for (i, store) in self.stores.iter().enumerate().take(self.count() as usize) {
+            print_store(out, self.work, i as u64, n, store)?;
+        }
+        Ok(())
+    }
+
+    // The status of what lists it.
+    pub(crate) fn status(&self) -> Status {
+        Status::unless(self.is_whole(), Status::Failed)
+    }
+}
+
+// What a stored block says of its entries; where it clears one, which.
+#[derive(Clone, Copy)]
+struct EntryWords {
+    fields: BlockFields,
+    clears: bool,
+}
+
+impl Display for EntryWords {
+    fn fmt<W: fmt::Write>(&self, f: &mut fmt::Formatter<W>) -> fmt::Result {
+        let a = self.fields.a.is_some();
+        let b = self.fields.b.is_some();
+        match (a, b) {
+            (false, false) => f.write_str("both entries unused"),
+            (true, _) if self.clears => f.write_str("area b unused"),
+            (false, _) if self.clears => f.write_str("area a unused"),
+            _ => write!(f, "area {} used", AreaName(copy::newest(self.fields))),
         }
     }
 }
 
-// Whether a store holds a part of the record, by its group, and whether it is the last store of a mend.
-fn holds_record(w: Work, g: u8) -> bool {
-    match w {
-        Work::Change(_) => (g == 0) | (g == 2),
-        Work::Repair(_) => g == 1,
+// The part of a record of n bytes that a store holds, sector j of it.
+#[derive(Clone, Copy)]
+struct PartWords {
+    n: u64,
+    j: u64,
+}
+
+impl Display for PartWords {
+    fn fmt<W: fmt::Write>(&self, f: &mut fmt::Formatter<W>) -> fmt::Result {
+        let n = self.n;
+        if n <= image::SECTOR {
+            return write!(f, "record, {n} bytes");
+        }
+        let first = image::SECTOR.saturating_mul(self.j);
+        let last = first.saturating_add(image::SECTOR).min(n).saturating_sub(1);
+        write!(f, "record, bytes {first} to {last}")
     }
 }
 
-fn is_last(w: Work, g: u8) -> bool {
-    match w {
-        Work::Change(_) => false,
-        Work::Repair(_) => g == 3,
+// Prints the line of a store; n is the record's length.
+fn print_store(out: Stdout, work: Work, i: u64, n: u64, store: &Store) -> Printed {
+    let group = work.group(i);
+    let sector = store.sector.unwrap_or(0);
+    if work.holds_record(group) {
+        let part = PartWords { n, j: work.part(i) };
+        return print(
+            out,
+            format_args!("store {i} group {group} sector {sector} {part}\n"),
+        );
     }
-}
-
-// A text with what a store is: a block, or a part of a record of n bytes.
-fn add_store(t: Text, w: Work, i: u64, n: u64, s: &[u8]) -> Text {
-    let g = group(w, i);
-    if holds_record(w, g) {
-        return add_part(t, n, part_of(w, i));
+    match block::read(&store.bytes) {
+        Ok(b) => {
+            let entries = EntryWords {
+                fields: b.fields,
+                clears: work.clears_entry(group),
+            };
+            print(
+                out,
+                format_args!("store {i} group {group} sector {sector} block, {entries}\n"),
+            )
+        }
+        Err(_) => print(
+            out,
+            format_args!("store {i} group {group} sector {sector} block\n"),
+        ),
     }
-    let r = block::read(s);
-    let v = r.verdict;
-    match v {
-        Verdict::Accepted(f) => add_block(t, f, is_last(w, g)),
-        Verdict::Refused(_) => t.add(b"block"),
-    }
-}
-
-// Prints the line of a store of the list; n is the record's length.
-fn print_store(ok: Output, w: Work, i: u64, n: u64, list: &[u8]) -> Output {
-    let at = place(i);
-    let bytes = endian::window(list, at + 8, layout::SECTOR_BYTES);
-    let t = Text::new()
-        .add(b"store ")
-        .decimal(i)
-        .add(b" group ")
-        .decimal(group(w, i) as u64);
-    let u = t
-        .add(b" sector ")
-        .decimal(endian::read_u64(list, at))
-        .add(b" ");
-    print(ok, add_store(u, w, i, n, bytes).add(b"\n"))
-}
-
-// Prints a line for each store of the list.
-pub(crate) fn print_all(before: Output, w: Work, n: u64, list: &[u8]) -> Output {
-    let k = count(w);
-    let mut ok = before;
-    let mut i = 0;
-    while i < k {
-        let next = print_store(ok, w, i, n, list);
-        ok = next;
-        i += 1;
-    }
-    ok
 }

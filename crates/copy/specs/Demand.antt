@@ -1,20 +1,20 @@
 -- One copy in other words than the definitions that read it: docs/FORMAT.md, 'Where things lie' and 'Discovery'.
 -- `proofs/Demand.antt` proves `Exactly`.
-use Rattle.std.specs.Prelude.{ℕ, ◌+◌, ◌*◌, ◌≤◌, ◌≡◌, ◌↔◌, true, false, List, length}
+use Rattle.std.specs.Prelude.{ℕ, ◌+◌, ◌*◌, ◌≤◌, ◌≡◌, ◌↔◌, Bool, true, false, List, length, Option, Some, None, Result, Ok, Err}
 use Rattle.endian.specs.Bytes.{window}
 use Rattle.checksum.specs.Crc as Crc
+use Rattle.refusal.specs.declared.Reason.{Reason}
+use Rattle.refusal.specs.Refusals.{plain}
+use Rattle.refusal.specs.Reasons.{refusal_of}
 use Rattle.layout.specs.Limits.{record_limit}
 use Rattle.layout.specs.declared.Area.{Area}
 use Rattle.layout.specs.declared.Area.TheVariants.{A, B}
 use Rattle.block.specs.declared.Holding.{Holding}
-use Rattle.block.specs.declared.Entry.{Entry}
-use Rattle.block.specs.declared.Entry.TheVariants.{Used}
-use Rattle.block.specs.declared.Verdict.TheVariants.{Refused}
-use Rattle.block.specs.Block.{entry_at, fields_of, reading, accepted_reading, refused_reading}
+use Rattle.block.specs.Block.{entry_at, fields_of, reading, accepted_reading}
 use Rattle.block.specs.Accepted.{Accepted}
-use Rattle.copy.specs.declared.Present.TheVariants.{Nothing, At}
+use Rattle.copy.specs.declared.Present.{Present}
 use Rattle.copy.specs.declared.CopyReading.{CopyReading}
-use Rattle.copy.specs.Copy.{newest, current, copy_reading}
+use Rattle.copy.specs.Copy.{newest, present_at, current, mapped, copy_reading}
 use Rattle.copy.specs.Answers.{copy_number}
 
 -- the size of a copy: the header's 8 sectors, then as much of area a, and of area b, as a record can fill
@@ -31,7 +31,7 @@ first_bytes c A n = window c 4096 n
 first_bytes c B n = window c (4096 + record_limit) n
 
 -- the area's entry in the block
-abbrev pub entry_for : List ℕ → Area → Entry
+abbrev pub entry_for : List ℕ → Area → Option Holding
 entry_for c A = entry_at (signature_block c) 96
 entry_for c B = entry_at (signature_block c) 128
 
@@ -47,7 +47,7 @@ pub record AcceptedCopy (c : List ℕ) : Type 0 where
 -- Document 01's 'whole': the entry is used, with these numbers, and the area's first used bytes match the entry's CRC.
 pub record WholeArea (c : List ℕ) (x : Area) (h : Holding) : Type 0 where
   pub accepted : AcceptedCopy c
-  pub used : entry_for c x ≡ Used h
+  pub used : entry_for c x ≡ Some h
   pub checksum : Crc.checksum (first_bytes c x h.bytes) ≡ h.checksum
 
 -- Document 01's 'present record' of a copy: its whole area with the later time.
@@ -57,30 +57,43 @@ pub record PresentRecord (c : List ℕ) (x : Area) (h : Holding) : Type 0 where
 
 -- the used entry with the later time, whole or not
 pub record LaterEntry (c : List ℕ) (x : Area) (h : Holding) : Type 0 where
-  pub used : entry_for c x ≡ Used h
-  pub none-later : (y : Area) (k : Holding) → entry_for c y ≡ Used k → moment k ≤ moment h
+  pub used : entry_for c x ≡ Some h
+  pub none-later : (y : Area) (k : Holding) → entry_for c y ≡ Some k → moment k ≤ moment h
+
+-- what an answer says of the areas and of the present record; of a refused copy nothing
+abbrev pub a_in : Result CopyReading Reason → Bool
+a_in (Ok r) = r.a
+a_in (Err e) = false
+
+abbrev pub b_in : Result CopyReading Reason → Bool
+b_in (Ok r) = r.b
+b_in (Err e) = false
+
+abbrev pub present_in : Result CopyReading Reason → Option Present
+present_in (Ok r) = r.present
+present_in (Err e) = None
 
 -- What reading the slice c says of it, r.
-pub record Reads (c : List ℕ) (r : CopyReading) : Type 0 where
+pub record Reads (c : List ℕ) (r : Result CopyReading Reason) : Type 0 where
   -- 1 exactly when the slice has not the size of a copy
   pub one : copy_number r ≡ 1 ↔ ¬ Sized c
   -- 0 exactly when it is an accepted copy; the fields and UUIDs are then the block's own
   pub accepted : copy_number r ≡ 0 ↔ AcceptedCopy c
-  pub fields : AcceptedCopy c → r.block ≡ accepted_reading (signature_block c)
+  pub fields : AcceptedCopy c → mapped (λ q. q.block) r ≡ Ok (accepted_reading (signature_block c))
   -- with the size of a copy, what reading the block says
-  pub block : Sized c → r.block ≡ reading (signature_block c)
-  -- a refusal says its number and nothing else: no area is whole, and nothing is present
-  pub refused : (n : ℕ) → r.block.verdict ≡ Refused n → r ≡ record { block = refused_reading n; a = false; b = false; present = Nothing }
+  pub block : Sized c → mapped (λ q. q.block) r ≡ reading (signature_block c)
+  -- a refusal says its number, and nothing beside it
+  pub refused : (e : Reason) → r ≡ Err e → refusal_of e ≡ plain (copy_number r)
   -- area a, and area b, is whole
-  pub a : r.a ≡ true ↔ ((h : Holding) × WholeArea c A h)
-  pub b : r.b ≡ true ↔ ((h : Holding) × WholeArea c B h)
+  pub a : a_in r ≡ true ↔ ((h : Holding) × WholeArea c A h)
+  pub b : b_in r ≡ true ↔ ((h : Holding) × WholeArea c B h)
   -- the present record; nothing is present exactly when no area is whole
-  pub present : (x : Area) (h : Holding) → (r.present ≡ At x h ↔ PresentRecord c x h)
-  pub nothing : r.present ≡ Nothing ↔ ((x : Area) (h : Holding) → ¬ WholeArea c x h)
+  pub present : (x : Area) (h : Holding) → (present_in r ≡ present_at x h ↔ PresentRecord c x h)
+  pub nothing : present_in r ≡ None ↔ ((x : Area) (h : Holding) → ¬ WholeArea c x h)
   -- the area of the used entry with the later time; the present record is there exactly when it is whole
   pub newer : AcceptedCopy c → (x : Area) (h : Holding) → LaterEntry c x h → newest (fields_of (signature_block c)) ≡ x
   pub current : AcceptedCopy c
-      → (current (fields_of (signature_block c)) r.present ≡ true ↔ ((x : Area) × (h : Holding) × LaterEntry c x h × WholeArea c x h))
+      → (current (fields_of (signature_block c)) (present_in r) ≡ true ↔ ((x : Area) × (h : Holding) × LaterEntry c x h × WholeArea c x h))
 
 abbrev pub Exactly : Type 0
 Exactly = (c : List ℕ) → Reads c (copy_reading c)

@@ -2,40 +2,40 @@
 // area as a record can fill. What reading it answers, which of its areas are whole, and its present record.
 #![tactic(auto)]
 
-ghost use Rattle.std.specs.Prelude.{◌≡◌, true, ◌+◌, length};
-ghost use Rattle.layout.specs.declared.Area.TheVariants.{A, B};
-ghost use Rattle.layout.specs.Places.{copy_bytes};
-ghost use Rattle.block.specs.Block.{pool_of, blockdev_of, fields_of};
-ghost use Rattle.copy.specs.Copy.{block_in, uuid_from, by_area, entry_in, other_area, other_side, whole_entry, whole, newer, newest, same_area, current, present, present_by, whole_for, sized_reading, copy_reading, present_reading_of};
+ghost use Rattle.std.specs.Prelude.{◌≡◌};
+ghost use Rattle.block.specs.Block.{uuid_from, pool_of, blockdev_of, fields_of};
+ghost use Rattle.block.specs.Writing.{holding_of};
+ghost use Rattle.copy.specs.Copy.{block_in, Chosen, entry_in, other_area, other_side, whole_entry, whole, newer, newest, record_at, current, present, present_by, mapped, sized_reading, copy_reading, present_reading_of};
 
-use block::{BlockFields, Entry, Holding, Reading, Verdict};
+use block::{BlockFields, Holding, Reading};
 use layout::{Area, Side};
+use refusal::Reason;
 
 // A copy's present record: the area that holds it and what its entry says.
 #[derive(Clone, Copy)]
-pub enum Present {
-    Nothing,
-    At(Area, Holding),
+pub struct Present {
+    pub area: Area,
+    pub holding: Holding,
 }
 
-// What reading a copy answers: its block's fields or refusal number, whether areas a and b are whole, and its present record.
+// What reading an accepted copy answers: its block's fields, whether areas a and b are whole, and its present record.
 #[derive(Clone, Copy)]
 pub struct CopyReading {
     pub block: Reading,
     pub a: bool,
     pub b: bool,
-    pub present: Present,
+    pub present: Option<Present>,
 }
 
 // The part of that which says what is present.
 #[derive(Clone, Copy)]
 pub struct PresentReading {
     pub block: Reading,
-    pub present: Present,
+    pub present: Option<Present>,
 }
 
 // The entry of an area.
-pub fn entry_in(f: BlockFields, x: Area) -> Entry
+pub fn entry_in(f: BlockFields, x: Area) -> Option<Holding>
     ensures { result ≡ entry_in f x }
 {
     match x {
@@ -55,6 +55,7 @@ pub fn other_area(x: Area) -> Area
 }
 
 // The other side.
+// Beside `other_area`, as a match for each of the two enums is shorter than a trait with two impls.
 pub fn other_side(s: Side) -> Side
     ensures { result ≡ other_side s }
 {
@@ -78,91 +79,61 @@ pub fn fields_in(c: &[u8]) -> BlockFields
     block::fields(block_in(c))
 }
 
-// A UUID: the bytes of u, and zeros where there are too few of them.
-fn uuid_of(u: &[u8]) -> [u8; 32]
-    ensures { result ≡ uuid_from u.now }
-{
-    let mut r = [0u8; 32];
-    endian::put(&mut r, 0, u);
-    r
-}
-
 // The pool's UUID in a copy's signature block, whether it is accepted or not.
 pub fn pool_in(c: &[u8]) -> [u8; 32]
     ensures { result ≡ uuid_from (pool_of (block_in c.now)) }
 {
-    uuid_of(endian::window(block_in(c), 32, 32))
+    block::uuid_at(block_in(c), 32)
 }
 
-// The block device's.
+// The block device's. Two names of one function at the block's two offsets, of which callers name none.
 pub fn blockdev_in(c: &[u8]) -> [u8; 32]
     ensures { result ≡ uuid_from (blockdev_of (block_in c.now)) }
 {
-    uuid_of(endian::window(block_in(c), 64, 32))
+    block::uuid_at(block_in(c), 64)
 }
 
 // Whether e is used, and d is unused or of an earlier time.
-fn newer(e: Entry, d: Entry) -> bool
+#[tactic(auto, using(block::proofs::Times::later_derived))]
+fn newer(e: Option<Holding>, d: Option<Holding>) -> bool
     ensures { result ≡ newer e d }
 {
-    let Entry::Used(h) = e else {
-        return false;
-    };
-    let Entry::Used(k) = d else {
-        return true;
-    };
-    block::later(block::time_of(h), block::time_of(k))
+    match (e, d) {
+        (None, _) => false,
+        (Some(_), None) => true,
+        (Some(h), Some(k)) => block::time_of(k) < block::time_of(h),
+    }
 }
 
 // The area of the used entry with the later time.
+#[tactic(auto, unfolding(crate::specs::Copy::newest))]
 pub fn newest(f: BlockFields) -> Area
     ensures { result ≡ newest f }
 {
-    let a = f.a;
-    let b = f.b;
-    if newer(b, a) {
+    if newer(f.b, f.a) {
         return Area::B;
     }
     Area::A
 }
 
-// Whether two areas are the same.
-pub fn same_area(x: Area, y: Area) -> bool
-    ensures { result ≡ same_area x y }
+// Whether a present record is that of the entry with the later time.
+pub fn current(f: BlockFields, p: Option<Present>) -> bool
+    ensures { result ≡ current f p }
 {
-    match x {
-        Area::A => match y {
-            Area::A => true,
-            Area::B => false,
-        },
-        Area::B => match y {
-            Area::A => false,
-            Area::B => true,
-        },
+    match p {
+        None => false,
+        Some(p) => p.area == newest(f),
     }
 }
 
-// Whether a present record is that of the entry with the later time.
-pub fn current(f: BlockFields, p: Present) -> bool
-    ensures { result ≡ current f p }
-{
-    let Present::At(x, _) = p else {
-        return false;
-    };
-    same_area(x, newest(f))
-}
-
 // Whether an area is whole: its entry is used, and the area's first used bytes have the entry's checksum.
-fn whole_entry(c: &[u8], x: Area, e: Entry) -> bool
+fn whole_entry(c: &[u8], x: Area, e: Option<Holding>) -> bool
     ensures { result ≡ whole_entry c.now x e }
 {
     match e {
-        Entry::Unused => false,
-        Entry::Used(h) => checksum::checksum(endian::window(
-            c,
-            layout::area_offset(x),
-            h.bytes as usize,
-        )) == h.checksum,
+        None => false,
+        Some(h) => checksum::checksum(endian::window(c, layout::area_offset(x), h.bytes as usize))
+            == h.checksum,
     }
 }
 
@@ -173,98 +144,86 @@ fn whole(c: &[u8], f: BlockFields, x: Area) -> bool
     whole_entry(c, x, entry_in(f, x))
 }
 
-// The present record of a copy, whose block has these fields: its whole area with the later time. The older area is not looked
-// at where the newer one is whole.
-fn present_of(c: &[u8], f: BlockFields) -> Present
-    ensures { result ≡ present c.now f }
+// The record that an area's entry says.
+fn present_at(f: BlockFields, x: Area) -> Present
+    ensures { result ≡ record_at x (holding_of (entry_in f x)) }
 {
-    let x = newest(f);
-    if whole(c, f, x) {
-        return Present::At(x, block::holding_of(entry_in(f, x)));
+    Present {
+        area: x,
+        holding: block::holding_of(entry_in(f, x)),
     }
-    let y = other_area(x);
-    if whole(c, f, y) {
-        return Present::At(y, block::holding_of(entry_in(f, y)));
-    }
-    Present::Nothing
 }
 
-// Of what is known of the areas a and b, what is known of one of them.
-fn whole_in(x: Area, a: bool, b: bool) -> bool
-    ensures { result ≡ by_area x a b }
+// The present record of a copy, whose block has these fields: its whole area with the later time, by a test whether an area is whole. The
+// older area is not tested where the newer one is whole.
+fn choose<W: Fn(Area) -> bool>(f: BlockFields, whole: W) -> Option<Present>
+    requires { W.IsAlwaysCallable whole }
+    ensures { Chosen (W.post whole) f result }
 {
-    match x {
-        Area::A => a,
-        Area::B => b,
+    let x = newest(f);
+    if whole(x) {
+        return Some(present_at(f, x));
     }
+    let y = other_area(x);
+    if whole(y) {
+        return Some(present_at(f, y));
+    }
+    None
+}
+
+// The present record of a copy, whose block has these fields.
+#[tactic(auto, unfolding(crate::specs::Copy::present))]
+fn present_of(c: &[u8], f: BlockFields) -> Option<Present>
+    ensures { result ≡ present c.now f }
+{
+    choose(f, |x| whole(c, f, x))
 }
 
 // The present record, where it is known which of the areas a and b are whole.
-pub fn present_by(f: BlockFields, a: bool, b: bool) -> Present
+pub fn present_by(f: BlockFields, a: bool, b: bool) -> Option<Present>
     ensures { result ≡ present_by f a b }
 {
-    let x = newest(f);
-    if whole_in(x, a, b) {
-        return Present::At(x, block::holding_of(entry_in(f, x)));
-    }
-    let y = other_area(x);
-    if whole_in(y, a, b) {
-        return Present::At(y, block::holding_of(entry_in(f, y)));
-    }
-    Present::Nothing
+    choose(f, |x| match x {
+        Area::A => a,
+        Area::B => b,
+    })
 }
 
 // What reading a copy's block answers; 1 for a slice that is no copy by its size.
-fn read_block(c: &[u8]) -> Reading
+#[tactic(auto, unfolding(crate::specs::Copy::sized_reading))]
+fn read_block(c: &[u8]) -> Result<Reading, Reason>
     ensures { result ≡ sized_reading c.now }
 {
-    let sized = c.len() == layout::copy_bytes();
-    if !sized {
-        return block::refused(refusal::SLICE_SIZE);
+    if c.len() != layout::copy_bytes() {
+        return Err(Reason::SliceSize);
     }
     block::read(block_in(c))
 }
 
 // Reads a copy: its block's fields or the lowest of 1 to 9 that applies, the wholeness of each area, and the present record.
-pub fn read(c: &[u8]) -> CopyReading
+#[tactic(auto, using(crate::proofs::Readings::by_whole), unfolding(crate::specs::Copy::copy_reading))]
+pub fn read(c: &[u8]) -> Result<CopyReading, Reason>
     ensures { result ≡ copy_reading c.now }
 {
-    let r = read_block(c);
-    let v = r.verdict;
-    let Verdict::Accepted(f) = v else {
-        return CopyReading {
-            block: r,
-            a: false,
-            b: false,
-            present: Present::Nothing,
-        };
-    };
-    let a = whole(c, f, Area::A);
-    let b = whole(c, f, Area::B);
-    let p = present_by(f, a, b);
-    CopyReading {
-        block: r,
-        a: a,
-        b: b,
-        present: p,
-    }
+    let block = read_block(c)?;
+    let a = whole(c, block.fields, Area::A);
+    let b = whole(c, block.fields, Area::B);
+    Ok(CopyReading {
+        block,
+        a,
+        b,
+        present: present_by(block.fields, a, b),
+    })
 }
 
 // The same block and present record, without the checksum of an area that does not decide it.
-pub fn read_present(c: &[u8]) -> PresentReading
-    ensures { result ≡ present_reading_of (copy_reading c.now) }
+#[tactic(auto, using(crate::proofs::Readings::by_whole), unfolding(crate::specs::Copy::copy_reading))]
+pub fn read_present(c: &[u8]) -> Result<PresentReading, Reason>
+    ensures { result ≡ mapped present_reading_of (copy_reading c.now) }
 {
-    let r = read_block(c);
-    let v = r.verdict;
-    let Verdict::Accepted(f) = v else {
-        return PresentReading {
-            block: r,
-            present: Present::Nothing,
-        };
-    };
-    let p = present_of(c, f);
-    PresentReading {
-        block: r,
-        present: p,
-    }
+    let block = read_block(c)?;
+    Ok(PresentReading {
+        block,
+        present: present_of(c, block.fields),
+    })
 }

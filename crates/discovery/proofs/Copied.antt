@@ -5,6 +5,10 @@ use mathlib.Core.List.{List, ◌++◌}
 use native.Mathlib.Omega.{arith}
 use lib.ListN.{length, take, drop}
 use lib.Seq.{take_at, drop_at}
+use Rattle.std.proofs.Common.{Result, Err}
+use Rattle.refusal.specs.declared.Reason.{Reason}
+use Rattle.refusal.specs.Reasons.{reason}
+use Rattle.block.specs.declared.BlockFields.{BlockFields}
 use Rattle.endian.proofs.Parts.{length-window-fits, splice-fits}
 use Rattle.layout.specs.Limits.{record_limit}
 use Rattle.layout.specs.declared.Area.{Area}
@@ -12,12 +16,10 @@ use Rattle.layout.specs.declared.Area.TheVariants.{A, B}
 use Rattle.copy.specs.Demand.{Sized, first_bytes}
 use Rattle.copy.proofs.Demand.{area_bytes_lem, bytes_most}
 use Rattle.discovery.specs.declared.Finding.{Finding}
-use Rattle.discovery.specs.declared.Other.{Other}
-use Rattle.discovery.specs.declared.Answer.{Answer}
-use Rattle.discovery.specs.declared.Answer.TheVariants.{Found, Refused}
-use Rattle.discovery.specs.Discovery.{discovery, copy_on, record_bytes, read_answer, read_bytes}
+use Rattle.discovery.specs.declared.Found.{Found}
+use Rattle.discovery.specs.Discovery.{found_with, discovery, copy_on, record_bytes, read_answer, read_bytes}
 use Rattle.discovery.specs.Demand.{Finds, ReadFound}
-use Rattle.discovery.proofs.Found.{refused-answer, no_room, with_room}
+use Rattle.discovery.proofs.Room.{no_room, with_room}
 use Rattle.discovery.proofs.Demand.{exactly}
 
 -- a record of a copy is as long as its entry says
@@ -27,15 +29,15 @@ first-length c B n s l = length-window-fits c (4096 + record_limit) n (omega ari
 
 module _ (f b out : List ℕ) where
   -- what is left where the answer is a
-  left : (a : Answer) → read_answer (discovery f b) (length out) ≡ a → read_bytes (read_answer (discovery f b) (length out)) f b out ≡ read_bytes a f b out
-  left a e = ap (λ (z : Answer). read_bytes z f b out) e
+  left : (a : Result Found Reason) → read_answer (discovery f b) (length out) ≡ a → read_bytes (read_answer (discovery f b) (length out)) f b out ≡ read_bytes a f b out
+  left a e = ap (λ (z : Result Found Reason). read_bytes z f b out) e
 
-  stays : (n : ℕ) → Refused n ≡ read_answer (discovery f b) (length out)
-      → (read_answer (discovery f b) (length out) ≡ Refused n) × (read_bytes (read_answer (discovery f b) (length out)) f b out ≡ out)
-  stays n e = (sym e, left (Refused n) (sym e))
+  stays : (e : Reason) → read_answer (discovery f b) (length out) ≡ Err e
+      → (read_answer (discovery f b) (length out) ≡ Err e) × (read_bytes (read_answer (discovery f b) (length out)) f b out ≡ out)
+  stays e h = (h, left (Err e) h)
 
-  module _ (q : Finding) (o : Other) (m : Finds f b q o) where
-    e : discovery f b ≡ Found q o
+  module _ (q : Finding) (o : Result BlockFields Reason) (m : Finds f b q o) where
+    e : discovery f b ≡ found_with q o
     e = ((exactly f b).found q o).1 m
 
     starts : record_bytes q f b ≡ first_bytes (copy_on q.side f b) q.area q.bytes
@@ -48,14 +50,14 @@ module _ (f b out : List ℕ) where
         (subst (λ (n : ℕ). n ≤ record_limit) (sym m.bytes) (bytes_most (copy_on q.side f b) m.whole.accepted q.area m.h m.whole.used))
 
     room : q.bytes ≤ length out
-        → (read_answer (discovery f b) (length out) ≡ Found q o)
+        → (read_answer (discovery f b) (length out) ≡ found_with q o)
         × ((take q.bytes (read_bytes (read_answer (discovery f b) (length out)) f b out) ≡ first_bytes (copy_on q.side f b) q.area q.bytes)
         × (drop q.bytes (read_bytes (read_answer (discovery f b) (length out)) f b out) ≡ drop q.bytes out))
     room l =
-        let a : read_answer (discovery f b) (length out) ≡ Found q o = sym (with_room (discovery f b) (length out) q o e l) in
+        let a : read_answer (discovery f b) (length out) ≡ found_with q o = with_room (discovery f b) (length out) q o e l in
         let n : length (record_bytes q f b) ≡ q.bytes = long in
         let s : read_bytes (read_answer (discovery f b) (length out)) f b out ≡ record_bytes q f b ++ drop q.bytes out =
-        left (Found q o) a
+        left (found_with q o) a
         ∙ (splice-fits out 0 (record_bytes q f b) (omega arith)
         ∙ ap (λ (i : ℕ). record_bytes q f b ++ drop i out) (let z : 0 + length (record_bytes q f b) ≡ q.bytes = omega arith in z)) in (
           a,
@@ -69,6 +71,6 @@ pub read_found : ReadFound
 read_found f b out =
     record {
       room = room f b out;
-      short = λ q o m l. stays f b out 1 (no_room (discovery f b) (length out) q o (e f b out q o m) l);
-      refused = λ n d. stays f b out n (sym d ∙ refused-answer (discovery f b) (length out) n d);
+      short = λ q o m l. stays f b out (reason 1) (no_room (discovery f b) (length out) q o (e f b out q o m) l);
+      refused = λ x d. stays f b out x (ap (λ (a : Result Found Reason). read_answer a (length out)) d);
     }

@@ -7,6 +7,10 @@ use mathlib.Core.List.{List, []}
 use native.Mathlib.Omega.{arith}
 use borrow.Author.Tests.{eqb-true, eqb-false, eq-eqb}
 use lib.Dec.{eqb}
+use Rattle.std.proofs.Common.{Option, Some, None, Result, Ok, Err}
+use Rattle.refusal.specs.declared.Reason.{Reason}
+use Rattle.refusal.specs.Refusals.{plain}
+use Rattle.refusal.specs.Reasons.{refusal_of, reason}
 use Rattle.endian.specs.Bytes.{same}
 use Rattle.endian.proofs.Tests.{and_left, and_right, and_both, same_equal, equal_same}
 use Rattle.refusal.specs.Numbers.{slice_size, identity}
@@ -15,23 +19,21 @@ use Rattle.layout.specs.declared.Side.{Side}
 use Rattle.layout.specs.declared.Side.TheVariants.{Front, Back}
 use Rattle.layout.specs.declared.Area.{Area}
 use Rattle.block.specs.declared.Holding.{Holding}
+use Rattle.block.specs.declared.BlockFields.{BlockFields}
+use Rattle.block.proofs.Readings.{reason-back-plain}
 use Rattle.block.specs.Entry.{later_than, same_time, time_of}
 use Rattle.block.specs.Block.{number, pool_of, blockdev_of, accepted_reading}
 use Rattle.block.specs.Accepted.{Accepted}
 use Rattle.block.proofs.Times.{same_facts, same_test}
 use Rattle.copy.specs.declared.Present.{Present}
-use Rattle.copy.specs.declared.Present.TheVariants.{Nothing, At}
 use Rattle.copy.specs.declared.CopyReading.{CopyReading}
-use Rattle.copy.specs.Copy.{is_copy, area_bytes, other_side, present, copy_reading}
+use Rattle.copy.specs.Copy.{record_at, is_copy, area_bytes, other_side, present, copy_reading}
 use Rattle.copy.specs.Answers.{copy_number}
 use Rattle.copy.specs.Demand.{Sized, signature_block, first_bytes, moment, AcceptedCopy, WholeArea, PresentRecord}
 use Rattle.copy.proofs.Demand.{sized-copy, copy-sized, area_bytes_lem, fields_in, nanoseconds, not_later-less, later_more, one_second, one_nanosecond, one_entry, present_record, nothing-whole, View, not_taken, taken, view}
 use Rattle.discovery.specs.declared.Finding.{Finding}
-use Rattle.discovery.specs.declared.Other.{Other}
-use Rattle.discovery.specs.declared.Other.TheVariants.{Both, One}
-use Rattle.discovery.specs.declared.Answer.{Answer}
-use Rattle.discovery.specs.declared.Answer.TheVariants.{Found, Refused}
-use Rattle.discovery.specs.Discovery.{finding_of, alone_of, newest_of, together_of, same_device, same_uuids, decide_of, discovery, copy_on}
+use Rattle.discovery.specs.declared.Found.{Found}
+use Rattle.discovery.specs.Discovery.{found_with, finding_of, alone_of, newest_of, together_of, same_device, same_uuids, decide_of, discovery, copy_on}
 use Rattle.discovery.specs.Demand.{BothSized, SameIdentity, OneIdentity, WrongSize, NoBlock, TwoIdentities, NoRecord, TwoRecords, Finds, Exactly}
 
 -- of one side and the other, all
@@ -45,9 +47,9 @@ front-back : Front ≡ Back → ⊥
 front-back e = let o : ◌≡◌ {A = ℕ} 0 1 = cc in omega arith
 
 -- whole areas of one copy and of one time are one, with its bytes
-abbrev bytes_at : List ℕ → Present → List ℕ
-bytes_at c Nothing = []
-bytes_at c (At x h) = first_bytes c x h.bytes
+abbrev bytes_at : List ℕ → Option Present → List ℕ
+bytes_at c None = []
+bytes_at c (Some p) = first_bytes c p.area p.holding.bytes
 
 one_record : (c : List ℕ) (a : AcceptedCopy c) (x y : Area) (h k : Holding) → WholeArea c x h → WholeArea c y k → moment h ≡ moment k
     → first_bytes c x h.bytes ≡ first_bytes c y k.bytes
@@ -115,23 +117,23 @@ module _ (f b : List ℕ) where
       (equal_same (blockdev_of (signature_block f)) (blockdev_of (signature_block b)) i.device))
 
 -- What two slices give, by what they are.
-data Outcome (f b : List ℕ) : Answer → Type 0 where
-  wrong_size : WrongSize f b → Outcome f b (Refused 1)
-  block_none : NoBlock f b → Outcome f b (Refused 10)
-  two_identities : TwoIdentities f b → Outcome f b (Refused 11)
-  no_record : NoRecord f b → Outcome f b (Refused 12)
-  two_records : TwoRecords f b → Outcome f b (Refused 13)
-  finds : (q : Finding) (o : Other) → Finds f b q o → Outcome f b (Found q o)
+data Outcome (f b : List ℕ) : Result Found Reason → Type 0 where
+  wrong_size : WrongSize f b → Outcome f b (Err (reason 1))
+  block_none : NoBlock f b → Outcome f b (Err (reason 10))
+  two_identities : TwoIdentities f b → Outcome f b (Err (reason 11))
+  no_record : NoRecord f b → Outcome f b (Err (reason 12))
+  two_records : TwoRecords f b → Outcome f b (Err (reason 13))
+  finds : (q : Finding) (o : Result BlockFields Reason) → Finds f b q o → Outcome f b (found_with q o)
 
 module _ (f b : List ℕ) (z : BothSized f b) where
   -- the present record of a copy, where nothing whole in the other is later
-  find : (s : Side) (x : Area) (h : Holding) (o : Other) → OneIdentity f b → PresentRecord (copy_on s f b) x h
+  find : (s : Side) (x : Area) (h : Holding) (o : Result BlockFields Reason) → OneIdentity f b → PresentRecord (copy_on s f b) x h
       → ((y : Area) (k : Holding) → WholeArea (copy_on (other_side s) f b) y k → moment k ≤ moment h)
       → (s ≡ Back → (y : Area) (k : Holding) → WholeArea f y k → moment k < moment h)
       → (s ≡ Front → (y : Area) (k : Holding) → WholeArea b y k → moment k ≡ moment h → first_bytes b y k.bytes ≡ first_bytes f x h.bytes)
-      → (AcceptedCopy (copy_on (other_side s) f b) → o ≡ Both (fields_in (copy_on (other_side s) f b)))
-      → (¬ AcceptedCopy (copy_on (other_side s) f b) → o ≡ One (copy_number (copy_reading (copy_on (other_side s) f b))))
-      → Finds f b (finding_of s (fields_in (copy_on s f b)) x h) o
+      → (AcceptedCopy (copy_on (other_side s) f b) → o ≡ Ok (fields_in (copy_on (other_side s) f b)))
+      → (¬ AcceptedCopy (copy_on (other_side s) f b) → o ≡ Err (reason (copy_number (copy_reading (copy_on (other_side s) f b)))))
+      → Finds f b (finding_of s (fields_in (copy_on s f b)) (record_at x h)) o
   find s x h o i p n l e t u =
       record {
         size = z;
@@ -154,9 +156,9 @@ module _ (f b : List ℕ) (z : BothSized f b) where
     not-both : OneIdentity f b
     not-both x y = absurd (d (by_side (λ (t : Side). AcceptedCopy (copy_on t f b)) Front x y (other_side s)))
 
-    alone : (n : ℕ) → copy_number (copy_reading (copy_on (other_side s) f b)) ≡ n → (p : Present) → present (copy_on s f b) (fields_in (copy_on s f b)) ≡ p
-        → Outcome f b (alone_of s (fields_in (copy_on s f b)) p n)
-    alone n e Nothing p =
+    alone : (e : Reason) → e ≡ reason (copy_number (copy_reading (copy_on (other_side s) f b))) → (p : Option Present)
+        → present (copy_on s f b) (fields_in (copy_on s f b)) ≡ p → Outcome f b (alone_of s (fields_in (copy_on s f b)) p e)
+    alone e g None p =
         no_record
         (record {
           size = z;
@@ -164,12 +166,12 @@ module _ (f b : List ℕ) (z : BothSized f b) where
           identity = not-both;
           none = by_side (λ (t : Side). (x : Area) (h : Holding) → ¬ WholeArea (copy_on t f b) x h) s (nothing-whole (copy_on s f b) a p) (λ x h w. d w.accepted);
         })
-    alone n e (At x h) p =
-        finds (finding_of s (fields_in (copy_on s f b)) x h) (One n)
-        (find s x h (One n) not-both (present_record (copy_on s f b) a x h p) (λ y k w. absurd (d w.accepted))
+    alone e g (Some r) p =
+        finds (finding_of s (fields_in (copy_on s f b)) r) (Err e)
+        (find s r.area r.holding (Err e) not-both (present_record (copy_on s f b) a r.area r.holding p) (λ y k w. absurd (d w.accepted))
         (λ t y k w. absurd (d (subst (λ (v : Side). AcceptedCopy (copy_on (other_side v) f b)) (sym t) w.accepted)))
         (λ t y k w. absurd (d (subst (λ (v : Side). AcceptedCopy (copy_on (other_side v) f b)) (sym t) w.accepted)))
-        (λ t. absurd (d t)) (λ t. ap One (sym e)))
+        (λ t. absurd (d t)) (λ t. ap (λ (x : Reason). Err x) g))
 
   -- two accepted copies of one identity
   module _ (i : SameIdentity f b) (af : AcceptedCopy f) (ab : AcceptedCopy b) where
@@ -185,10 +187,10 @@ module _ (f b : List ℕ) (z : BothSized f b) where
       nk = nanoseconds b ab y k q.whole.used
 
       in_front : moment k ≤ moment h → (moment k ≡ moment h → first_bytes b y k.bytes ≡ first_bytes f x h.bytes)
-          → Outcome f b (Found (finding_of Front (fields_in f) x h) (Both (fields_in b)))
+          → Outcome f b (found_with (finding_of Front (fields_in f) (record_at x h)) (Ok (fields_in b)))
       in_front l e =
-          finds (finding_of Front (fields_in f) x h) (Both (fields_in b))
-          (find Front x h (Both (fields_in b)) (λ u v. i) p (λ v m w. let n : moment m ≤ moment k = q.none-later v m w in omega arith)
+          finds (finding_of Front (fields_in f) (record_at x h)) (Ok (fields_in b))
+          (find Front x h (Ok (fields_in b)) (λ u v. i) p (λ v m w. let n : moment m ≤ moment k = q.none-later v m w in omega arith)
           (λ t. absurd (front-back t))
           (λ t v m w d.
           let n : moment m ≤ moment k = q.none-later v m w in
@@ -196,19 +198,19 @@ module _ (f b : List ℕ) (z : BothSized f b) where
           one_record b ab v y m k w q.whole (d ∙ sym g) ∙ e g)
           (λ t. refl) (λ t. absurd (t ab)))
 
-      in_back : moment h < moment k → Outcome f b (Found (finding_of Back (fields_in b) y k) (Both (fields_in f)))
+      in_back : moment h < moment k → Outcome f b (found_with (finding_of Back (fields_in b) (record_at y k)) (Ok (fields_in f)))
       in_back l =
-          finds (finding_of Back (fields_in b) y k) (Both (fields_in f))
-          (find Back y k (Both (fields_in f)) (λ u v. i) q (λ v m w. let n : moment m ≤ moment h = p.none-later v m w in omega arith)
+          finds (finding_of Back (fields_in b) (record_at y k)) (Ok (fields_in f))
+          (find Back y k (Ok (fields_in f)) (λ u v. i) q (λ v m w. let n : moment m ≤ moment h = p.none-later v m w in omega arith)
           (λ t v m w. let n : moment m ≤ moment h = p.none-later v m w in omega arith)
           (λ t. absurd (front-back (sym t))) (λ t. refl) (λ t. absurd (t af)))
 
-      newest : Outcome f b (newest_of f b (fields_in f) (fields_in b) x h y k)
+      newest : Outcome f b (newest_of f b (fields_in f) (fields_in b) (record_at x h) (record_at y k))
       newest =
           go (same_time (time_of h) (time_of k)) refl (same (area_bytes f x h.bytes) (area_bytes b y k.bytes)) refl (later_than (time_of k) (time_of h)) refl
         where
           go : (t : Bool) → same_time (time_of h) (time_of k) ≡ t → (u : Bool) → same (area_bytes f x h.bytes) (area_bytes b y k.bytes) ≡ u
-              → (l : Bool) → later_than (time_of k) (time_of h) ≡ l → Outcome f b (newest_of f b (fields_in f) (fields_in b) x h y k)
+              → (l : Bool) → later_than (time_of k) (time_of h) ≡ l → Outcome f b (newest_of f b (fields_in f) (fields_in b) (record_at x h) (record_at y k))
           go true t true u l v = let e : moment h ≡ moment k = same-moment h k t in rw (t, u) (in_front (omega arith) (λ d. sym (same_bytes f b x h y k u)))
           go true t false u l v =
               rw (t, u)
@@ -218,8 +220,8 @@ module _ (f b : List ℕ) (z : BothSized f b) where
           go false t u s false v =
               rw (t, v) (in_front (not_later-less h k nh nk v) (λ d. absurd (true≢false (sym (moment-same h k nh nk (sym d)) ∙ t))))
 
-    together : (p q : Present) → present f (fields_in f) ≡ p → present b (fields_in b) ≡ q → Outcome f b (together_of f b (fields_in f) (fields_in b) p q)
-    together Nothing Nothing p q =
+    together : (p q : Option Present) → present f (fields_in f) ≡ p → present b (fields_in b) ≡ q → Outcome f b (together_of f b (fields_in f) (fields_in b) p q)
+    together None None p q =
         no_record
         (record {
           size = z;
@@ -227,29 +229,34 @@ module _ (f b : List ℕ) (z : BothSized f b) where
           identity = λ u v. i;
           none = by_side (λ (t : Side). (x : Area) (h : Holding) → ¬ WholeArea (copy_on t f b) x h) Front (nothing-whole f af p) (nothing-whole b ab q);
         })
-    together Nothing (At y k) p q =
-        finds (finding_of Back (fields_in b) y k) (Both (fields_in f))
-        (find Back y k (Both (fields_in f)) (λ u v. i) (present_record b ab y k q) (λ v m w. absurd (nothing-whole f af p v m w))
+    together None (Some r) p q =
+        finds (finding_of Back (fields_in b) r) (Ok (fields_in f))
+        (find Back r.area r.holding (Ok (fields_in f)) (λ u v. i) (present_record b ab r.area r.holding q) (λ v m w. absurd (nothing-whole f af p v m w))
         (λ t v m w. absurd (nothing-whole f af p v m w)) (λ t. absurd (front-back (sym t))) (λ t. refl) (λ t. absurd (t af)))
-    together (At x h) Nothing p q =
-        finds (finding_of Front (fields_in f) x h) (Both (fields_in b))
-        (find Front x h (Both (fields_in b)) (λ u v. i) (present_record f af x h p) (λ v m w. absurd (nothing-whole b ab q v m w))
+    together (Some r) None p q =
+        finds (finding_of Front (fields_in f) r) (Ok (fields_in b))
+        (find Front r.area r.holding (Ok (fields_in b)) (λ u v. i) (present_record f af r.area r.holding p) (λ v m w. absurd (nothing-whole b ab q v m w))
         (λ t. absurd (front-back t)) (λ t v m w. absurd (nothing-whole b ab q v m w)) (λ t. refl) (λ t. absurd (t ab)))
-    together (At x h) (At y k) p q = newest x h y k (present_record f af x h p) (present_record b ab y k q)
+    together (Some r) (Some s) p q =
+        newest r.area r.holding s.area s.holding (present_record f af r.area r.holding p) (present_record b ab s.area s.holding q)
 
-  decided : (r s : CopyReading) → View f r → View b s → copy_reading f ≡ r → copy_reading b ≡ s → Outcome f b (decide_of r s f b)
-  decided r s (not_taken n d l u v) (not_taken m e k w t) p q =
+  -- the reason of a copy that is not taken
+  reason_is : (c : List ℕ) (e : Reason) → refusal_of e ≡ plain (refusal_of e).number → copy_reading c ≡ Err e → e ≡ reason (copy_number (copy_reading c))
+  reason_is c e w p = reason-back-plain e (copy_number (copy_reading c)) (w ∙ ap plain (sym (ap copy_number p)))
+
+  decided : (r s : Result CopyReading Reason) → View f r → View b s → copy_reading f ≡ r → copy_reading b ≡ s → Outcome f b (decide_of r s f b)
+  decided r s (not_taken n d l u v w) (not_taken m e k x t y) p q =
       block_none
       (record {
         size = z;
         neither = by_side (λ (s : Side). ¬ Accepted (signature_block (copy_on s f b))) Front (λ a. d (record { size = z Front; block = a })) (λ a. e (record { size = z Back; block = a }));
       })
-  decided r s (not_taken n d l u v) (taken y) p q = alone Back y d n (ap copy_number p) (present b (fields_in b)) refl
-  decided r s (taken x) (not_taken m e k w t) p q = alone Front x e m (ap copy_number q) (present f (fields_in f)) refl
+  decided r s (not_taken n d l u v w) (taken y) p q = alone Back y d n (reason_is f n w p) (present b (fields_in b)) refl
+  decided r s (taken x) (not_taken m e k w t y) p q = alone Front x e m (reason_is b m y q) (present f (fields_in f)) refl
   decided r s (taken x) (taken y) p q = go (numbers f b && uuids f b) refl
     where
       go : (t : Bool) → numbers f b && uuids f b ≡ t
-          → Outcome f b (cond t (together_of f b (fields_in f) (fields_in b) (present f (fields_in f)) (present b (fields_in b))) (Refused identity))
+          → Outcome f b (cond t (together_of f b (fields_in f) (fields_in b) (present f (fields_in f)) (present b (fields_in b))) (Err (reason identity)))
       go true t = together (same-identity f b t) x y (present f (fields_in f)) (present b (fields_in b)) refl refl
       go false t =
           two_identities (record { accepted = by_side (λ (s : Side). AcceptedCopy (copy_on s f b)) Front x y; differ = λ i. true≢false (sym (identity-same f b i) ∙ t) })
@@ -261,41 +268,45 @@ outcome f b = go (is_copy f) refl (is_copy b) refl
     not_sized : (c : List ℕ) → is_copy c ≡ false → ¬ Sized c
     not_sized c e s = true≢false (sym (sized-copy c s) ∙ e)
 
-    go : (s : Bool) → is_copy f ≡ s → (t : Bool) → is_copy b ≡ t → Outcome f b (cond (s && t) (decide_of (copy_reading f) (copy_reading b) f b) (Refused slice_size))
+    go : (s : Bool) → is_copy f ≡ s → (t : Bool) → is_copy b ≡ t → Outcome f b (cond (s && t) (decide_of (copy_reading f) (copy_reading b) f b) (Err (reason slice_size)))
     go true s true t =
         decided f b (by_side (λ (v : Side). Sized (copy_on v f b)) Front (copy-sized f s) (copy-sized b t)) (copy_reading f) (copy_reading b) (view f) (view b) refl refl
     go true s false t = wrong_size (Back, not_sized b t)
     go false s t u = wrong_size (Front, not_sized f s)
 
 -- two answers that are one
-refused-same : (n m : ℕ) → Refused n ≡ Refused m → n ≡ m
-refused-same n m e = cc
+refused-same : (e x : Reason) → ◌≡◌ {A = Result Found Reason} (Err e) (Err x) → e ≡ x
+refused-same e x h = cc
 
-another : {X : Type 0} (n m : ℕ) → eqb n m ≡ false → Refused n ≡ Refused m → X
-another n m d e = absurd (eqb-false n m d (refused-same n m e))
+another : {X : Type 0} (e x : Reason) → eqb (refusal_of e).number (refusal_of x).number ≡ false → ◌≡◌ {A = Result Found Reason} (Err e) (Err x) → X
+another e x d h =
+    absurd (eqb-false (refusal_of e).number (refusal_of x).number d (ap (λ (r : Reason). (refusal_of r).number) (refused-same e x h)))
 
-pub found-same : (r : Finding) (o : Other) (q : Finding) (p : Other) → Found q p ≡ Found r o → q ≡ r
-found-same r o q p e = cc
+ok_same : (p q : Found) → ◌≡◌ {A = Result Found Reason} (Ok p) (Ok q) → p ≡ q
+ok_same p q e = cc
 
-same_other : (q r : Finding) (o p : Other) → Found q o ≡ Found r p → o ≡ p
-same_other q r o p e = cc
+pub found-same : (r : Finding) (o : Result BlockFields Reason) (q : Finding) (p : Result BlockFields Reason) → found_with q p ≡ found_with r o → q ≡ r
+found-same r o q p e = ap (λ (x : Found). x.finding) (ok_same _ _ e)
 
-pub refused_found : (r : Finding) (o : Other) (n : ℕ) → Refused n ≡ Found r o → ⊥
-refused_found r o n e = let z : ◌≡◌ {A = ℕ} 0 1 = cc in omega arith
+pub same_other : (q r : Finding) (o p : Result BlockFields Reason) → found_with q o ≡ found_with r p → o ≡ p
+same_other q r o p e = ap (λ (x : Found). x.other) (ok_same _ _ e)
 
-not_found : {X : Type 0} (q : Finding) (o : Other) (n : ℕ) → Refused n ≡ Found q o → X
-not_found q o n e = absurd (refused_found q o n e)
+pub refused_found : (r : Finding) (o : Result BlockFields Reason) (e : Reason) → Err e ≡ found_with r o → ⊥
+refused_found r o e h = let z : ◌≡◌ {A = ℕ} 0 1 = cc in omega arith
 
-not_refused : {X : Type 0} (q : Finding) (o : Other) (n : ℕ) → Found q o ≡ Refused n → X
-not_refused q o n e = absurd (refused_found q o n (sym e))
+not_found : {X : Type 0} (q : Finding) (o : Result BlockFields Reason) (e : Reason) → Err e ≡ found_with q o → X
+not_found q o e h = absurd (refused_found q o e h)
+
+not_refused : {X : Type 0} (q : Finding) (o : Result BlockFields Reason) (e : Reason) → found_with q o ≡ Err e → X
+not_refused q o e h = absurd (refused_found q o e (sym h))
 
 -- No two of these are of one pair of slices.
 module _ (f b : List ℕ) where
-  pick : (P : Answer → Type 0) → (WrongSize f b → P (Refused 1)) → (NoBlock f b → P (Refused 10)) → (TwoIdentities f b → P (Refused 11))
-      → (NoRecord f b → P (Refused 12)) → (TwoRecords f b → P (Refused 13)) → ((q : Finding) (o : Other) → Finds f b q o → P (Found q o)) → P (discovery f b)
+  pick : (P : Result Found Reason → Type 0) → (WrongSize f b → P (Err (reason 1))) → (NoBlock f b → P (Err (reason 10))) → (TwoIdentities f b → P (Err (reason 11)))
+      → (NoRecord f b → P (Err (reason 12))) → (TwoRecords f b → P (Err (reason 13))) → ((q : Finding) (o : Result BlockFields Reason) → Finds f b q o → P (found_with q o)) → P (discovery f b)
   pick P p1 p10 p11 p12 p13 p0 = go (discovery f b) (outcome f b)
     where
-      go : (a : Answer) → Outcome f b a → P a
+      go : (a : Result Found Reason) → Outcome f b a → P a
       go a (wrong_size m) = p1 m
       go a (block_none m) = p10 m
       go a (two_identities m) = p11 m
@@ -321,7 +332,7 @@ module _ (f b : List ℕ) where
   sizes_13 : TwoRecords f b → BothSized f b
   sizes_13 m = by_side (λ (s : Side). Sized (copy_on s f b)) Front m.front.whole.accepted.size m.back.whole.accepted.size
 
-  not_two : (q : Finding) (o : Other) → TwoRecords f b → Finds f b q o → ⊥
+  not_two : (q : Finding) (o : Result BlockFields Reason) → TwoRecords f b → Finds f b q o → ⊥
   not_two q o m n = go q.side refl
     where
       go : (s : Side) → q.side ≡ s → ⊥
@@ -341,22 +352,22 @@ module _ (f b : List ℕ) where
           omega arith
 
   -- what is found is one record
-  abbrev findingAt : Side → Finding → Present → Finding
-  findingAt s q Nothing = q
-  findingAt s q (At x h) = finding_of s (fields_in (copy_on s f b)) x h
+  abbrev findingAt : Side → Finding → Option Present → Finding
+  findingAt s q None = q
+  findingAt s q (Some p) = finding_of s (fields_in (copy_on s f b)) p
 
-  pub finding_is : (q : Finding) (o : Other) (n : Finds f b q o) → q ≡ finding_of q.side (fields_in (copy_on q.side f b)) q.area n.h
+  pub finding_is : (q : Finding) (o : Result BlockFields Reason) (n : Finds f b q o) → q ≡ finding_of q.side (fields_in (copy_on q.side f b)) (record_at q.area n.h)
   finding_is q o n =
       λ i. record { side = q.side; area = q.area; bytes = n.bytes i; seconds = n.seconds i; nanoseconds = n.nanoseconds i; fields = n.fields i }
 
-  one_finding : (q r : Finding) (o p : Other) → Finds f b q o → Finds f b r p → q ≡ r
+  one_finding : (q r : Finding) (o p : Result BlockFields Reason) → Finds f b q o → Finds f b r p → q ≡ r
   one_finding q r o p m n = go q.side refl r.side refl
     where
-      at : (s : Side) (q : Finding) (o : Other) (m : Finds f b q o) → q.side ≡ s → WholeArea (copy_on s f b) q.area m.h
+      at : (s : Side) (q : Finding) (o : Result BlockFields Reason) (m : Finds f b q o) → q.side ≡ s → WholeArea (copy_on s f b) q.area m.h
       at s q o m e = subst (λ (t : Side). WholeArea (copy_on t f b) q.area m.h) e m.whole
 
-      is : (s : Side) (q : Finding) (o : Other) (m : Finds f b q o) → q.side ≡ s → q ≡ finding_of s (fields_in (copy_on s f b)) q.area m.h
-      is s q o m e = finding_is q o m ∙ ap (λ (t : Side). finding_of t (fields_in (copy_on t f b)) q.area m.h) e
+      is : (s : Side) (q : Finding) (o : Result BlockFields Reason) (m : Finds f b q o) → q.side ≡ s → q ≡ finding_of s (fields_in (copy_on s f b)) (record_at q.area m.h)
+      is s q o m e = finding_is q o m ∙ ap (λ (t : Side). finding_of t (fields_in (copy_on t f b)) (record_at q.area m.h)) e
 
       one_side : (s : Side) → q.side ≡ s → r.side ≡ s → q ≡ r
       one_side s d e =
@@ -368,7 +379,7 @@ module _ (f b : List ℕ) where
           ∙ (ap (findingAt s q) (one_entry (copy_on s f b) v.accepted q.area r.area m.h n.h v.used w.used (omega arith))
           ∙ sym (is s r p n e))
 
-      two-sides : (q r : Finding) (o p : Other) (m : Finds f b q o) (n : Finds f b r p) → q.side ≡ Front → r.side ≡ Back → ⊥
+      two-sides : (q r : Finding) (o p : Result BlockFields Reason) (m : Finds f b q o) (n : Finds f b r p) → q.side ≡ Front → r.side ≡ Back → ⊥
       two-sides q r o p m n d e =
           let l : moment m.h < moment n.h = n.in_back e q.area m.h (at Front q o m d) in
           let k : moment n.h ≤ moment m.h = m.none-later Back r.area n.h (at Back r p n e) in
@@ -380,86 +391,87 @@ module _ (f b : List ℕ) where
       go Back d Front e = absurd (two-sides r q p o n m e d)
       go Back d Back e = one_side Back d e
 
-  one_other : (q : Finding) (o p : Other) → Finds f b q o → Finds f b q p → o ≡ p
+  one_other : (q : Finding) (o p : Result BlockFields Reason) → Finds f b q o → Finds f b q p → o ≡ p
   one_other q o p m n = go (copy_reading (copy_on (other_side q.side) f b)) (view (copy_on (other_side q.side) f b))
     where
-      go : (r : CopyReading) → View (copy_on (other_side q.side) f b) r → o ≡ p
-      go r (not_taken i d l u v) = m.one d ∙ sym (n.one d)
+      go : (r : Result CopyReading Reason) → View (copy_on (other_side q.side) f b) r → o ≡ p
+      go r (not_taken i d l u v w) = m.one d ∙ sym (n.one d)
       go r (taken a) = m.both a ∙ sym (n.both a)
 
-  one_found : (q r : Finding) (o p : Other) → Finds f b q o → Finds f b r p → Found q o ≡ Found r p
+  one_found : (q r : Finding) (o p : Result BlockFields Reason) → Finds f b q o → Finds f b r p → found_with q o ≡ found_with r p
   one_found q r o p m n =
       let e : q ≡ r = one_finding q r o p m n in
-      ap₂ (λ (s : Finding) (t : Other). Found s t) e (one_other r o p (subst (λ (s : Finding). Finds f b s o) e m) n)
+      ap₂ (λ (s : Finding) (t : Result BlockFields Reason). found_with s t) e (one_other r o p (subst (λ (s : Finding). Finds f b s o) e m) n)
 
   -- what each is gives its answer
-  size_back : WrongSize f b → discovery f b ≡ Refused 1
+  size_back : WrongSize f b → discovery f b ≡ Err (reason 1)
   size_back m =
-      pick (λ (a : Answer). a ≡ Refused 1) (λ n. refl) (λ n. not_sized m n.size) (λ n. not_sized m (sizes_11 n)) (λ n. not_sized m n.size)
+      pick (λ (a : Result Found Reason). a ≡ Err (reason 1)) (λ n. refl) (λ n. not_sized m n.size) (λ n. not_sized m (sizes_11 n)) (λ n. not_sized m n.size)
       (λ n. not_sized m (sizes_13 n)) (λ q o n. not_sized m n.size)
 
-  no_block-back : NoBlock f b → discovery f b ≡ Refused 10
+  no_block-back : NoBlock f b → discovery f b ≡ Err (reason 10)
   no_block-back m =
-      pick (λ (a : Answer). a ≡ Refused 10) (λ n. not_sized n m.size) (λ n. refl) (λ n. not_accepted m Front (n.accepted Front))
+      pick (λ (a : Result Found Reason). a ≡ Err (reason 10)) (λ n. not_sized n m.size) (λ n. refl) (λ n. not_accepted m Front (n.accepted Front))
       (λ n. not_accepted m n.accepted.0 n.accepted.1) (λ n. not_accepted m Front n.front.whole.accepted)
       (λ q o n. not_accepted m q.side n.whole.accepted)
 
-  identity-back : TwoIdentities f b → discovery f b ≡ Refused 11
+  identity-back : TwoIdentities f b → discovery f b ≡ Err (reason 11)
   identity-back m =
-      pick (λ (a : Answer). a ≡ Refused 11) (λ n. not_sized n (sizes_11 m)) (λ n. not_accepted n Front (m.accepted Front)) (λ n. refl)
+      pick (λ (a : Result Found Reason). a ≡ Err (reason 11)) (λ n. not_sized n (sizes_11 m)) (λ n. not_accepted n Front (m.accepted Front)) (λ n. refl)
       (λ n. not_one m n.identity) (λ n. not_one m (λ x y. n.identity)) (λ q o n. not_one m n.identity)
 
-  no_record-back : NoRecord f b → discovery f b ≡ Refused 12
+  no_record-back : NoRecord f b → discovery f b ≡ Err (reason 12)
   no_record-back m =
-      pick (λ (a : Answer). a ≡ Refused 12) (λ n. not_sized n m.size) (λ n. not_accepted n m.accepted.0 m.accepted.1) (λ n. not_one n m.identity)
+      pick (λ (a : Result Found Reason). a ≡ Err (reason 12)) (λ n. not_sized n m.size) (λ n. not_accepted n m.accepted.0 m.accepted.1) (λ n. not_one n m.identity)
       (λ n. refl) (λ n. not_whole m Front n.x n.h n.front.whole) (λ q o n. not_whole m q.side q.area n.h n.whole)
 
-  two_records-back : TwoRecords f b → discovery f b ≡ Refused 13
+  two_records-back : TwoRecords f b → discovery f b ≡ Err (reason 13)
   two_records-back m =
-      pick (λ (a : Answer). a ≡ Refused 13) (λ n. not_sized n (sizes_13 m)) (λ n. not_accepted n Front m.front.whole.accepted) (λ n. not_one n (λ x y. m.identity))
+      pick (λ (a : Result Found Reason). a ≡ Err (reason 13)) (λ n. not_sized n (sizes_13 m)) (λ n. not_accepted n Front m.front.whole.accepted) (λ n. not_one n (λ x y. m.identity))
       (λ n. not_whole n Front m.x m.h m.front.whole) (λ n. refl) (λ q o n. absurd (not_two q o m n))
 
-  found_back : (q : Finding) (o : Other) → Finds f b q o → discovery f b ≡ Found q o
+  found_back : (q : Finding) (o : Result BlockFields Reason) → Finds f b q o → discovery f b ≡ found_with q o
   found_back q o m =
-      pick (λ (a : Answer). a ≡ Found q o) (λ n. not_sized n m.size) (λ n. not_accepted n q.side m.whole.accepted) (λ n. not_one n m.identity)
+      pick (λ (a : Result Found Reason). a ≡ found_with q o) (λ n. not_sized n m.size) (λ n. not_accepted n q.side m.whole.accepted) (λ n. not_one n m.identity)
       (λ n. not_whole n q.side q.area m.h m.whole) (λ n. absurd (not_two q o n m)) (λ r p n. one_found r q p o n m)
 
   -- and each answer is given for that alone
-  size-on : discovery f b ≡ Refused 1 → WrongSize f b
+  size-on : discovery f b ≡ Err (reason 1) → WrongSize f b
   size-on =
-      pick (λ (a : Answer). a ≡ Refused 1 → WrongSize f b) (λ m e. m) (λ m. another 10 1 refl) (λ m. another 11 1 refl) (λ m. another 12 1 refl)
-      (λ m. another 13 1 refl) (λ q o m. not_refused q o 1)
+      pick (λ (a : Result Found Reason). a ≡ Err (reason 1) → WrongSize f b) (λ m e. m) (λ m. another (reason 10) (reason 1) refl) (λ m. another (reason 11) (reason 1) refl) (λ m. another (reason 12) (reason 1) refl)
+      (λ m. another (reason 13) (reason 1) refl) (λ q o m. not_refused q o (reason 1))
 
-  no_block-on : discovery f b ≡ Refused 10 → NoBlock f b
+  no_block-on : discovery f b ≡ Err (reason 10) → NoBlock f b
   no_block-on =
-      pick (λ (a : Answer). a ≡ Refused 10 → NoBlock f b) (λ m. another 1 10 refl) (λ m e. m) (λ m. another 11 10 refl) (λ m. another 12 10 refl)
-      (λ m. another 13 10 refl) (λ q o m. not_refused q o 10)
+      pick (λ (a : Result Found Reason). a ≡ Err (reason 10) → NoBlock f b) (λ m. another (reason 1) (reason 10) refl) (λ m e. m) (λ m. another (reason 11) (reason 10) refl) (λ m. another (reason 12) (reason 10) refl)
+      (λ m. another (reason 13) (reason 10) refl) (λ q o m. not_refused q o (reason 10))
 
-  identity-on : discovery f b ≡ Refused 11 → TwoIdentities f b
+  identity-on : discovery f b ≡ Err (reason 11) → TwoIdentities f b
   identity-on =
-      pick (λ (a : Answer). a ≡ Refused 11 → TwoIdentities f b) (λ m. another 1 11 refl) (λ m. another 10 11 refl) (λ m e. m) (λ m. another 12 11 refl)
-      (λ m. another 13 11 refl) (λ q o m. not_refused q o 11)
+      pick (λ (a : Result Found Reason). a ≡ Err (reason 11) → TwoIdentities f b) (λ m. another (reason 1) (reason 11) refl) (λ m. another (reason 10) (reason 11) refl) (λ m e. m) (λ m. another (reason 12) (reason 11) refl)
+      (λ m. another (reason 13) (reason 11) refl) (λ q o m. not_refused q o (reason 11))
 
-  no_record-on : discovery f b ≡ Refused 12 → NoRecord f b
+  no_record-on : discovery f b ≡ Err (reason 12) → NoRecord f b
   no_record-on =
-      pick (λ (a : Answer). a ≡ Refused 12 → NoRecord f b) (λ m. another 1 12 refl) (λ m. another 10 12 refl) (λ m. another 11 12 refl) (λ m e. m)
-      (λ m. another 13 12 refl) (λ q o m. not_refused q o 12)
+      pick (λ (a : Result Found Reason). a ≡ Err (reason 12) → NoRecord f b) (λ m. another (reason 1) (reason 12) refl) (λ m. another (reason 10) (reason 12) refl) (λ m. another (reason 11) (reason 12) refl) (λ m e. m)
+      (λ m. another (reason 13) (reason 12) refl) (λ q o m. not_refused q o (reason 12))
 
-  two_records-on : discovery f b ≡ Refused 13 → TwoRecords f b
+  two_records-on : discovery f b ≡ Err (reason 13) → TwoRecords f b
   two_records-on =
-      pick (λ (a : Answer). a ≡ Refused 13 → TwoRecords f b) (λ m. another 1 13 refl) (λ m. another 10 13 refl) (λ m. another 11 13 refl)
-      (λ m. another 12 13 refl) (λ m e. m) (λ q o m. not_refused q o 13)
+      pick (λ (a : Result Found Reason). a ≡ Err (reason 13) → TwoRecords f b) (λ m. another (reason 1) (reason 13) refl) (λ m. another (reason 10) (reason 13) refl) (λ m. another (reason 11) (reason 13) refl)
+      (λ m. another (reason 12) (reason 13) refl) (λ m e. m) (λ q o m. not_refused q o (reason 13))
 
-  found-on : (q : Finding) (o : Other) → discovery f b ≡ Found q o → Finds f b q o
+  found-on : (q : Finding) (o : Result BlockFields Reason) → discovery f b ≡ found_with q o → Finds f b q o
   found-on q o =
-      pick (λ (a : Answer). a ≡ Found q o → Finds f b q o) (λ m. not_found q o 1) (λ m. not_found q o 10) (λ m. not_found q o 11) (λ m. not_found q o 12)
-      (λ m. not_found q o 13) (λ r p m e. subst₂ (Finds f b) (found-same q o r p e) (same_other r q p o e) m)
+      pick (λ (a : Result Found Reason). a ≡ found_with q o → Finds f b q o) (λ m. not_found q o (reason 1)) (λ m. not_found q o (reason 10)) (λ m. not_found q o (reason 11)) (λ m. not_found q o (reason 12))
+      (λ m. not_found q o (reason 13)) (λ r p m e. subst₂ (Finds f b) (found-same q o r p e) (same_other r q p o e) m)
 
-  no_other : (n : ℕ) → discovery f b ≡ Refused n → (n ≡ 1) ⊎ ((n ≡ 10) ⊎ ((n ≡ 11) ⊎ ((n ≡ 12) ⊎ (n ≡ 13))))
-  no_other n =
-      pick (λ (a : Answer). a ≡ Refused n → (n ≡ 1) ⊎ ((n ≡ 10) ⊎ ((n ≡ 11) ⊎ ((n ≡ 12) ⊎ (n ≡ 13))))) (λ m e. inl (refused-same n 1 (sym e)))
-      (λ m e. inr (inl (refused-same n 10 (sym e)))) (λ m e. inr (inr (inl (refused-same n 11 (sym e)))))
-      (λ m e. inr (inr (inr (inl (refused-same n 12 (sym e)))))) (λ m e. inr (inr (inr (inr (refused-same n 13 (sym e)))))) (λ q o m. not_refused q o n)
+  no_other : (e : Reason) → discovery f b ≡ Err e → (e ≡ reason 1) ⊎ ((e ≡ reason 10) ⊎ ((e ≡ reason 11) ⊎ ((e ≡ reason 12) ⊎ (e ≡ reason 13))))
+  no_other e =
+      pick (λ (a : Result Found Reason). a ≡ Err e → (e ≡ reason 1) ⊎ ((e ≡ reason 10) ⊎ ((e ≡ reason 11) ⊎ ((e ≡ reason 12) ⊎ (e ≡ reason 13)))))
+      (λ m h. inl (refused-same e (reason 1) (sym h))) (λ m h. inr (inl (refused-same e (reason 10) (sym h))))
+      (λ m h. inr (inr (inl (refused-same e (reason 11) (sym h))))) (λ m h. inr (inr (inr (inl (refused-same e (reason 12) (sym h))))))
+      (λ m h. inr (inr (inr (inr (refused-same e (reason 13) (sym h)))))) (λ q o m. not_refused q o e)
 
 pub exactly : Exactly
 exactly f b =

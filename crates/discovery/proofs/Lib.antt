@@ -1,6 +1,6 @@
 -- The laws that callers cite.
 pub mod Deciding
-pub mod Found
+pub mod Room
 pub mod Demand
 pub mod Latest
 pub mod Steps

@@ -1,26 +1,22 @@
--- The numbers of an answer: the refusal number, 0 for none, and the values of each case.
-use Rattle.std.specs.Prelude.{ℕ, List, [], ◌∷◌}
+-- The values of an answer; its refusal number is `number_in` of it (`refusal`, Reasons).
+use Rattle.std.specs.Prelude.{ℕ, List, [], ◌∷◌, Result, Ok, Err}
+use Rattle.refusal.specs.declared.Reason.{Reason}
+use Rattle.refusal.specs.Reasons.{number_in}
 use Rattle.layout.specs.Answers.{side_number, area_number}
-use Rattle.discovery.specs.declared.Finding.{Finding}
-use Rattle.discovery.specs.declared.Other.{Other}
-use Rattle.discovery.specs.declared.Other.TheVariants.{Both, One}
-use Rattle.discovery.specs.declared.Answer.{Answer}
-use Rattle.discovery.specs.declared.Answer.TheVariants.{Found, Refused}
+use Rattle.discovery.specs.declared.Found.{Found}
 
--- the other copy: 0 where both were accepted, else its refusal number
-abbrev pub other_number : Other → ℕ
-other_number (Both g) = 0
-other_number (One n) = n
-
--- what was found: side, area, bytes, seconds, nanoseconds, the other copy
-abbrev pub found_numbers : Finding → Other → List ℕ
-found_numbers q o = side_number q.side ∷ area_number q.area ∷ q.bytes ∷ q.seconds ∷ q.nanoseconds ∷ other_number o ∷ []
+-- what was found: side, area, bytes, seconds, nanoseconds, and the other copy: 0 where both were accepted, else its refusal number
+abbrev pub found_numbers : Found → List ℕ
+found_numbers r =
+    side_number r.finding.side
+    ∷ area_number r.finding.area
+    ∷ r.finding.bytes
+    ∷ r.finding.seconds
+    ∷ r.finding.nanoseconds
+    ∷ number_in r.other
+    ∷ []
 
 -- what discovery answers
-abbrev pub answer_number : Answer → ℕ
-answer_number (Found q o) = 0
-answer_number (Refused n) = n
-
-abbrev pub answer_values : Answer → List ℕ
-answer_values (Found q o) = found_numbers q o
-answer_values (Refused n) = []
+abbrev pub answer_values : Result Found Reason → List ℕ
+answer_values (Ok r) = found_numbers r
+answer_values (Err e) = []

@@ -1,24 +1,24 @@
 -- Discovery, in step and the reading of a found record, of the front copy f and the back copy b, in other words than the definitions
 -- that compute them: rows 1 and 10 to 13 of docs/FORMAT.md, 'Refusal numbers', and 'Discovery'. `proofs/Demand.antt` proves `Exactly`, `proofs/Steps.antt`
 -- `InStep`, `proofs/Copied.antt` `ReadFound` and `proofs/Examining.antt` `Examines`.
-use Rattle.std.specs.Prelude.{ℕ, ◌≤◌, ◌<◌, ◌≡◌, ◌↔◌, ◌⊎◌, true, List, length, take, drop}
+use Rattle.std.specs.Prelude.{ℕ, ◌≤◌, ◌<◌, ◌≡◌, ◌↔◌, ◌⊎◌, true, List, length, take, drop, Result, Ok, Err}
 use Rattle.endian.specs.Bytes.{window}
+use Rattle.refusal.specs.declared.Reason.{Reason}
+use Rattle.refusal.specs.Reasons.{reason}
 use Rattle.layout.specs.declared.Side.{Side}
 use Rattle.layout.specs.declared.Side.TheVariants.{Front, Back}
 use Rattle.layout.specs.declared.Area.{Area}
 use Rattle.block.specs.declared.Holding.{Holding}
+use Rattle.block.specs.declared.BlockFields.{BlockFields}
 use Rattle.block.specs.Block.{number, fields_of}
 use Rattle.block.specs.Accepted.{Accepted}
 use Rattle.copy.specs.Copy.{other_side, copy_reading}
 use Rattle.copy.specs.Answers.{copy_number}
 use Rattle.copy.specs.Demand.{Sized, signature_block, first_bytes, moment, AcceptedCopy, WholeArea, PresentRecord, LaterEntry}
 use Rattle.discovery.specs.declared.Finding.{Finding}
-use Rattle.discovery.specs.declared.Other.{Other}
-use Rattle.discovery.specs.declared.Other.TheVariants.{Both, One}
-use Rattle.discovery.specs.declared.Answer.{Answer}
-use Rattle.discovery.specs.declared.Answer.TheVariants.{Found, Refused}
+use Rattle.discovery.specs.declared.Found.{Found}
 use Rattle.discovery.specs.declared.Examined.{Examined}
-use Rattle.discovery.specs.Discovery.{discovery, is_in_step, examined, copy_on, read_answer, read_bytes}
+use Rattle.discovery.specs.Discovery.{found_with, discovery, is_in_step, examined, copy_on, read_answer, read_bytes}
 
 -- both slices have the size of a copy
 abbrev pub BothSized : List ℕ → List ℕ → Type 0
@@ -70,7 +70,7 @@ pub record TwoRecords (f b : List ℕ) : Type 0 where
   pub differ : ¬ (first_bytes f x h.bytes ≡ first_bytes b y k.bytes)
 
 -- A record is found: q says which, and o what the other copy is.
-pub record Finds (f b : List ℕ) (q : Finding) (o : Other) : Type 0 where
+pub record Finds (f b : List ℕ) (q : Finding) (o : Result BlockFields Reason) : Type 0 where
   pub size : BothSized f b
   pub identity : OneIdentity f b
   -- q's area is whole; q says the length and time of its entry h, and the fields of its copy's block
@@ -88,19 +88,20 @@ pub record Finds (f b : List ℕ) (q : Finding) (o : Other) : Type 0 where
   pub in_front : q.side ≡ Front → (y : Area) (k : Holding) → WholeArea b y k → moment k ≡ moment h
       → first_bytes b y k.bytes ≡ first_bytes f q.area h.bytes
   -- the other copy: its fields where it is accepted too, else its refusal number
-  pub both : AcceptedCopy (copy_on (other_side q.side) f b) → o ≡ Both (fields_of (signature_block (copy_on (other_side q.side) f b)))
-  pub one : ¬ AcceptedCopy (copy_on (other_side q.side) f b) → o ≡ One (copy_number (copy_reading (copy_on (other_side q.side) f b)))
+  pub both : AcceptedCopy (copy_on (other_side q.side) f b) → o ≡ Ok (fields_of (signature_block (copy_on (other_side q.side) f b)))
+  pub one : ¬ AcceptedCopy (copy_on (other_side q.side) f b) → o ≡ Err (reason (copy_number (copy_reading (copy_on (other_side q.side) f b))))
 
 -- What the answer a says of the two slices: each number is given exactly when its row says, and a record is found exactly when it is one.
-pub record Says (f b : List ℕ) (a : Answer) : Type 0 where
-  pub size : a ≡ Refused 1 ↔ WrongSize f b
-  pub block_none : a ≡ Refused 10 ↔ NoBlock f b
-  pub identity : a ≡ Refused 11 ↔ TwoIdentities f b
-  pub no_record : a ≡ Refused 12 ↔ NoRecord f b
-  pub two_records : a ≡ Refused 13 ↔ TwoRecords f b
-  pub found : (q : Finding) (o : Other) → (a ≡ Found q o ↔ Finds f b q o)
+pub record Says (f b : List ℕ) (a : Result Found Reason) : Type 0 where
+  pub size : a ≡ Err (reason 1) ↔ WrongSize f b
+  pub block_none : a ≡ Err (reason 10) ↔ NoBlock f b
+  pub identity : a ≡ Err (reason 11) ↔ TwoIdentities f b
+  pub no_record : a ≡ Err (reason 12) ↔ NoRecord f b
+  pub two_records : a ≡ Err (reason 13) ↔ TwoRecords f b
+  pub found : (q : Finding) (o : Result BlockFields Reason) → (a ≡ found_with q o ↔ Finds f b q o)
   -- there is no other answer
-  pub no_other : (n : ℕ) → a ≡ Refused n → (n ≡ 1) ⊎ ((n ≡ 10) ⊎ ((n ≡ 11) ⊎ ((n ≡ 12) ⊎ (n ≡ 13))))
+  pub no_other : (e : Reason) → a ≡ Err e
+      → (e ≡ reason 1) ⊎ ((e ≡ reason 10) ⊎ ((e ≡ reason 11) ⊎ ((e ≡ reason 12) ⊎ (e ≡ reason 13))))
 
 abbrev pub Exactly : Type 0
 Exactly = (f b : List ℕ) → Says f b (discovery f b)
@@ -124,14 +125,14 @@ abbrev pub InStep : Type 0
 InStep = (f b : List ℕ) → (is_in_step f b ≡ true ↔ Stepped f b)
 
 -- What reading the found record answers, a, and leaves in the buffer `out`.
-pub record Copies (f b out : List ℕ) (a : Answer) (left : List ℕ) : Type 0 where
+pub record Copies (f b out : List ℕ) (a : Result Found Reason) (left : List ℕ) : Type 0 where
   -- a buffer with room begins with the record afterwards; bytes past its length stay
-  pub room : (q : Finding) (o : Other) → Finds f b q o → q.bytes ≤ length out
-      → (a ≡ Found q o)
+  pub room : (q : Finding) (o : Result BlockFields Reason) → Finds f b q o → q.bytes ≤ length out
+      → (a ≡ found_with q o)
       × ((take q.bytes left ≡ first_bytes (copy_on q.side f b) q.area q.bytes) × (drop q.bytes left ≡ drop q.bytes out))
   -- with too little room 1 is given, after all others, and the buffer stays
-  pub short : (q : Finding) (o : Other) → Finds f b q o → length out < q.bytes → (a ≡ Refused 1) × (left ≡ out)
-  pub refused : (n : ℕ) → discovery f b ≡ Refused n → (a ≡ Refused n) × (left ≡ out)
+  pub short : (q : Finding) (o : Result BlockFields Reason) → Finds f b q o → length out < q.bytes → (a ≡ Err (reason 1)) × (left ≡ out)
+  pub refused : (e : Reason) → discovery f b ≡ Err e → (a ≡ Err e) × (left ≡ out)
 
 abbrev pub ReadFound : Type 0
 ReadFound = (f b out : List ℕ) → Copies f b out (read_answer (discovery f b) (length out)) (read_bytes (read_answer (discovery f b) (length out)) f b out)

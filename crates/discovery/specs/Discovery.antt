@@ -1,48 +1,50 @@
 -- Discovery over two copies, in step, and reading the found record: docs/FORMAT.md, 'Discovery'.
-use Rattle.std.specs.Prelude.{ℕ, Bool, false, cond, ◌&&◌, List, eqb, leb}
+use Rattle.std.specs.Prelude.{ℕ, Bool, false, cond, ◌&&◌, List, eqb, leb, Option, Some, None, Result, Ok, Err}
 use Rattle.endian.specs.Bytes.{same, splice}
+use Rattle.refusal.specs.declared.Reason.{Reason}
 use Rattle.refusal.specs.Numbers.{slice_size, no_block, identity, no_record, two_records}
+use Rattle.refusal.specs.Reasons.{reason}
 use Rattle.layout.specs.declared.Side.{Side}
 use Rattle.layout.specs.declared.Side.TheVariants.{Front, Back}
-use Rattle.layout.specs.declared.Area.{Area}
-use Rattle.block.specs.declared.Holding.{Holding}
 use Rattle.block.specs.declared.BlockFields.{BlockFields}
 use Rattle.block.specs.declared.Reading.{Reading}
-use Rattle.block.specs.declared.Verdict.{Verdict}
 use Rattle.block.specs.Entry.{later_than, same_time, time_of}
 use Rattle.block.specs.Writing.{holding_of}
 use Rattle.copy.specs.declared.Present.{Present}
-use Rattle.copy.specs.declared.Present.TheVariants.{Nothing, At}
 use Rattle.copy.specs.declared.CopyReading.{CopyReading}
+use Rattle.copy.specs.declared.PresentReading.{PresentReading}
 use Rattle.discovery.specs.declared.Finding.{Finding}
-use Rattle.discovery.specs.declared.Other.TheVariants.{Both, One}
-use Rattle.discovery.specs.declared.Answer.{Answer}
-use Rattle.discovery.specs.declared.Answer.TheVariants.{Found, Refused}
+use Rattle.discovery.specs.declared.Found.{Found}
 use Rattle.discovery.specs.declared.Examined.{Examined}
-use Rattle.copy.specs.Copy.{is_copy, area_bytes, entry_in, whole, newest, reading_in, copy_reading}
+use Rattle.copy.specs.Copy.{is_copy, area_bytes, entry_in, whole, newest, record_at, mapped, reading_in, copy_reading, present_reading_of}
 
 -- which copy and area, the length and time, and the fields of that copy's block
-abbrev pub finding_of : Side → BlockFields → Area → Holding → Finding
-finding_of s g x h = record { side = s; area = x; bytes = h.bytes; seconds = h.seconds; nanoseconds = h.nanoseconds; fields = g }
+abbrev pub finding_of : Side → BlockFields → Present → Finding
+finding_of s g p =
+    record { side = s; area = p.area; bytes = p.holding.bytes; seconds = p.holding.seconds; nanoseconds = p.holding.nanoseconds; fields = g }
 
--- one copy read alone, with the other's refusal number
-abbrev pub alone_of : Side → BlockFields → Present → ℕ → Answer
-alone_of s g Nothing n = Refused no_record
-alone_of s g (At x h) n = Found (finding_of s g x h) (One n)
+-- a record that is found, and the other copy: accepted too, with its fields, or refused
+abbrev pub found_with : Finding → Result BlockFields Reason → Result Found Reason
+found_with q o = Ok (record { finding = q; other = o })
+
+-- one copy read alone, where the other is refused
+abbrev pub alone_of : Side → BlockFields → Option Present → Reason → Result Found Reason
+alone_of s g None e = Err (reason no_record)
+alone_of s g (Some p) e = found_with (finding_of s g p) (Err e)
 
 -- both present records: the newest; on the same time and bytes, the front
-abbrev pub newest_of : List ℕ → List ℕ → BlockFields → BlockFields → Area → Holding → Area → Holding → Answer
-newest_of f b i j x h y k =
-    cond (same_time (time_of h) (time_of k))
-    (cond (same (area_bytes f x h.bytes) (area_bytes b y k.bytes)) (Found (finding_of Front i x h) (Both j)) (Refused two_records))
-    (cond (later_than (time_of k) (time_of h)) (Found (finding_of Back j y k) (Both i)) (Found (finding_of Front i x h) (Both j)))
+abbrev pub newest_of : List ℕ → List ℕ → BlockFields → BlockFields → Present → Present → Result Found Reason
+newest_of f b i j p q =
+    cond (same_time (time_of p.holding) (time_of q.holding))
+    (cond (same (area_bytes f p.area p.holding.bytes) (area_bytes b q.area q.holding.bytes)) (found_with (finding_of Front i p) (Ok j)) (Err (reason two_records)))
+    (cond (later_than (time_of q.holding) (time_of p.holding)) (found_with (finding_of Back j q) (Ok i)) (found_with (finding_of Front i p) (Ok j)))
 
 -- two accepted copies of one identity, whose blocks have the fields i and j
-abbrev pub together_of : List ℕ → List ℕ → BlockFields → BlockFields → Present → Present → Answer
-together_of f b i j Nothing Nothing = Refused no_record
-together_of f b i j Nothing (At y k) = Found (finding_of Back j y k) (Both i)
-together_of f b i j (At x h) Nothing = Found (finding_of Front i x h) (Both j)
-together_of f b i j (At x h) (At y k) = newest_of f b i j x h y k
+abbrev pub together_of : List ℕ → List ℕ → BlockFields → BlockFields → Option Present → Option Present → Result Found Reason
+together_of f b i j None None = Err (reason no_record)
+together_of f b i j None (Some q) = found_with (finding_of Back j q) (Ok i)
+together_of f b i j (Some p) None = found_with (finding_of Front i p) (Ok j)
+together_of f b i j (Some p) (Some q) = newest_of f b i j p q
 
 -- S, L, R and both UUIDs are the same
 abbrev pub same_device : BlockFields → BlockFields → Bool
@@ -53,46 +55,50 @@ same_device f g =
 abbrev pub same_uuids : Reading → Reading → Bool
 same_uuids r q = same r.pool q.pool && same r.blockdev q.blockdev
 
--- by what reading the two blocks answered, whether the UUIDs are the same, and the present records p and q: a refused block in one
--- copy is set aside at once and the other copy is read alone
-abbrev pub decide : Verdict → Verdict → Bool → Present → Present → List ℕ → List ℕ → Answer
-decide (Verdict.Refused m) (Verdict.Refused n) u p q f b = Refused no_block
-decide (Verdict.Refused m) (Verdict.Accepted y) u p q f b = alone_of Back y q m
-decide (Verdict.Accepted x) (Verdict.Refused n) u p q f b = alone_of Front x p n
-decide (Verdict.Accepted x) (Verdict.Accepted y) u p q f b = cond (same_device x y && u) (together_of f b x y p q) (Refused identity)
+-- by what reading the two copies answered: a refused block in one copy is set aside at once and the other copy is read alone
+abbrev pub decide : Result PresentReading Reason → Result PresentReading Reason → List ℕ → List ℕ → Result Found Reason
+decide (Err m) (Err n) f b = Err (reason no_block)
+decide (Err m) (Ok s) f b = alone_of Back s.block.fields s.present m
+decide (Ok r) (Err n) f b = alone_of Front r.block.fields r.present n
+decide (Ok r) (Ok s) f b =
+    cond (same_device r.block.fields s.block.fields && same_uuids r.block s.block)
+    (together_of f b r.block.fields s.block.fields r.present s.present)
+    (Err (reason identity))
 
--- by what reading the two copies answered
-abbrev pub decide_of : CopyReading → CopyReading → List ℕ → List ℕ → Answer
-decide_of r s f b = decide r.block.verdict s.block.verdict (same_uuids r.block s.block) r.present s.present f b
+-- the same, where it was answered which areas are whole too
+abbrev pub decide_of : Result CopyReading Reason → Result CopyReading Reason → List ℕ → List ℕ → Result Found Reason
+decide_of r s f b = decide (mapped present_reading_of r) (mapped present_reading_of s) f b
 
 -- both lent slices are copies by their size
 abbrev pub sized : List ℕ → List ℕ → Bool
 sized f b = is_copy f && is_copy b
 
 -- what `discover` answers for a front and a back copy
-unfoldable pub discovery : List ℕ → List ℕ → Answer
-discovery f b = cond (sized f b) (decide_of (copy_reading f) (copy_reading b) f b) (Refused slice_size)
+unfoldable pub discovery : List ℕ → List ℕ → Result Found Reason
+discovery f b = cond (sized f b) (decide_of (copy_reading f) (copy_reading b) f b) (Err (reason slice_size))
 
 -- both records have the same time and bytes
-abbrev pub agree : List ℕ → List ℕ → Area → Holding → Area → Holding → Bool
-agree f b x h y k = same_time (time_of h) (time_of k) && same (area_bytes f x h.bytes) (area_bytes b y k.bytes)
+abbrev pub agree : List ℕ → List ℕ → Present → Present → Bool
+agree f b p q =
+    same_time (time_of p.holding) (time_of q.holding)
+    && same (area_bytes f p.area p.holding.bytes) (area_bytes b q.area q.holding.bytes)
 
 -- in each copy the used entry with the later time is whole, and both present records have the same time and bytes
 abbrev pub stepped : List ℕ → BlockFields → List ℕ → BlockFields → Bool
 stepped f x b y =
     whole f x (newest x)
     && (whole b y (newest y)
-    && agree f b (newest x) (holding_of (entry_in x (newest x))) (newest y) (holding_of (entry_in y (newest y))))
+    && agree f b (record_at (newest x) (holding_of (entry_in x (newest x)))) (record_at (newest y) (holding_of (entry_in y (newest y)))))
 
 -- both blocks accepted, identity equal, and that
-abbrev pub in_step_of : Verdict → Verdict → Bool → List ℕ → List ℕ → Bool
-in_step_of (Verdict.Refused m) w u f b = false
-in_step_of (Verdict.Accepted x) (Verdict.Refused n) u f b = false
-in_step_of (Verdict.Accepted x) (Verdict.Accepted y) u f b = (same_device x y && u) && stepped f x b y
+abbrev pub in_step_of : Result Reading Reason → Result Reading Reason → List ℕ → List ℕ → Bool
+in_step_of (Err m) w f b = false
+in_step_of (Ok r) (Err n) f b = false
+in_step_of (Ok r) (Ok s) f b = (same_device r.fields s.fields && same_uuids r s) && stepped f r.fields b s.fields
 
 -- document 01's 'in step'
 unfoldable pub is_in_step : List ℕ → List ℕ → Bool
-is_in_step f b = sized f b && in_step_of (reading_in f).verdict (reading_in b).verdict (same_uuids (reading_in f) (reading_in b)) f b
+is_in_step f b = sized f b && in_step_of (reading_in f) (reading_in b) f b
 
 -- what `examine` answers: both at once
 abbrev pub examined : List ℕ → List ℕ → Examined
@@ -108,11 +114,11 @@ abbrev pub record_bytes : Finding → List ℕ → List ℕ → List ℕ
 record_bytes r f b = area_bytes (copy_on r.side f b) r.area r.bytes
 
 -- what `read_found` answers: discovery's answer, or 1 where the record has no room, tested last
-abbrev pub read_answer : Answer → ℕ → Answer
-read_answer (Refused n) room = Refused n
-read_answer (Found r o) room = cond (leb r.bytes room) (Found r o) (Refused slice_size)
+abbrev pub read_answer : Result Found Reason → ℕ → Result Found Reason
+read_answer (Err e) room = Err e
+read_answer (Ok r) room = cond (leb r.finding.bytes room) (Ok r) (Err (reason slice_size))
 
 -- what it leaves in the lent buffer: the record at its start, or what was there
-abbrev pub read_bytes : Answer → List ℕ → List ℕ → List ℕ → List ℕ
-read_bytes (Refused n) f b out = out
-read_bytes (Found r o) f b out = splice out 0 (record_bytes r f b)
+abbrev pub read_bytes : Result Found Reason → List ℕ → List ℕ → List ℕ → List ℕ
+read_bytes (Err e) f b out = out
+read_bytes (Ok r) f b out = splice out 0 (record_bytes r.finding f b)

@@ -3,8 +3,6 @@
 // `dump_line`. Assumes what `io` and `libc` do.
 #![tactic(auto)]
 
-use dump_line::Written;
-
 const IN: i32 = 0;
 
 const OUT: i32 = 1;
@@ -16,9 +14,7 @@ fn main() {
     let mut input = [0u8; ROOM];
     let n = io::read_full(IN, &mut input);
     let mut line = [0u8; dump_line::LINE_BYTES];
-    let w = dump_line::dump_line(&input[..n], &mut line);
-    let Written::Length(k) = w else {
-        return;
-    };
-    io::write_all(OUT, endian::window(&line, 0, k));
+    if let Ok(k) = dump_line::dump_line(&input[..n], &mut line) {
+        io::write_all(OUT, endian::window(&line, 0, k));
+    }
 }

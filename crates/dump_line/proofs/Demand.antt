@@ -7,7 +7,8 @@ use native.Mathlib.Omega.{arith}
 use lib.ListN.{length, drop}
 use Rattle.endian.specs.Bytes.{splice}
 use Rattle.endian.proofs.Parts.{splice-fits, splice-short}
-use Rattle.dump_line.specs.Answers.{written_number, written_values}
+use Rattle.dump_line.specs.Answers.{written_values}
+use Rattle.refusal.specs.Reasons.{number_in}
 use Rattle.dump_line.specs.Demand.{Writing}
 use Rattle.dump_line.proofs.Lengths.{line_room, written-short, written-fits}
 use Rattle.dump_line.proofs.Lines.{other_size}
@@ -19,8 +20,8 @@ at_start out v h = splice-fits out 0 v (omega arith) ∙ ap (λ (n : ℕ). v ++ 
 pub writing : Writing
 writing =
     record {
-      short = λ out v h. (ap written_number (written-short out v h), ap written_values (written-short out v h), splice-short out 0 v (omega arith));
-      fits = λ out v h. (ap written_number (written-fits out v h), ap written_values (written-fits out v h), at_start out v h);
+      short = λ out v h. (ap number_in (written-short out v h), ap written_values (written-short out v h), splice-short out 0 v (omega arith));
+      fits = λ out v h. (ap number_in (written-fits out v h), ap written_values (written-fits out v h), at_start out v h);
       room = line_room;
       other_size = other_size;
     }

@@ -6,17 +6,14 @@
 ghost use Rattle.std.specs.Prelude.{◌≤◌, ◌<◌, length};
 ghost use Rattle.sampling.specs.Laying.{input_bytes};
 
-use dump_line::Written;
 use sampling::say;
 
 // Prints the line of the dump d.
 fn print(d: &[u8]) {
     let mut line = [0u8; dump_line::LINE_BYTES];
-    let w = dump_line::dump_line(d, &mut line);
-    let Written::Length(k) = w else {
-        return;
-    };
-    say(endian::window(&line, 0, k));
+    if let Ok(k) = dump_line::dump_line(d, &mut line) {
+        say(endian::window(&line, 0, k));
+    }
 }
 
 // Prints the name and the line of the sample at `from` of s, and answers where the sample ends.
@@ -40,6 +37,7 @@ fn samples(s: &[u8])
     requires { length s.now ≤ input_bytes }
 {
     let mut at = 0;
+    // A `while` in each program: a sample says where the next one begins, and a shared function over a closure would have a `requires`.
     while at < s.len() {
         at = sample(s, at);
     }
@@ -47,7 +45,5 @@ fn samples(s: &[u8])
 
 fn main() {
     let input = sampling::fetch();
-    let bytes = input.bytes;
-    let n = input.used;
-    samples(&bytes[..n]);
+    samples(&input.bytes[..input.used]);
 }

@@ -6,7 +6,8 @@ use native.Mathlib.Decide.{dec_le}
 use native.Mathlib.Nat.{not-suc-le-zero}
 use native.Mathlib.Omega.{arith}
 use lib.Dec.{lit<}
-use borrow.Author.Tests.{le-leb, lt-leb}
+use borrow.Author.Tests.{le-leb, lt-leb, leb-true, leb-false}
+use mathlib.Core.Bool.{true, false}
 use lib.ListN.{length, take, drop, length-append, length-take, length-drop, take-append-drop, drop_of_length-le}
 use lib.Seq.{take_all, take-nil, drop-drop, take-take, take-add, take_at, drop_at, take-append-le, drop-append-le, get_or-drop, length-take-le}
 use Rattle.endian.specs.Bytes.{window, fits, splice, write_number, Bytes}
@@ -172,13 +173,23 @@ bytes_splice s at v b d =
       | no h ↦ rw (splice-short s at v (let l : length s < at + length v = omega arith in l)) b
     ]
 
--- what a write answers and leaves: where its n elements do not fit, and where they do, w being what came back of the part lent
-pub unstored : (s : List ℕ) (at n : ℕ) (v : List ℕ) → length v ≡ n → length s < at + n → (1 ≡ write_number s at n) × (s ≡ splice s at v)
-unstored s at n v e h = (sym (write-short s at n h), sym (splice-short s at v (omega arith)))
+-- what a write answers, true or false, says of the room
+pub fits-true : (s : List ℕ) (at n : ℕ) → true ≡ fits s at n → at + n ≤ length s
+unfolding fits
+fits-true s at n h = leb-true (at + n) (length s) (sym h)
+
+pub fits-false : (s : List ℕ) (at n : ℕ) → false ≡ fits s at n → length s < at + n
+unfolding fits
+fits-false s at n h = leb-false (at + n) (length s) (sym h)
+
+-- what a write leaves: where its n elements do not fit, and where they do, w being what came back of the part lent
+pub unstored : (s : List ℕ) (at n : ℕ) (v : List ℕ) → length v ≡ n → fits s at n ≡ false → s ≡ splice s at v
+unfolding splice
+unstored s at n v e h = rw (e, h)
 
 pub stored : (s : List ℕ) (at n : ℕ) (v w : List ℕ) → length v ≡ n → w ≡ v → at + n ≤ length s
-    → (0 ≡ write_number s at n) × (take at s ++ (w ++ drop (at + n - at) (drop at s)) ≡ splice s at v)
-stored s at n v w e k h = (sym (write-fits s at n h), splice-part s at n w h (ap length k ∙ e) ∙ ap (splice s at) k)
+    → take at s ++ (w ++ drop (at + n - at) (drop at s)) ≡ splice s at v
+stored s at n v w e k h = splice-part s at n w h (ap length k ∙ e) ∙ ap (splice s at) k
 
 -- v written right after u
 pub splice_next : (s : List ℕ) (at : ℕ) (u v : List ℕ) (k : ℕ) → k ≡ at + length u → k + length v ≤ length s

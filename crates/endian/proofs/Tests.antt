@@ -1,14 +1,16 @@
 -- Laws of the tests of lists.
 use Prim.Native.Nat.{ℕ, zero, suc, ◌+◌, ◌<◌, ◌≤◌}
 use mathlib.Core.Path.{◌≡◌, refl, sym, ap, ap₂, ◌∙◌}
-use mathlib.Core.Bool.{Bool, true, false, ◌&&◌, true≢false, and_assoc}
+use mathlib.Core.Bool.{Bool, true, false, ◌&&◌, true≢false, and-true, and_assoc}
 use mathlib.Core.List.{List, [], ◌∷◌, ◌++◌}
 use native.Mathlib.Nat.{not-suc-le-zero, le_of_suc-le-suc}
 use native.Mathlib.Numerals.{add-one}
 use native.Mathlib.Omega.{arith}
 use borrow.Author.Tests.{eqb-true, eq-eqb}
 use lib.Dec.{eqb}
+use Rattle.std.proofs.Common.{nat_eq}
 use lib.ListN.{length, get_or, drop, length-replicate, replicate-append-replicate, drop_of_length-le}
+use lib.Pointwise.{pointwise}
 use lib.Seq.{drop-cons}
 use Rattle.endian.specs.Bytes.{same, all_pass, zeros}
 
@@ -56,22 +58,13 @@ same-cons : (x y : ℕ) (xs ys : List ℕ) → same (x ∷ xs) (y ∷ ys) ≡ (e
 unfolding same
 same-cons x y xs ys = refl
 
-and_true : (r : Bool) → r && true ≡ r
-and_true true = refl
-and_true false = refl
-
--- As a loop has it that has compared the elements before i, with answer r: one element more, and the end.
-pub same_next : (a b : List ℕ) (i : ℕ) (r : Bool) → i < length a → i < length b
-    → (r && eqb (get_or a i 0) (get_or b i 0)) && same (drop (i + 1) a) (drop (i + 1) b) ≡ (r && same (drop i a) (drop i b))
-same_next a b i r h k =
-    and_assoc r (eqb (get_or a i 0) (get_or b i 0)) (same (drop (i + 1) a) (drop (i + 1) b))
-    ∙ ap (λ (z : Bool). r && z)
-    (sym (ap₂ same (drop-cons a i 0 h) (drop-cons b i 0 k)
-    ∙ (same-cons (get_or a i 0) (get_or b i 0) (drop (suc i) a) (drop (suc i) b)
-    ∙ ap (λ (n : ℕ). eqb (get_or a i 0) (get_or b i 0) && same (drop n a) (drop n b)) (sym (add-one i)))))
-
-pub same-done : (a b : List ℕ) (i : ℕ) (r : Bool) → length a ≤ i → length b ≤ i → r && same (drop i a) (drop i b) ≡ r
-same-done a b i r h k = ap₂ (λ (x y : List ℕ). r && same x y) (drop_of_length-le a h) (drop_of_length-le b k) ∙ (ap (λ (z : Bool). r && z) (same_refl []) ∙ and_true r)
+-- the library's test
+pub same-pointwise : (a b : List ℕ) → same a b ≡ pointwise nat_eq a b
+unfolding same
+same-pointwise [] [] = refl
+same-pointwise [] (y ∷ ys) = refl
+same-pointwise (x ∷ xs) [] = refl
+same-pointwise (x ∷ xs) (y ∷ ys) = ap (λ (z : Bool). eqb x y && z) (same-pointwise xs ys)
 
 module _ (p : ℕ → Bool) where
   all_cons : (x : ℕ) (xs : List ℕ) → all_pass p (x ∷ xs) ≡ (p x && all_pass p xs)
@@ -90,7 +83,7 @@ module _ (p : ℕ → Bool) where
       (sym (ap (all_pass p) (drop-cons s i 0 h) ∙ (all_cons (get_or s i 0) (drop (suc i) s) ∙ ap (λ (n : ℕ). p (get_or s i 0) && all_pass p (drop n s)) (sym (add-one i)))))
 
   pub all_done : (s : List ℕ) (i : ℕ) (r : Bool) → length s ≤ i → r && all_pass p (drop i s) ≡ r
-  all_done s i r h = ap (λ (z : List ℕ). r && all_pass p z) (drop_of_length-le s h) ∙ (ap (λ (z : Bool). r && z) all_nil ∙ and_true r)
+  all_done s i r h = ap (λ (z : List ℕ). r && all_pass p z) (drop_of_length-le s h) ∙ (ap (λ (z : Bool). r && z) all_nil ∙ and-true r)
 
   -- a list in two parts
   pub all_append : (s t : List ℕ) → all_pass p (s ++ t) ≡ (all_pass p s && all_pass p t)

@@ -1,6 +1,6 @@
 -- The twelve examples, as one equation of two tables.
 use Prim.Native.Nat.{ℕ, ◌+◌, ◌*◌}
-use mathlib.Core.Path.{◌≡◌, refl, sym, ap, ◌∙◌}
+use mathlib.Core.Path.{◌≡◌, refl, ap, ◌∙◌}
 use mathlib.Core.Bool.{true, ◌&&◌}
 use mathlib.Core.List.{List, [], ◌∷◌}
 use lib.Dec.{leb, lit<, lit≤}
@@ -16,31 +16,21 @@ use Rattle.block.specs.Block.{is_hex}
 use Rattle.block.specs.Writing.{write_tests}
 use Rattle.layout.specs.declared.Device.{Device}
 use Rattle.layout.specs.declared.Side.TheVariants.{Front}
-use Rattle.segments.specs.Sectors.{free_sectors}
-use Rattle.runs.specs.declared.Run.{Run}
 use Rattle.runs.specs.Runs.{run_at, fit_of, fitting}
-use Rattle.items.specs.Head.{head_of, head_size, data_range, item_bytes, most_segments}
-use Rattle.items.specs.Items.{segments}
+use Rattle.items.specs.Head.{head_of, head_size, most_segments}
 use Rattle.record.specs.Accept.{content_tests, record_tests}
-use Rattle.record.proofs.Naming.{refuse-yes}
 use Rattle.record.proofs.Testing.{record_ascending}
 use Rattle.record.proofs.Accepted.{accepted}
 use Rattle.record.proofs.Right.{accepted_content}
-use Rattle.allocation.specs.declared.RunCount.TheVariants as RunCount
-use Rattle.allocation.specs.declared.RunFound.TheVariants as RunFound
-use Rattle.allocation.specs.declared.FreeTotal.TheVariants as FreeTotal
 use Rattle.allocation.specs.Answers.{runs_answer, total_answer}
-use Rattle.allocation.specs.Answers as Answers
-use Rattle.allocation.specs.Change.{runs_for, own_tests, allocate_tests, allocation}
+use Rattle.allocation.specs.Change.{runs_for, own_tests, allocate_tests}
 use Rattle.allocation.proofs.Finding.{for_runs}
-use Rattle.update.specs.declared.Planned.TheVariants as Planned
 use Rattle.update.specs.Update.{update_number}
 use Rattle.stores.specs.Stores.{sectors_of}
-use Rattle.update.specs.Plan.{plan_of}
 use Rattle.format.proofs.Checking.{Taken}
 use Rattle.update.proofs.Allowing.{ordered}
 use Rattle.format.proofs.Demand.{format_in_step, format_device}
-use Rattle.examples.specs.Examples.{device, time, with_nanoseconds, zero_uuid, nine, row_of, yes, runs_in, run_in, total_in, run_of, asking, start_in, count_in, copy, stores_of, Twelve}
+use Rattle.examples.specs.Examples.{device, time, with_nanoseconds, zero_uuid, nine, row_of, yes, value_in, run_of, asking, copy, stores_of, Twelve}
 use Rattle.examples.proofs.Room.{known, free, nine-length, nine-head, nine-segments, nine-accepted, nine-runs, nine-total, example_11, example_12}
 
 -- examples 4 to 6: the device numbers
@@ -70,20 +60,14 @@ unfolding first all_pass zeros length_allowed record_limit
 nanoseconds = refl
 
 -- example 9: what the calls answer of the record's free runs
-runs : runs_in (runs_answer device nine) ≡ 2
-runs =
-    ap runs_in (sym (refuse-yes (RunCount.Runs (length (Answers.runs_in device nine))) RunCount.Refused nine 0 (first (record_tests device nine)) (sym nine-accepted) refl))
-    ∙ ap (λ (rs : List Run). length rs) nine-runs
+runs : value_in (runs_answer device nine) ≡ 2
+runs = rw (nine-accepted, nine-runs)
 
 run : (k : ℕ) → run_of k ≡ run_at free k
-run k =
-    ap run_in (sym (refuse-yes (RunFound.At (run_at (Answers.runs_in device nine) k)) RunFound.Refused nine 0 (first (record_tests device nine)) (sym nine-accepted) refl))
-    ∙ ap (λ (rs : List Run). run_at rs k) nine-runs
+run k = rw (nine-accepted, nine-runs)
 
-total : total_in (total_answer device nine) ≡ 2092906
-total =
-    ap total_in (sym (refuse-yes (FreeTotal.Sectors (free_sectors (data_range device) (segments nine))) FreeTotal.Refused nine 0 (first (record_tests device nine)) (sym nine-accepted) refl))
-    ∙ nine-total
+total : value_in (total_answer device nine) ≡ 2092906
+total = rw (nine-accepted, nine-total)
 
 -- example 10: an allocation of m sectors, where a free run fits
 runs_data : runs_for device nine 2 ≡ free
@@ -91,12 +75,10 @@ runs_data = for_runs device nine (accepted device nine nine-accepted) 2 ∙ nine
 
 most : most_segments (head_of nine) ≡ 409
 unfolding most_segments head_size record_limit
-most = ap most_segments nine-head
+most = rw nine-head
 
 asked : (m : ℕ) → leb 1 m ≡ true → fitting m free ≡ true → asking m ≡ (fit_of m free).start
-asked m l f =
-    ap (λ (n : ℕ). start_in (allocation n nine (fit_of m (runs_for device nine 2)).start (length nine + item_bytes))) none
-    ∙ ap (λ (rs : List Run). (fit_of m rs).start) runs_data
+asked m l f = rw (none, runs_data)
   where
     own : AllHold (own_tests device nine 2 m 8192)
     own = (rw nine-head known, (l, (rw (nine-segments, most), (rw runs_data f, (rw nine-length, tt)))))
@@ -146,12 +128,7 @@ not_refused r a =
     ∙ (ap (λ (v : Device). first (content_tests v r)) (format_device formatted (lit< tt) (lit< tt)) ∙ first_all (content_tests device r) (accepted_content device r a))
 
 stores : (r : List ℕ) (n k : ℕ) → first (record_tests device r) ≡ 0 → length r ≡ n → 2 * sectors_of n + 2 ≡ k → stores_of r ≡ k
-stores r n k a l e =
-    ap count_in
-    (sym
-    (refuse-yes (Planned.Plan (plan_of copy copy (time 11 0) r)) Planned.Refused r 0 (update_number copy copy (time 11 0) r)
-    (sym (not_refused r a)) refl))
-    ∙ (ap (λ (m : ℕ). 2 * sectors_of m + 2) l ∙ e)
+stores r n k a l e = rw (not_refused r a, l, e)
 
 four : stores_of (row_of 25) ≡ 4
 unfolding sectors_of

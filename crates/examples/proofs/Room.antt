@@ -4,11 +4,10 @@ use mathlib.Core.Path.{◌≡◌, refl, sym, ap, ◌∙◌}
 use mathlib.Core.Bool.{Bool, true, ◌&&◌}
 use mathlib.Core.List.{List, [], ◌∷◌}
 use native.Mathlib.Omega.{arith}
-use borrow.Author.Tests.{eqb-true, leb-true}
+use Rattle.std.proofs.lemmas.Bool.Decides.{nat_tests}
 use lib.Dec.{eqb, leb}
 use lib.ListN.{length}
 use Rattle.endian.specs.Bytes.{to_le}
-use Rattle.endian.proofs.Tests.{and_left, and_right}
 use Rattle.refusal.specs.Numbers.{record_length, segment_place, segment_clash}
 use Rattle.refusal.specs.Tests.{Test, ◌else_refuse◌, first}
 use Rattle.layout.specs.Limits.{length_allowed, record_limit}
@@ -28,7 +27,7 @@ use Rattle.items.specs.Items.{segments, well_formed}
 use Rattle.items.specs.Making.{segment_bytes, all_bytes, record_of}
 use Rattle.items.proofs.Heads.{HeadFits, plain-right, right-fits}
 use Rattle.items.proofs.Making.{AllFit, length_record, head_record, segments_record, formed_record}
-use Rattle.record.specs.Accept.{all_in_range, record_tests, named}
+use Rattle.record.specs.Accept.{all_in_range, record_tests}
 use Rattle.record.proofs.Naming.{named-pair}
 use Rattle.record.proofs.Accepted.{accepted}
 use Rattle.record.proofs.Demand.{sums}
@@ -68,15 +67,11 @@ head_made gs = head_record (Plain 128) gs head-fits
 module _ (gs : List Segment) (h : every (small gs) (length gs) ≡ true) where
   each : (i : ℕ) → i < length gs → ((nth gs i).kind ≡ 2) × (end_of (nth gs i) ≤ 2097152)
   each i l =
-      let e : small gs i ≡ true = every-at (small gs) (length gs) h i l in (
-        eqb-true (nth gs i).kind 2 (and_left (eqb (nth gs i).kind 2) (leb (end_of (nth gs i)) 2097152) e),
-        leb-true (end_of (nth gs i)) 2097152 (and_right (eqb (nth gs i).kind 2) (leb (end_of (nth gs i)) 2097152) e),
-      )
+      let e : small gs i ≡ true = every-at (small gs) (length gs) h i l in
+      (grind (arith, nat_tests), grind (arith, nat_tests))
 
   fits : AllFit gs
-  fits i l =
-      let e : ((nth gs i).kind ≡ 2) × (end_of (nth gs i) ≤ 2097152) = each i l in
-      record { kind = omega arith; start = omega arith; sectors = omega arith }
+  fits i l = record { kind = omega (arith, each i l); start = omega (arith, each i l); sectors = omega (arith, each i l) }
 
   segments_made : segments (record_of (Plain 128) gs) ≡ gs
   segments_made = segments_record (Plain 128) gs head-fits fits
@@ -126,10 +121,7 @@ nine-runs =
 
 pub nine-total : free_sectors (data_range device) (segments nine) ≡ 2092906
 unfolding allocated
-nine-total =
-    let t : allocated (segments nine) + free_sectors (data_range device) (segments nine) + 2 * (8 + 2040 + 0) ≡ 2097152 = sums device nine nine-accepted in
-    let a : allocated (segments nine) ≡ 150 = ap allocated nine-segments in
-    omega arith
+nine-total = omega (arith, sums device nine nine-accepted, ap allocated nine-segments)
 
 -- 11. Segments (2,048, 100) and (2,147, 1): 19. With (2,148, 1) instead: accepted.
 pub example_11 : (first (record_tests device (pair 2048 100 2147 1)) ≡ 19) × (first (record_tests device (pair 2048 100 2148 1)) ≡ 0)
@@ -140,10 +132,8 @@ example_11 = (number_made (segment 2048 100 ∷ segment 2147 1 ∷ []) refl, num
 pair_made : (gs : List Segment) (s : List ℕ) (i j : ℕ) → record_of (Plain 128) gs ≡ s → every (small gs) (length gs) ≡ true → first (record_tests device s) ≡ 19
     → earlier_of gs ≡ i → later_of gs i ≡ j → check_of s ≡ record { number = 19; first = i; second = j }
 pair_made gs s i j m h n e f =
-    ap (λ (k : ℕ). named k s) n
-    ∙ (named-pair s
-    ∙ (ap (λ (z : List Segment). record { number = 19; first = earlier_of z; second = later_of z (earlier_of z) }) (ap segments (sym m) ∙ segments_made gs h)
-    ∙ (ap (λ (k : ℕ). record { number = 19; first = k; second = later_of gs k }) e ∙ ap (λ (k : ℕ). record { number = 19; first = i; second = k }) f)))
+    let g : segments s ≡ gs = ap segments (sym m) ∙ segments_made gs h in
+    rw (n, named-pair s, g, e, f)
 
 pub pairs : Pairs
 unfolding pair four_segments record_of head_bytes head_size all_bytes segment_bytes to_le first every length_allowed record_limit all_in_range range_for in_range apart earlier_of later_of least clashes_at meets holds

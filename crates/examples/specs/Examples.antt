@@ -1,7 +1,8 @@
 -- The format's twelve marked examples (docs/FORMAT.md, 'Examples'), as two tables with a row for each: what the format says, and what the definitions
 -- give that the contracts cite. The theorem `Examples.twelve` says that the tables are the same.
-use Rattle.std.specs.Prelude.{ℕ, zero, suc, ◌+◌, ◌-◌, ◌≡◌, Bool, true, false, List, [], ◌∷◌, length, replicate}
+use Rattle.std.specs.Prelude.{ℕ, zero, suc, ◌+◌, ◌-◌, ◌≡◌, Bool, true, false, List, [], ◌∷◌, length, replicate, Some, None, Result, Ok, Err}
 use Rattle.endian.specs.Bytes.{zeros}
+use Rattle.refusal.specs.declared.Reason.{Reason}
 use Rattle.refusal.specs.declared.Refusal.{Refusal}
 use Rattle.refusal.specs.Tests.{first}
 use Rattle.layout.specs.declared.Device.{Device}
@@ -10,7 +11,6 @@ use Rattle.layout.specs.declared.Area.TheVariants.{A, B}
 use Rattle.layout.specs.Limits.{metadata_allowed, reserved_allowed, device_tests}
 use Rattle.layout.specs.Places.{block_sector, area_sector, data_start, data_end}
 use Rattle.block.specs.declared.Time.{Time}
-use Rattle.block.specs.declared.Entry.TheVariants.{Unused, Used}
 use Rattle.block.specs.declared.BlockFields.{BlockFields}
 use Rattle.block.specs.Entry.{later_than}
 use Rattle.block.specs.Writing.{write_tests}
@@ -20,13 +20,10 @@ use Rattle.items.specs.declared.Head.TheVariants.{Plain}
 use Rattle.items.specs.Items.{segments}
 use Rattle.items.specs.Making.{record_of}
 use Rattle.record.specs.Accept.{record_tests, named}
-use Rattle.allocation.specs.declared.RunCount.{RunCount}
-use Rattle.allocation.specs.declared.RunFound.{RunFound}
-use Rattle.allocation.specs.declared.FreeTotal.{FreeTotal}
 use Rattle.allocation.specs.declared.Allocation.{Allocation}
 use Rattle.allocation.specs.Answers.{runs_answer, run_answer, total_answer}
 use Rattle.allocation.specs.Change.{allocate_answer}
-use Rattle.update.specs.declared.Planned.{Planned}
+use Rattle.update.specs.declared.Plan.{Plan}
 use Rattle.update.specs.Plan.{planned, stores_in}
 use Rattle.format.specs.Format.{formatted_copy}
 
@@ -39,7 +36,7 @@ time s n = record { seconds = s; nanoseconds = n }
 
 -- a block's numbers with an entry of n nanoseconds, and a UUID of zeros
 abbrev pub with_nanoseconds : ℕ → BlockFields
-with_nanoseconds n = record { device = device; a = Used (record { seconds = 10; nanoseconds = n; bytes = 28; checksum = 0 }); b = Unused }
+with_nanoseconds n = record { device = device; a = Some (record { seconds = 10; nanoseconds = n; bytes = 28; checksum = 0 }); b = None }
 
 abbrev pub zero_uuid : List ℕ
 zero_uuid = replicate 32 48
@@ -69,33 +66,29 @@ yes true = 1
 yes false = 0
 
 -- what the calls on free runs answer: how many there are, a run, the free sectors; 0 where they refuse
-abbrev pub runs_in : RunCount → ℕ
-runs_in (RunCount.Runs n) = n
-runs_in (RunCount.Refused n) = 0
+abbrev pub value_in : Result ℕ Reason → ℕ
+value_in (Ok n) = n
+value_in (Err e) = 0
 
-abbrev pub run_in : RunFound → Run
-run_in (RunFound.At r) = r
-run_in (RunFound.Refused n) = record { start = 0; sectors = 0 }
-
-abbrev pub total_in : FreeTotal → ℕ
-total_in (FreeTotal.Sectors n) = n
-total_in (FreeTotal.Refused n) = 0
+abbrev pub run_in : Result Run Reason → Run
+run_in (Ok r) = r
+run_in (Err e) = record { start = 0; sectors = 0 }
 
 abbrev pub run_of : ℕ → Run
 run_of k = run_in (run_answer device nine k)
 
 -- where the sectors begin that an allocation of thin data gives; 0 where it is refused
-abbrev pub start_in : Allocation → ℕ
-start_in (Allocation.Placed s n) = s
-start_in (Allocation.Refused n) = 0
+abbrev pub start_in : Result Allocation Reason → ℕ
+start_in (Ok a) = a.start
+start_in (Err e) = 0
 
 abbrev pub asking : ℕ → ℕ
 asking m = start_in (allocate_answer device nine 2 m 8192)
 
 -- the number of stores of an update; 0 where it is refused
-abbrev pub count_in : Planned → ℕ
-count_in (Planned.Plan p) = stores_in p
-count_in (Planned.Refused n) = 0
+abbrev pub count_in : Result Plan Reason → ℕ
+count_in (Ok p) = stores_in p
+count_in (Err e) = 0
 
 -- a copy as formatting leaves both with the record of examples 9 and 10; the stores of an update of them with another record
 abbrev pub copy : List ℕ
@@ -137,12 +130,12 @@ given =
     ∷ [])
     ∷ (yes (later_than (time 10 5) (time 10 4)) ∷ [])
     ∷ (first (write_tests (zeros 512) zero_uuid zero_uuid (with_nanoseconds 1000000000)) ∷ [])
-    ∷ (runs_in (runs_answer device nine)
+    ∷ (value_in (runs_answer device nine)
     ∷ (run_of 0).start
     ∷ (run_of 0).sectors
     ∷ (run_of 1).start
     ∷ (run_of 1).sectors
-    ∷ total_in (total_answer device nine)
+    ∷ value_in (total_answer device nine)
     ∷ [])
     ∷ (asking 852 ∷ asking 853 ∷ [])
     ∷ (first (record_tests device (pair 2048 100 2147 1)) ∷ first (record_tests device (pair 2048 100 2148 1)) ∷ [])

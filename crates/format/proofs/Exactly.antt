@@ -1,14 +1,14 @@
 -- When formatting is not refused, in other words, and what it leaves.
 use Prim.Native.Nat.{ℕ, ◌^◌, ◌<◌}
-use mathlib.Core.Path.{◌≡◌, refl, ap, ◌∙◌}
-use mathlib.Core.Bool.{Bool, true, cond, ◌&&◌}
+use mathlib.Core.Path.{◌≡◌, refl, ◌∙◌}
+use mathlib.Core.Bool.{true, ◌&&◌}
 use mathlib.Core.List.{List, [], ◌∷◌}
-use borrow.Author.Tests.{leb-true, le-leb, eqb-true, eq-eqb, ne_eqb}
+use borrow.Author.Tests.{ne_eqb}
 use native.Mathlib.Omega.{arith}
+use Rattle.std.proofs.lemmas.Bool.Decides.{nat_tests}
 use lib.Dec.{eqb, lit<}
 use lib.ListN.{length}
 use Rattle.endian.specs.Bytes.{Bytes, all_pass}
-use Rattle.endian.proofs.Tests.{and_left, and_right, and_both}
 use Rattle.refusal.specs.Numbers.{slice_size, device_size, uuid_byte, metadata_size, reserved_size, area_entry}
 use Rattle.refusal.specs.Tests.{Test, ◌else_refuse◌, first, AllHold}
 use Rattle.refusal.proofs.Order.{first_all, first-after, first-zero, hold_before}
@@ -25,7 +25,7 @@ use Rattle.record.proofs.Right.{right_content}
 use Rattle.items.specs.Head.{head_of}
 use Rattle.items.specs.Items.{segments}
 use Rattle.discovery.specs.Discovery.{sized}
-use Rattle.format.specs.Format.{format_tests, format_number, formatted_copy, formatted}
+use Rattle.format.specs.Format.{format_tests, format_number, formatted}
 use Rattle.format.specs.Demand.{Formattable, Exactly, Asked, Content, Leaving}
 use Rattle.format.proofs.Checking.{format_ascending}
 
@@ -42,29 +42,25 @@ asking f b v p u t =
 
 asked : (f b : List ℕ) (v : Device) (p u : List ℕ) (t : Time) → AllHold (asking f b v p u t) → Asked f b v p u t
 asked f b v p u t a =
-    let s : sized f b ≡ true = and_left (sized f b) (eqb (length p) 32 && eqb (length u) 32) a.0 in
-    let w : eqb (length p) 32 && eqb (length u) 32 ≡ true = and_right (sized f b) (eqb (length p) 32 && eqb (length u) 32) a.0 in
+    let s : (eqb (length f) copy_bytes && eqb (length b) copy_bytes) && (eqb (length p) 32 && eqb (length u) 32) ≡ true = a.0 in
+    let x : all_pass is_hex p && all_pass is_hex u ≡ true = a.1.1.0 in
     record {
-      front = eqb-true (length f) copy_bytes (and_left (eqb (length f) copy_bytes) (eqb (length b) copy_bytes) s);
-      back = eqb-true (length b) copy_bytes (and_right (eqb (length f) copy_bytes) (eqb (length b) copy_bytes) s);
-      pool = eqb-true (length p) 32 (and_left (eqb (length p) 32) (eqb (length u) 32) w);
-      blockdev = eqb-true (length u) 32 (and_right (eqb (length p) 32) (eqb (length u) 32) w);
-      pool_hex = hex_bytes p (and_left (all_pass is_hex p) (all_pass is_hex u) a.1.1.0);
-      blockdev_hex = hex_bytes u (and_right (all_pass is_hex p) (all_pass is_hex u) a.1.1.0);
+      front = grind (arith, nat_tests);
+      back = grind (arith, nat_tests);
+      pool = grind (arith, nat_tests);
+      blockdev = grind (arith, nat_tests);
+      pool_hex = hex_bytes p (grind arith);
+      blockdev_hex = hex_bytes u (grind arith);
       device = (Layout.exactly v).0 (first_all (device_tests v) (a.1.0, (a.1.1.1.0, (a.1.1.1.1.0, tt))));
-      nanoseconds = leb-true t.nanoseconds 999999999 a.1.1.1.1.1.0;
+      nanoseconds = grind (arith, nat_tests, a.1.1.1.1.1.0);
     }
 
 asks : (f b : List ℕ) (v : Device) (p u : List ℕ) (t : Time) → Asked f b v p u t → AllHold (asking f b v p u t)
 asks f b v p u t h =
-    let s : sized f b ≡ true =
-    and_both (eqb (length f) copy_bytes) (eqb (length b) copy_bytes) (eq-eqb (length f) copy_bytes h.front) (eq-eqb (length b) copy_bytes h.back) in
-    let w : eqb (length p) 32 && eqb (length u) 32 ≡ true =
-    and_both (eqb (length p) 32) (eqb (length u) 32) (eq-eqb (length p) 32 h.pool) (eq-eqb (length u) 32 h.blockdev) in
-    let x : all_pass is_hex p && all_pass is_hex u ≡ true =
-    and_both (all_pass is_hex p) (all_pass is_hex u) (bytes_hex p h.pool_hex) (bytes_hex u h.blockdev_hex) in
-    let d : AllHold (device_tests v) = first-zero 0 (device_tests v) (lit< tt, (lit< tt, (lit< tt, tt))) ((Layout.exactly v).1 h.device) in
-    (and_both (sized f b) (eqb (length p) 32 && eqb (length u) 32) s w, (d.0, (x, (d.1.0, (d.1.1.0, (le-leb t.nanoseconds 999999999 h.nanoseconds, tt))))))
+    let d : AllHold (device_tests v) = first-zero 0 (device_tests v) (lit< tt, (lit< tt, (lit< tt, tt))) ((Layout.exactly v).1 h.device) in (
+      grind (arith, nat_tests, h.front, h.back, h.pool, h.blockdev),
+      (d.0, (grind (arith, bytes_hex p h.pool_hex, bytes_hex u h.blockdev_hex), (d.1.0, (d.1.1.0, (grind (arith, nat_tests, h.nanoseconds), tt))))),
+    )
 
 pub content : Content
 unfolding format_number
@@ -105,6 +101,6 @@ pub leaving : Leaving
 unfolding formatted
 leaving c f b v p u t r =
     record {
-      done = λ e. ap (λ (q : Bool). cond q (formatted_copy v p u t r) c) (eq-eqb (format_number f b v p u t r) 0 e);
-      refused = λ n. ap (λ (q : Bool). cond q (formatted_copy v p u t r) c) (ne_eqb (format_number f b v p u t r) 0 n);
+      done = λ e. rw e;
+      refused = λ n. rw (ne_eqb (format_number f b v p u t r) 0 n);
     }

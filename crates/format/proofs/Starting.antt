@@ -3,11 +3,12 @@ use Prim.Native.Nat.{ℕ, ◌^◌, ◌≤◌, ◌<◌}
 use mathlib.Core.Path.{◌≡◌, refl, sym, ap, ap₂, subst, ◌∙◌}
 use mathlib.Core.Bool.{true, ◌&&◌}
 use mathlib.Core.List.{List}
-use borrow.Author.Tests.{eq-eqb, le-leb}
+use native.Mathlib.Omega.{arith}
+use Rattle.std.proofs.lemmas.Bool.Decides.{nat_tests}
 use lib.Dec.{lit<}
 use lib.ListN.{length, replicate}
 use Rattle.endian.specs.Bytes.{all_pass, zeros}
-use Rattle.endian.proofs.Tests.{and_both, length-zeros}
+use Rattle.endian.proofs.Tests.{length-zeros}
 use Rattle.refusal.specs.Tests.{AllHold}
 use Rattle.refusal.proofs.Order.{first-zero, first_all}
 use Rattle.layout.specs.declared.Device.{Device}
@@ -19,8 +20,8 @@ use Rattle.block.specs.declared.Time.{Time}
 use Rattle.block.specs.Block.{is_hex}
 use Rattle.record.specs.Demand.{RightBytes}
 use Rattle.record.proofs.Right.{right_content}
-use Rattle.copy.specs.Copy.{is_copy, device_in}
-use Rattle.discovery.specs.Discovery.{sized, is_in_step, copy_on}
+use Rattle.copy.specs.Copy.{device_in}
+use Rattle.discovery.specs.Discovery.{is_in_step, copy_on}
 use Rattle.crash.specs.Crash.{Sectors, Sound, copy_from}
 use Rattle.stores.specs.States.{Presents, Ready}
 use Rattle.stores.proofs.Places.{sizes_allowed}
@@ -72,10 +73,9 @@ right-taken : (v : Device) (t : Time) (r : List ℕ) → AllHold (device_tests v
     → format_number (zeros copy_bytes) (zeros copy_bytes) v zero_uuid zero_uuid t r ≡ 0
 unfolding format_number
 right-taken v t r a vs ns right =
-    let n : is_copy (zeros copy_bytes) ≡ true = eq-eqb (length (zeros copy_bytes)) copy_bytes (length-zeros copy_bytes) in
     first_all (format_tests (zeros copy_bytes) (zeros copy_bytes) v zero_uuid zero_uuid t r) (
-      and_both (sized (zeros copy_bytes) (zeros copy_bytes)) true (and_both (is_copy (zeros copy_bytes)) (is_copy (zeros copy_bytes)) n n) refl,
-      (a.0, (uuid-hex, (a.1.0, (a.1.1.0, (le-leb t.nanoseconds most_nanoseconds ns, right_content v r vs right))))),
+      grind (arith, nat_tests, length-zeros copy_bytes),
+      (a.0, (uuid-hex, (a.1.0, (a.1.1.0, (grind (arith, nat_tests), right_content v r vs right))))),
     )
 
 pub possible : Possible

@@ -2,12 +2,12 @@
 use Prim.Native.Nat.{ℕ, zero, suc, ◌+◌, ◌-◌, ◌*◌, ◌≤◌, ◌<◌}
 use mathlib.Core.Path.{◌≡◌, refl, sym, ap, ap₂, subst, ◌∙◌}
 use mathlib.Core.Logic.{◌⊎◌, inl, inr, ◌↔◌}
-use mathlib.Core.Bool.{true, false, not, true≢false}
+use mathlib.Core.Bool.{true}
 use mathlib.Core.List.{List, ◌++◌}
-use native.Mathlib.Decide.{dec_le, ℕ_discrete}
+use native.Mathlib.Decide.{dec_le}
+use borrow.Author.Tests.{ne_eqb}
 use native.Mathlib.Omega.{arith}
-use borrow.Author.Tests.{eq-eqb, ne_eqb}
-use lib.Dec.{eqb}
+use Rattle.std.proofs.lemmas.Bool.Decides.{nat_tests}
 use lib.ListN.{length}
 use Rattle.endian.specs.Bytes.{zeros}
 use Rattle.endian.proofs.Parts.{length-window-fits}
@@ -26,12 +26,13 @@ use Rattle.discovery.specs.Discovery.{copy_on}
 use Rattle.crash.specs.Crash.{Sectors, Sound, Store, store_in, group_start, landed, Stored, Cut, all_landed, area_sectors, copy_from}
 use Rattle.crash.proofs.Copies.{limit_small, length-copy}
 use Rattle.crash.proofs.Landing.{landed_old, landed-new, landed-size}
-use Rattle.stores.specs.declared.Given.{Given}
+use Rattle.std.specs.Prelude.{Ok}
+use Rattle.refusal.specs.Refusals.{plain}
+use Rattle.refusal.proofs.Reasons.{err_other}
 use Rattle.stores.specs.Given.{lent_right}
 use Rattle.stores.specs.States.{Ready}
 use Rattle.stores.proofs.Choosing.{lent_right_lem}
 use Rattle.stores.proofs.Places.{Sizes, sizes_allowed, near, area_near, same_side}
-use Rattle.stores.proofs.Refusing.{either, at-refused}
 use Rattle.sectors.specs.Sectors.{copy_sectors, area_start, place_of, sector_at}
 use Rattle.sectors.specs.Apply.{offset_of}
 use Rattle.sectors.specs.Demand.{nth_sector}
@@ -40,11 +41,11 @@ use Rattle.sectors.proofs.Placed.{by_place, at_place, placed}
 use Rattle.sectors.proofs.Demand.{all_read, sizes}
 use Rattle.sectors.proofs.Applying.{place-offset}
 use Rattle.format.specs.Format.{formatted_copy, formatted}
-use Rattle.format.specs.Writing.{format_groups, store_count, areas_sectors, group_at, position_of, flush_after, sector_on, bytes_on, store_tests, store_answer, store_left}
+use Rattle.format.specs.Writing.{by_group, format_groups, store_count, areas_sectors, group_at, position_of, flush_after, sector_on, store_tests, store_answer, store_left}
 use Rattle.format.specs.Demand.{Writes, Storing, InCopy, Lands, Landing, CutLeaves, Cutting, Becoming, Refusing}
 use Rattle.format.proofs.Checking.{Taken, taken}
-use Rattle.format.proofs.Choosing.{both_copies, in_back_areas, in_back_header, in_front_areas, in_front_header, past-last, some_areas, no_flush, device-ascending, store-past, store_at}
-use Rattle.format.proofs.Numbering.{copy_parts, base, turned, turned_header, turned_areas, turned_below, number, number-below, by_store, number-position, sector_on_lem, bytes_on_lem, joined_at, all_stores, at-number, starting, groups_four, group_starts, starts_rise}
+use Rattle.format.proofs.Choosing.{both_copies, past_last, some_areas, no_flush, device-ascending, store_there, store_past}
+use Rattle.format.proofs.Numbering.{copy_parts, base, turned_header, turned_areas, turned_below, number, number-below, by_store, number-position, sector_on_lem, bytes_on_lem, joined_at, all_stores, at-number, starting, groups_four, group_starts, starts_rise}
 use Rattle.format.proofs.Demand.{length-formatted}
 use Rattle.format.proofs.Exactly.{leaving}
 use Rattle.format.proofs.Starting.{starting as start-from}
@@ -52,49 +53,31 @@ use Rattle.format.proofs.Starting.{starting as start-from}
 -- the groups of the stores, by number
 module _ (v : Device) (f b : List ℕ) where
   by_group_lem : (g i : ℕ) → g < 4 → starting v f b g ≤ i → i < starting v f b (suc g) → group_at i ≡ g
-  by_group_lem zero i h l m = sym (in_back_areas i 0 1 2 3 4 (omega arith))
-  by_group_lem (suc zero) i h l m = let c : copy_sectors ≡ areas_sectors + 8 = copy_parts in sym (in_back_header i 0 1 2 3 4 (omega arith) (omega arith))
-  by_group_lem (suc (suc zero)) i h l m = let c : copy_sectors ≡ areas_sectors + 8 = copy_parts in sym (in_front_areas i 0 1 2 3 4 (omega arith) (omega arith))
-  by_group_lem (suc (suc (suc zero))) i h l m =
-      let c : copy_sectors ≡ areas_sectors + 8 = copy_parts in
-      let s : store_count ≡ copy_sectors + copy_sectors = both_copies in
-      sym (in_front_header i 0 1 2 3 4 (omega arith) (omega arith))
-  by_group_lem (suc (suc (suc (suc g)))) i h l m = absurd (let o : ◌≡◌ {A = ℕ} 0 1 = omega arith in omega arith)
+  unfolding by_group areas_sectors store_count
+  by_group_lem zero i h l m = grind (arith, nat_tests, copy_parts)
+  by_group_lem (suc zero) i h l m = grind (arith, nat_tests, copy_parts)
+  by_group_lem (suc (suc zero)) i h l m = grind (arith, nat_tests, copy_parts)
+  by_group_lem (suc (suc (suc zero))) i h l m = grind (arith, nat_tests, copy_parts)
+  by_group_lem (suc (suc (suc (suc g)))) i h l m = absurd (omega arith)
 
   -- where a group ends the next one begins
   next_group : (g i : ℕ) → g < 4 → i ≡ starting v f b (suc g) → group_at i ≡ suc g
-  next_group zero i h e = by_group_lem 1 i (omega arith) (omega arith) (omega arith)
-  next_group (suc zero) i h e = let t : 0 < areas_sectors = some_areas in by_group_lem 2 i (omega arith) (omega arith) (omega arith)
-  next_group (suc (suc zero)) i h e = by_group_lem 3 i (omega arith) (omega arith) (omega arith)
-  next_group (suc (suc (suc zero))) i h e =
-      let c : copy_sectors ≡ areas_sectors + 8 = copy_parts in
-      let s : store_count ≡ copy_sectors + copy_sectors = both_copies in
-      sym (past-last i 0 1 2 3 4 (omega arith))
-  next_group (suc (suc (suc (suc g)))) i h e = absurd (let o : ◌≡◌ {A = ℕ} 0 1 = omega arith in omega arith)
+  unfolding by_group areas_sectors store_count
+  next_group zero i h e = grind (arith, nat_tests, copy_parts, some_areas)
+  next_group (suc zero) i h e = grind (arith, nat_tests, copy_parts, some_areas)
+  next_group (suc (suc zero)) i h e = grind (arith, nat_tests, copy_parts, some_areas)
+  next_group (suc (suc (suc zero))) i h e = grind (arith, nat_tests, copy_parts, some_areas)
+  next_group (suc (suc (suc (suc g)))) i h e = absurd (omega arith)
 
   grouped : (g i : ℕ) → g < 4 → group_start (format_groups v f b) g ≤ i → i < group_start (format_groups v f b) (suc g) → group_at i ≡ g
-  grouped g i h l m = by_group_lem g i h (subst (λ (n : ℕ). n ≤ i) (group_starts v f b g) l) (subst (λ (n : ℕ). i < n) (group_starts v f b (suc g)) m)
+  grouped g i h l m = by_group_lem g i h (omega (arith, group_starts v f b g)) (omega (arith, group_starts v f b (suc g)))
 
-  flush_in : (g i h : ℕ) → group_at i ≡ g → group_at (suc i) ≡ h → flush_after i ≡ not (eqb g h)
-  flush_in g i h p q = ap₂ (λ (y z : ℕ). not (eqb y z)) p q
-
-  -- a flush after the last store of a group
-  flush-last : (g i : ℕ) → g < 4 → group_at i ≡ g → suc i ≡ starting v f b (suc g) → flush_after i ≡ true
-  flush-last g i h p e = flush_in g i (suc g) p (next_group g (suc i) h e) ∙ ap not (ne_eqb g (suc g) (λ z. omega arith))
-
-  -- and after no other
-  flush_other : (g i : ℕ) → group_at i ≡ g → group_at (suc i) ≡ g → flush_after i ≡ false
-  flush_other g i p q = flush_in g i g p q ∙ ap not (eq-eqb g g refl)
-
+  -- a flush after the last store of a group, and after no other
   flushed : (g i : ℕ) → g < 4 → group_start (format_groups v f b) g ≤ i → i < group_start (format_groups v f b) (suc g)
       → (flush_after i ≡ true ↔ suc i ≡ group_start (format_groups v f b) (suc g))
   flushed g i h l m = (
-    λ t.
-        elim (ℕ_discrete (suc i) (group_start (format_groups v f b) (suc g))) [
-          | yes e ↦ e
-          | no e ↦ absurd (true≢false (sym t ∙ flush_other g i (grouped g i h l m) (grouped g (suc i) h (omega arith) (omega arith))))
-        ],
-    λ e. flush-last g i h (grouped g i h l m) (e ∙ group_starts v f b (suc g)),
+    λ t. grind (arith, nat_tests, grouped g i h l m, grouped g (suc i) h),
+    λ e. grind (arith, nat_tests, grouped g i h l m, next_group g (suc i) h, group_starts v f b (suc g)),
   )
 
 -- where sectors lie depends on no device's bytes: zeros will do
@@ -107,13 +90,12 @@ blank_sound = record { size = λ n. length-zeros 512 }
 -- every sector of both copies is one of the stores
 each_position : (p : ℕ) → p < store_count → (i : ℕ) × ((i < store_count) × (position_of i ≡ p))
 each_position p l =
-    let s : store_count ≡ copy_sectors + copy_sectors = both_copies in
     elim (dec_le copy_sectors p) [
       | no a ↦
           let k : p < copy_sectors = omega arith in
           (number Front p, (number-below Front p k, number-position Front p k ∙ omega arith))
       | yes a ↦
-          let k : p - copy_sectors < copy_sectors = omega arith in
+          let k : p - copy_sectors < copy_sectors = omega (arith, both_copies) in
           (number Back (p - copy_sectors), (number-below Back (p - copy_sectors) k, number-position Back (p - copy_sectors) k ∙ omega arith))
     ]
 
@@ -134,10 +116,7 @@ module _ (v : Device) (f b : List ℕ) (ok : first (device_tests v) ≡ 0) (nf :
   its_content w k l = ap (λ (s : Store). s.content) (at-number v f b w k l)
 
   full : (w : Side) (k : ℕ) → k < copy_sectors → length (nth_sector (copy_on w f b) k) ≡ 512
-  full w k l =
-      let n : length (copy_on w f b) ≡ copy_bytes = length-on w in
-      let c : copy_sectors * 512 ≡ copy_bytes = copy_bytes_lem in
-      length-window-fits (copy_on w f b) (512 * k) 512 (omega arith)
+  full w k l = length-window-fits (copy_on w f b) (512 * k) 512 (omega (arith, length-on w, copy_bytes_lem))
 
   on_device_lem : (w : Side) (k : ℕ) → k < copy_sectors → place_of w v k ≡ sector_at w v k
   on_device_lem w k l = at_place w v blank ok blank_sound k l
@@ -148,20 +127,18 @@ module _ (v : Device) (f b : List ℕ) (ok : first (device_tests v) ≡ 0) (nf :
   contents : (i : ℕ) → i < store_count → (st i).content ≡ nth_sector (f ++ b) (position_of i)
   contents =
       by_store (λ (i : ℕ). (st i).content ≡ nth_sector (f ++ b) (position_of i)) (λ w k l.
-      its_content w k l
-      ∙ (sym (joined_at f b w k l nf) ∙ ap (nth_sector (f ++ b)) (sym (number-position w k l))))
+      rw (number-position w k l, joined_at f b w k l nf) (its_content w k l))
 
   lent : (out : List ℕ) → length out ≡ 512 → lent_right f b out ≡ true
   lent out room = lent_right_lem f b out (sizes f b nf nb) room
 
   -- what a store answers and leaves
-  gives : (i : ℕ) (out : List ℕ) → i < store_count → length out ≡ 512 → (store_answer v f b i out ≡ Given.At (st i).sector) × (store_left v f b i out ≡ (st i).content)
+  gives : (i : ℕ) (out : List ℕ) → i < store_count → length out ≡ 512 → (store_answer v f b i out ≡ Ok (st i).sector) × (store_left v f b i out ≡ (st i).content)
   gives i out l room =
-      by_store (λ (i : ℕ). i < store_count → (store_answer v f b i out ≡ Given.At (st i).sector) × (store_left v f b i out ≡ (st i).content)) (λ w k m q.
-      let a : (Given.At (sector_on v (position_of (number w k))) ≡ store_answer v f b (number w k) out) × (bytes_on f b (position_of (number w k)) ≡ store_left v f b (number w k) out) =
-      store_at v f b (number w k) out (lent out room) 0 (sym ok) refl q in (
-        sym a.0 ∙ (ap (λ (p : ℕ). Given.At (sector_on v p)) (number-position w k m) ∙ ap Given.At (sector_on_lem v w k m ∙ sym (its_sector w k m ∙ on_device_lem w k m))),
-        sym a.1 ∙ (ap (bytes_on f b) (number-position w k m) ∙ (bytes_on_lem f b w k m ∙ sym (its_content w k m))),
+      by_store (λ (i : ℕ). i < store_count → (store_answer v f b i out ≡ Ok (st i).sector) × (store_left v f b i out ≡ (st i).content)) (λ w k m q.
+      let z : first (store_tests v f b (number w k) out) ≡ 0 = store_there v f b (number w k) out (lent out room) ok q in (
+        rw (z, number-position w k m, sector_on_lem v w k m, its_sector w k m, on_device_lem w k m),
+        rw (z, number-position w k m, bytes_on_lem f b w k m, its_content w k m),
       )) i l l
 
   writes : Writes v f b
@@ -174,12 +151,12 @@ module _ (v : Device) (f b : List ℕ) (ok : first (device_tests v) ≡ 0) (nf :
         store = gives;
         position = contents;
         each = each_position;
-        no_group = λ i l. sym (past-last i 0 1 2 3 4 l);
-        no_flush = λ i l. sym (no_flush i l);
-        no_position = λ i l. sym (past-last i _ _ _ _ store_count l);
+        no_group = λ i l. past_last i 0 1 2 3 4 l;
+        no_flush = no_flush;
+        no_position = λ i l. past_last i _ _ _ _ store_count l;
         no_store = λ i out l room.
-            let a : (Given.Refused 23 ≡ store_answer v f b i out) × (out ≡ store_left v f b i out) = store-past v f b i out (lent out room) 0 (sym ok) refl l in
-            (sym a.0, sym a.1);
+            let z : first (store_tests v f b i out) ≡ 23 = store_past v f b i out (lent out room) ok l in
+            (rw z, rw z);
       }
 
   -- allowed numbers
@@ -188,14 +165,11 @@ module _ (v : Device) (f b : List ℕ) (ok : first (device_tests v) ≡ 0) (nf :
 
   -- a side's sectors are near it
   near_place : (w : Side) (k : ℕ) → k < copy_sectors → near w v (place_of w v k)
-  near_place w = by_place w v (λ (k n : ℕ). near w v n) (header w) (λ x j l. let m : area_sectors ≤ 1020 = limit_small in area_near v allowed w x j (omega arith))
+  near_place w = by_place w v (λ (k n : ℕ). near w v n) (header w) (λ x j l. area_near v allowed w x j (omega (arith, limit_small)))
     where
-      each : (w : Side) (k : ℕ) → k < area_start A → area_start A ≡ 8 → near w v (header_sector w v + k)
-      each Front k l e = omega arith
-      each Back k l e = omega arith
-
       header : (w : Side) (k : ℕ) → k < area_start A → near w v (header_sector w v + k)
-      header w k l = each w k l header_sectors_lem
+      header Front k l = omega (arith, header_sectors_lem)
+      header Back k l = omega (arith, header_sectors_lem)
 
   -- a sector of a copy is stored to by one store alone
   alone : (w : Side) (k : ℕ) → k < copy_sectors → (i : ℕ) → i < store_count → place_of w v k ≡ (st i).sector → i ≡ number w k
@@ -254,11 +228,7 @@ module _ (v : Device) (f b : List ℕ) (ok : first (device_tests v) ≡ 0) (nf :
   -- a cut in group g
   module _ (g : ℕ) (d e : Sectors) (four : g < 4) (h : Sound d) (cut : Cut st (starting v f b g) (starting v f b (suc g)) d e) where
     ends : starting v f b (suc g) ≤ store_count
-    ends =
-        let c : copy_sectors ≡ areas_sectors + 8 = copy_parts in
-        let s : store_count ≡ copy_sectors + copy_sectors = both_copies in
-        let m : starting v f b (suc g) ≤ starting v f b 4 = starts_rise v f b (suc g) 4 (omega arith) in
-        omega arith
+    ends = omega (arith, copy_parts, both_copies, starts_rise v f b (suc g) 4 (omega arith))
 
     -- a sector that the running group does not store to, and that is the same before and after it
     settled : (n : ℕ) (c : List ℕ) → landed st (starting v f b g) d n ≡ c → landed st (starting v f b (suc g)) d n ≡ c
@@ -277,12 +247,9 @@ module _ (v : Device) (f b : List ℕ) (ok : first (device_tests v) ≡ 0) (nf :
         let a : starting v f b (suc g) ≤ store_count = ends in
         let r : starting v f b g ≤ starting v f b (suc g) = starts_rise v f b g (suc g) (omega arith) in
         settled (place_of w v k) (d (place_of w v k))
-        (landed_old st d (starting v f b g) (place_of w v k) (λ i y z. let q : i ≡ number w k = alone w k l i (omega arith) z in omega arith))
-        (landed_old st d (starting v f b (suc g)) (place_of w v k) (λ i y z. let q : i ≡ number w k = alone w k l i (omega arith) z in omega arith))
-        (λ s.
-        let y : s.0 < starting v f b (suc g) = s.2 in
-        let q : s.0 ≡ number w k = alone w k l s.0 (omega arith) (sym s.3) in
-        omega arith)
+        (landed_old st d (starting v f b g) (place_of w v k) (λ i y z. omega (arith, alone w k l i (omega arith) z)))
+        (landed_old st d (starting v f b (suc g)) (place_of w v k) (λ i y z. omega (arith, alone w k l i (omega arith) z)))
+        (λ s. omega (arith, alone w k l s.0 (omega (arith, s.2)) (sym s.3), s.2))
 
     -- one whose store belongs to an earlier group is as stored
     done : (w : Side) (k : ℕ) → k < copy_sectors → number w k < starting v f b g → e (place_of w v k) ≡ nth_sector (copy_on w f b) k
@@ -293,11 +260,7 @@ module _ (v : Device) (f b : List ℕ) (ok : first (device_tests v) ≡ 0) (nf :
         (landed-new st d (starting v f b g) (number w k) (place_of w v k) m (sym (its_sector w k l)) (λ i y z. alone w k l i (omega arith) z) ∙ its_content w k l)
         (landed-new st d (starting v f b (suc g)) (number w k) (place_of w v k) (omega arith) (sym (its_sector w k l)) (λ i y z. alone w k l i (omega arith) z)
         ∙ its_content w k l)
-        (λ s.
-        let x : starting v f b g ≤ s.0 = s.1 in
-        let y : s.0 < starting v f b (suc g) = s.2 in
-        let q : s.0 ≡ number w k = alone w k l s.0 (omega arith) (sym s.3) in
-        omega arith)
+        (λ s. omega (arith, alone w k l s.0 (omega (arith, s.2)) (sym s.3), s.1))
 
     -- the same of the copies
     is-kept : (w : Side) (k : ℕ) → k < copy_sectors → starting v f b (suc g) ≤ number w k → nth_sector (copy_from w v e) k ≡ nth_sector (copy_from w v d) k
@@ -320,31 +283,18 @@ module _ (v : Device) (f b : List ℕ) (ok : first (device_tests v) ≡ 0) (nf :
         → ((k : ℕ) → k < 8 → nth_sector (copy_from w v e) k ≡ nth_sector (copy_from w v d) k)
         ⊎ ((k : ℕ) → 8 ≤ k → k < copy_sectors → nth_sector (copy_from w v e) k ≡ nth_sector (copy_on w f b) k)
     areas-before w n m q =
-        let c : copy_sectors ≡ areas_sectors + 8 = copy_parts in
-        let a : area_start A ≡ 8 = header_sectors_lem in
         elim (dec_le (suc g) n) [
-          | yes y ↦
-              let r : starting v f b (suc g) ≤ starting v f b n = starts_rise v f b (suc g) n y in
-              inl (λ k l.
-              let t : turned k ≡ areas_sectors + k = turned_header k (omega arith) in
-              is-kept w k (omega arith) (omega arith))
+          | yes y ↦ inl (λ k l. is-kept w k (omega (arith, copy_parts)) (omega (arith, turned_header k (omega (arith, header_sectors_lem)), starts_rise v f b (suc g) n y)))
           | no y ↦
-              let r : starting v f b n ≤ starting v f b g = starts_rise v f b n g (omega arith) in
-              inr (λ k l p.
-              let t : turned k ≡ k - area_start A = turned_areas k (omega arith) in
-              is-done w k p (omega arith))
+              inr (λ k l p. is-done w k p (omega (arith, copy_parts, header_sectors_lem, turned_areas k (omega (arith, header_sectors_lem)), starts_rise v f b n g (omega arith))))
         ]
 
     back-before : (copy_from Front v e ≡ copy_from Front v d) ⊎ (copy_from Back v e ≡ b)
     back-before =
-        let c : copy_sectors ≡ areas_sectors + 8 = copy_parts in
         elim (dec_le (suc g) 2) [
           | yes y ↦
-              let r : starting v f b (suc g) ≤ starting v f b 2 = starts_rise v f b (suc g) 2 y in
-              inl (by-sectors Front (copy_from Front v d) (length-copy Front v d h) (λ k l. is-kept Front k l (omega arith)))
-          | no y ↦
-              let r : starting v f b 2 ≤ starting v f b g = starts_rise v f b 2 g (omega arith) in
-              inr (by-sectors Back b nb (λ k l. let t : turned k < copy_sectors = turned_below k l in is-done Back k l (omega arith)))
+              inl (by-sectors Front (copy_from Front v d) (length-copy Front v d h) (λ k l. is-kept Front k l (omega (arith, copy_parts, starts_rise v f b (suc g) 2 y))))
+          | no y ↦ inr (by-sectors Back b nb (λ k l. is-done Back k l (omega (arith, copy_parts, turned_below k l, starts_rise v f b 2 g (omega arith)))))
         ]
 
     cut-leaves : CutLeaves v f b d e
@@ -353,7 +303,7 @@ module _ (v : Device) (f b : List ℕ) (ok : first (device_tests v) ≡ 0) (nf :
         first_of : (s : Side)
             → ((k : ℕ) → k < 8 → nth_sector (copy_from s v e) k ≡ nth_sector (copy_from s v d) k)
             ⊎ ((k : ℕ) → 8 ≤ k → k < copy_sectors → nth_sector (copy_from s v e) k ≡ nth_sector (copy_on s f b) k)
-        first_of Front = areas-before Front 3 (omega arith) (let c : copy_sectors ≡ areas_sectors + 8 = copy_parts in omega arith)
+        first_of Front = areas-before Front 3 (omega arith) (omega (arith, copy_parts))
         first_of Back = areas-before Back 1 (omega arith) (omega arith)
 
   lands : Lands v f b
@@ -402,6 +352,5 @@ becoming f b v p u t r ts vs e d h =
     (subst (λ (z : List ℕ). Ready v (all_landed (format_groups v c z) d) t r) (sym ((leaving b f b v p u t r).done e)) q)
 
 pub refusing : Refusing
-refusing v f b i out n =
-    either (eqb (first (store_tests v f b i out)) 0) (Given.At (sector_on v (position_of i))) (Given.Refused (first (store_tests v f b i out)))
-    (bytes_on f b (position_of i)) out out n (λ e. absurd (at-refused (sector_on v (position_of i)) n e)) (λ e. refl)
+refusing v f b i out e h =
+    rw (ne_eqb (first (store_tests v f b i out)) 0 (err_other (first (store_tests v f b i out)) (plain (first (store_tests v f b i out))) (sector_on v (position_of i)) e h))

@@ -1,8 +1,8 @@
 -- What holds of formatted copies, and of the stores that write two copies. `proofs/Exactly.antt` proves `Exactly`, `Content` and `Leaving`,
 -- `proofs/Demand.antt` `Lowest`, `Naming`, `Formatting` and `Zero`, `proofs/Starting.antt` `Placing`, `Starting` and `Possible`, `proofs/Writing.antt` the rest.
-use Rattle.std.specs.Prelude.{ℕ, suc, ◌+◌, ◌^◌, ◌≤◌, ◌<◌, ◌≡◌, ◌⊎◌, ◌↔◌, true, false, List, ◌++◌, length, get_or}
+use Rattle.std.specs.Prelude.{ℕ, suc, ◌+◌, ◌^◌, ◌≤◌, ◌<◌, ◌≡◌, ◌⊎◌, ◌↔◌, true, false, List, ◌++◌, length, get_or, Ok, Err}
 use Rattle.endian.specs.Bytes.{Bytes}
-use Rattle.refusal.specs.Numbers.{no_such_store}
+use Rattle.refusal.specs.declared.Reason.{Reason}
 use Rattle.refusal.specs.Tests.{first, Fails}
 use Rattle.layout.specs.declared.Device.{Device}
 use Rattle.layout.specs.declared.Side.{Side}
@@ -13,7 +13,6 @@ use Rattle.layout.specs.Limits.{device_tests, most_nanoseconds, sector_bytes, he
 use Rattle.layout.specs.Places.{header_sector, area_sector, reserved_sector, area_offset, copy_bytes}
 use Rattle.layout.specs.Demand.{Allowed}
 use Rattle.block.specs.declared.Time.{Time}
-use Rattle.block.specs.declared.Verdict.TheVariants as Verdict
 use Rattle.block.specs.Accepted.{HexBytes}
 use Rattle.items.specs.Items.{segments}
 use Rattle.record.specs.Accept.{content_tests, named}
@@ -22,7 +21,6 @@ use Rattle.record.specs.Demand.{RightBytes}
 use Rattle.copy.specs.Copy.{reading_in, device_in}
 use Rattle.discovery.specs.Discovery.{copy_on}
 use Rattle.crash.specs.Crash.{Sectors, Sound, Store, stores, store_in, group_start, landed, all_landed, CutIn, area_sectors, copy_from}
-use Rattle.stores.specs.declared.Given.TheVariants as Given
 use Rattle.stores.specs.States.{Gives, InStepOn, Ready}
 use Rattle.sectors.specs.Sectors.{copy_sectors}
 use Rattle.sectors.specs.Demand.{nth_sector}
@@ -88,7 +86,7 @@ Formatting =
     → Gives (formatted_copy v p u t r) (formatted_copy v p u t r) t r
     × (InStepOn (formatted_copy v p u t r) (formatted_copy v p u t r) t r
     × ((device_in (formatted_copy v p u t r) ≡ v)
-    × (reading_in (formatted_copy v p u t r) ≡ record { verdict = Verdict.Accepted (first_fields v t r); pool = p; blockdev = u })))
+    × (reading_in (formatted_copy v p u t r) ≡ Ok (record { fields = first_fields v t r; pool = p; blockdev = u }))))
 
 -- Everything not named is zero: each byte outside the signature block and outside the record.
 abbrev pub Zero : Type 0
@@ -126,14 +124,14 @@ pub record Writes (v : Device) (f b : List ℕ) : Type 0 where
   pub flushed : (g i : ℕ) → g < 4 → group_start (format_groups v f b) g ≤ i → i < group_start (format_groups v f b) (suc g)
       → (flush_after i ≡ true ↔ suc i ≡ group_start (format_groups v f b) (suc g))
   pub store : (i : ℕ) (out : List ℕ) → i < store_count → length out ≡ sector_bytes
-      → (store_answer v f b i out ≡ Given.At (store_in (format_groups v f b) i).sector) × (store_left v f b i out ≡ (store_in (format_groups v f b) i).content)
+      → (store_answer v f b i out ≡ Ok (store_in (format_groups v f b) i).sector) × (store_left v f b i out ≡ (store_in (format_groups v f b) i).content)
   pub position : (i : ℕ) → i < store_count → (store_in (format_groups v f b) i).content ≡ nth_sector (f ++ b) (position_of i)
   pub each : (p : ℕ) → p < store_count → (i : ℕ) × ((i < store_count) × (position_of i ≡ p))
   pub no_group : (i : ℕ) → store_count ≤ i → group_at i ≡ 4
   pub no_flush : (i : ℕ) → store_count ≤ i → flush_after i ≡ false
   pub no_position : (i : ℕ) → store_count ≤ i → position_of i ≡ store_count
   pub no_store : (i : ℕ) (out : List ℕ) → store_count ≤ i → length out ≡ sector_bytes
-      → (store_answer v f b i out ≡ Given.Refused no_such_store) × (store_left v f b i out ≡ out)
+      → (store_answer v f b i out ≡ Err Reason.NoStore) × (store_left v f b i out ≡ out)
 
 -- On allowed device numbers that holds of any two slices of a copy's size.
 abbrev pub Storing : Type 0
@@ -180,4 +178,4 @@ Becoming =
 
 -- A refused store changes no lent byte.
 abbrev pub Refusing : Type 0
-Refusing = (v : Device) (f b : List ℕ) (i : ℕ) (out : List ℕ) (n : ℕ) → store_answer v f b i out ≡ Given.Refused n → store_left v f b i out ≡ out
+Refusing = (v : Device) (f b : List ℕ) (i : ℕ) (out : List ℕ) (e : Reason) → store_answer v f b i out ≡ Err e → store_left v f b i out ≡ out

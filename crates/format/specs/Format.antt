@@ -1,5 +1,5 @@
 -- Formatting: its refusals and what it leaves. docs/FORMAT.md, 'Formatting'.
-use Rattle.std.specs.Prelude.{ℕ, cond, ◌&&◌, List, ◌∷◌, eqb, length}
+use Rattle.std.specs.Prelude.{ℕ, cond, ◌&&◌, List, ◌∷◌, eqb, length, Some, None}
 use Rattle.endian.specs.Bytes.{splice, all_pass, zeros}
 use Rattle.refusal.specs.Numbers.{slice_size, device_size, uuid_byte, metadata_size, reserved_size, area_entry}
 use Rattle.refusal.specs.Tests.{Test, ◌else_refuse◌, first}
@@ -8,7 +8,6 @@ use Rattle.layout.specs.declared.Area.TheVariants.{A}
 use Rattle.layout.specs.Limits.{size_allowed, metadata_allowed, reserved_allowed, nanoseconds_allowed, block_offset}
 use Rattle.layout.specs.Places.{copy_bytes}
 use Rattle.block.specs.declared.Time.{Time}
-use Rattle.block.specs.declared.Entry.TheVariants.{Unused, Used}
 use Rattle.block.specs.declared.BlockFields.{BlockFields}
 use Rattle.block.specs.Block.{is_hex}
 use Rattle.block.specs.Writing.{block_of}
@@ -37,7 +36,7 @@ format_number f b v p u t r = first (format_tests f b v p u t r)
 
 -- the block's numbers: area a is used, area b is not
 abbrev pub first_fields : Device → Time → List ℕ → BlockFields
-first_fields v t r = record { device = v; a = Used (holding_for t r); b = Unused }
+first_fields v t r = record { device = v; a = Some (holding_for t r); b = None }
 
 -- the copy that formatting leaves, front and back the same: zeros, the signature block in sector 1, the record in area a
 unfoldable pub formatted_copy : Device → List ℕ → List ℕ → Time → List ℕ → List ℕ

@@ -1,8 +1,10 @@
 -- Writing two formatted copies to a device: every sector of both, in an order in which no signature block is stored before the areas that it
 -- names. docs/FORMAT.md, 'Formatting'.
-use Rattle.std.specs.Prelude.{ℕ, suc, ◌+◌, ◌-◌, ◌*◌, Bool, cond, not, List, [], ◌∷◌, ◌++◌, ltb, eqb}
+use Rattle.std.specs.Prelude.{ℕ, suc, ◌+◌, ◌-◌, ◌*◌, Bool, cond, not, List, [], ◌∷◌, ◌++◌, ltb, eqb, Result}
 use Rattle.endian.specs.Bytes.{window}
+use Rattle.refusal.specs.declared.Reason.{Reason}
 use Rattle.refusal.specs.Numbers.{slice_size, no_such_store}
+use Rattle.refusal.specs.Reasons.{answer}
 use Rattle.refusal.specs.Tests.{Test, ◌else_refuse◌, first}
 use Rattle.layout.specs.declared.Device.{Device}
 use Rattle.layout.specs.declared.Side.{Side}
@@ -11,7 +13,6 @@ use Rattle.layout.specs.declared.Area.TheVariants.{A, B}
 use Rattle.layout.specs.Limits.{device_tests, sector_bytes, header_sectors}
 use Rattle.layout.specs.Places.{header_sector, area_sector, area_offset}
 use Rattle.crash.specs.Crash.{Store, Groups, stores_from, area_sectors}
-use Rattle.stores.specs.declared.Given.{Given}
 use Rattle.stores.specs.Given.{lent_right}
 use Rattle.sectors.specs.Sectors.{copy_sectors, area_start, sector_at}
 use Rattle.sectors.specs.Demand.{nth_sector}
@@ -72,9 +73,8 @@ abbrev pub store_tests : Device → List ℕ → List ℕ → ℕ → List ℕ �
 store_tests v f b i out = (lent_right f b out else_refuse slice_size) ∷ (device_tests v ++ ((ltb i store_count else_refuse no_such_store) ∷ []))
 
 -- what `store` answers and leaves
-abbrev pub store_answer : Device → List ℕ → List ℕ → ℕ → List ℕ → Given
-store_answer v f b i out =
-    cond (eqb (first (store_tests v f b i out)) 0) (Given.At (sector_on v (position_of i))) (Given.Refused (first (store_tests v f b i out)))
+abbrev pub store_answer : Device → List ℕ → List ℕ → ℕ → List ℕ → Result ℕ Reason
+store_answer v f b i out = answer (first (store_tests v f b i out)) (sector_on v (position_of i))
 
 abbrev pub store_left : Device → List ℕ → List ℕ → ℕ → List ℕ → List ℕ
 store_left v f b i out = cond (eqb (first (store_tests v f b i out)) 0) (bytes_on f b (position_of i)) out

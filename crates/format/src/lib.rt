@@ -1,24 +1,23 @@
 // Formatting: both copies of a device's metadata filled anew, with a first record in area a; and the stores that write both
 // to a device. The copies are lent as discovery takes them.
-#![tactic(auto)]
+#![tactic(auto, unfolding(refusal::specs::Refusals::plain_but, refusal::specs::Tests::first, layout::specs::Limits::length_allowed, layout::specs::Limits::record_limit, layout::specs::Places::area_offset, layout::specs::Places::copy_bytes, record::specs::Accept::named, sectors::specs::Sectors::area_start, sectors::specs::Sectors::copy_sectors, crate::specs::Format::format_number, crate::specs::Writing::areas_sectors, crate::specs::Writing::by_group, crate::specs::Writing::store_count))]
 
-ghost use Rattle.std.specs.Prelude.{◌≡◌, true, ◌<◌, length};
-ghost use Rattle.endian.specs.Bytes.{splice};
-ghost use Rattle.refusal.specs.Tests.{first};
-ghost use Rattle.layout.specs.Limits.{length_allowed};
+ghost use Rattle.std.specs.Prelude.{◌≡◌, true, ◌<◌, length, Some, None};
+ghost use Rattle.layout.specs.Limits.{length_allowed, sector_bytes};
 ghost use Rattle.layout.specs.Places.{copy_bytes};
-ghost use Rattle.record.specs.Accept.{named};
-ghost use Rattle.stores.specs.declared.Given.TheVariants.{At};
+ghost use Rattle.record.specs.Accept.{answered};
+ghost use Rattle.discovery.specs.Discovery.{sized};
 ghost use Rattle.sectors.specs.Sectors.{copy_sectors, sector_at};
 ghost use Rattle.sectors.specs.Demand.{nth_sector};
-ghost use Rattle.format.specs.Format.{value_tests, format_number, first_fields, formatted};
+ghost use Rattle.format.specs.Format.{format_number, first_fields, formatted};
 ghost use Rattle.format.specs.Filling.{filled};
-ghost use Rattle.format.specs.Writing.{store_count, position_of, group_at, flush_after, store_answer, store_left};
+ghost use Rattle.format.specs.declared.Part.TheVariants as Part;
+ghost use Rattle.format.specs.Writing.{by_group, store_count, position_of, group_at, flush_after, sector_on, bytes_on, store_answer, store_left};
 
-use block::{BlockFields, Entry, Holding, Time};
+use block::{BlockFields, Holding, Time};
+use discovery::Copies;
 use layout::{Area, Device, Side};
-use refusal::Refusal;
-use stores::Given;
+use refusal::Reason;
 
 // The sectors of a copy, of its header and of its two areas.
 const SECTORS: u64 = (layout::COPY_BYTES / layout::SECTOR_BYTES) as u64;
@@ -32,41 +31,39 @@ const FRONT_HEADER: u64 = SECTORS + AREAS;
 
 const STORES: u64 = 2 * SECTORS;
 
-// The tests after the sizes: device numbers, UUIDs, time and record.
-fn check_values(d: Device, pool: &[u8], blockdev: &[u8], t: Time, r: &[u8]) -> Refusal
-    ensures { result ≡ named (first (value_tests d pool.now blockdev.now t r.now)) r.now }
+// Why formatting two copies is refused: 1, 4, 6 to 9, 15 or 17 to 19, the lowest that applies, 19 with the two segments that clash.
+fn check(
+    c: Copies<'_>,
+    d: Device,
+    pool: &[u8],
+    blockdev: &[u8],
+    t: Time,
+    r: &[u8],
+) -> Result<(), Reason>
+    ensures { result ≡ answered (format_number c.entry.front.now c.entry.back.now d pool.now blockdev.now t r.now) r.now tt }
 {
+    let sized = c.sized() & ((pool.len() == 32) & (blockdev.len() == 32));
+    if !sized {
+        return Err(Reason::SliceSize);
+    }
     if !layout::size_allowed(d.sectors) {
-        return refusal::plain(refusal::DEVICE_SIZE);
+        return Err(Reason::DeviceSize);
     }
     let hex = block::all_hex(pool) & block::all_hex(blockdev);
     if !hex {
-        return refusal::plain(refusal::UUID_BYTE);
+        return Err(Reason::UuidByte);
     }
     if !layout::metadata_allowed(d.metadata) {
-        return refusal::plain(refusal::METADATA_SIZE);
+        return Err(Reason::MetadataSize);
     }
     if !layout::reserved_allowed(d.reserved) {
-        return refusal::plain(refusal::RESERVED_SIZE);
+        return Err(Reason::ReservedSize);
     }
     let within = t.nanoseconds <= layout::MOST_NANOSECONDS;
     if !within {
-        return refusal::plain(refusal::AREA_ENTRY);
+        return Err(Reason::AreaEntry);
     }
     record::check_content(d, r)
-}
-
-// The refusal of formatting two copies: 1, 4, 6 to 9, 15 or 17 to 19, the lowest that applies, 19 with the two segments that clash;
-// number 0 where it is not refused.
-fn check(f: &[u8], b: &[u8], d: Device, pool: &[u8], blockdev: &[u8], t: Time, r: &[u8]) -> Refusal
-    ensures { result ≡ named (format_number f.now b.now d pool.now blockdev.now t r.now) r.now }
-{
-    let n = layout::copy_bytes();
-    let sized = ((f.len() == n) & (b.len() == n)) & ((pool.len() == 32) & (blockdev.len() == 32));
-    if !sized {
-        return refusal::plain(refusal::SLICE_SIZE);
-    }
-    check_values(d, pool, blockdev, t, r)
 }
 
 // The block's numbers: area a holds the record, area b is unused.
@@ -82,28 +79,29 @@ fn first_fields(d: Device, t: Time, r: &[u8]) -> BlockFields
     };
     BlockFields {
         device: d,
-        a: Entry::Used(h),
-        b: Entry::Unused,
+        a: Some(h),
+        b: None,
     }
 }
 
-// Fills one copy: zeros, the block into sector 1, the record into area a.
+// Fills one copy: zeros, the block into sector 1, the record into area a. What would refuse either was tested before.
 fn fill(c: &mut [u8], pool: &[u8], blockdev: &[u8], x: BlockFields, r: &[u8])
     requires { length c.old ≡ copy_bytes }
     ensures { c.new ≡ filled pool.now blockdev.now x r.now }
 {
     endian::clear(c);
-    block::write(
+    let _ = block::write(
         &mut c[layout::BLOCK_OFFSET..layout::BLOCK_END],
         pool,
         blockdev,
         x,
     );
-    stores::lay(c, Area::A, r);
+    let _ = stores::lay(c, Area::A, r);
 }
 
-// Formats the two copies of a device with these numbers and UUIDs, with a record and its time, and answers number 0; or changes
-// nothing and answers its refusal.
+// Formats the two copies of a device with these numbers and UUIDs, with a record and its time; or changes nothing and answers why not. Both are
+// lent to be changed, which `Copies` are not.
+#[tactic(auto, unfolding(crate::specs::Format::formatted))]
 pub fn format_copies(
     f: &mut [u8],
     b: &mut [u8],
@@ -112,19 +110,17 @@ pub fn format_copies(
     blockdev: &[u8],
     t: Time,
     r: &[u8],
-) -> Refusal
-    ensures value { result ≡ named (format_number f.old b.old d pool.now blockdev.now t r.now) r.now }
+) -> Result<(), Reason>
+    ensures value { result ≡ answered (format_number f.old b.old d pool.now blockdev.now t r.now) r.now tt }
     ensures f_after { f.new ≡ formatted f.old f.old b.old d pool.now blockdev.now t r.now }
     ensures b_after { b.new ≡ formatted b.old f.old b.old d pool.now blockdev.now t r.now }
 {
-    let n = check(f, b, d, pool, blockdev, t, r);
-    if n.number != 0 {
-        return n;
-    }
+    let c = Copies { front: f, back: b };
+    check(c, d, pool, blockdev, t, r)?;
     let x = first_fields(d, t, r);
     fill(f, pool, blockdev, x, r);
     fill(b, pool, blockdev, x, r);
-    refusal::plain(refusal::NONE)
+    Ok(())
 }
 
 // How many stores write both copies: every sector of each.
@@ -134,92 +130,114 @@ pub fn count() -> u64
     STORES
 }
 
+// The parts of both copies in the order in which they are stored, with a flush after each.
+#[derive(Clone, Copy)]
+enum Part {
+    BackAreas,
+    BackHeader,
+    FrontAreas,
+    FrontHeader,
+}
+
+// The part that store i writes; none past the last store.
+fn part_of(i: u64) -> Option<Part>
+    ensures { result ≡ by_group i (Some Part.BackAreas) (Some Part.BackHeader) (Some Part.FrontAreas) (Some Part.FrontHeader) None }
+{
+    if i < AREAS {
+        return Some(Part::BackAreas);
+    }
+    if i < SECTORS {
+        return Some(Part::BackHeader);
+    }
+    if i < FRONT_HEADER {
+        return Some(Part::FrontAreas);
+    }
+    if i < STORES {
+        return Some(Part::FrontHeader);
+    }
+    None
+}
+
 // Which sector of both copies store i is, the front copy's sectors counted first, then the back's: the back's areas are stored first, then its
 // header, then the front's areas and its header. As many as there are past the last store.
 pub fn position(i: u64) -> usize
     ensures { result ≡ position_of i }
 {
-    if i < AREAS {
-        return (SECTORS + HEADER + i) as usize;
-    }
-    if i < SECTORS {
-        return (SECTORS + (i - AREAS)) as usize;
-    }
-    if i < FRONT_HEADER {
-        return (HEADER + (i - SECTORS)) as usize;
-    }
-    if i < STORES {
-        return (i - FRONT_HEADER) as usize;
-    }
-    STORES as usize
+    let p = match part_of(i) {
+        Some(Part::BackAreas) => SECTORS + HEADER + i,
+        Some(Part::BackHeader) => SECTORS + (i - AREAS),
+        Some(Part::FrontAreas) => HEADER + (i - SECTORS),
+        Some(Part::FrontHeader) => i - FRONT_HEADER,
+        None => STORES,
+    };
+    p as usize
 }
 
 // The group of store i: 0 the back's areas, 1 the back's header, 2 the front's areas, 3 the front's header; 4 past the last store. A
-// flush belongs after the last store of each group.
+// flush belongs after the last store of each group. By number: C and `Demand.Writes` count the groups so.
 pub fn group(i: u64) -> u8
     ensures { result ≡ group_at i }
 {
-    if i < AREAS {
-        return 0;
+    match part_of(i) {
+        Some(Part::BackAreas) => 0,
+        Some(Part::BackHeader) => 1,
+        Some(Part::FrontAreas) => 2,
+        Some(Part::FrontHeader) => 3,
+        None => 4,
     }
-    if i < SECTORS {
-        return 1;
-    }
-    if i < FRONT_HEADER {
-        return 2;
-    }
-    if i < STORES {
-        return 3;
-    }
-    4
 }
 
 // Whether a flush belongs after store i: it is the last of its group. Not past the last store.
 pub fn flush(i: u64) -> bool
     ensures { result ≡ flush_after i }
 {
-    if STORES <= i {
-        return false;
-    }
-    group(i) != group(i + 1)
+    i < STORES && group(i) != group(i + 1)
 }
 
-// Sector k of a side's copy into out, as much of it as there is room for; the sector of the device that it goes to.
-fn put_sector(side: Side, d: Device, c: &[u8], k: usize, out: &mut [u8]) -> Given
-    requires { k < copy_sectors }
-    ensures value { result ≡ At (sector_at side d k) }
-    ensures out_after { out.new ≡ splice out.old 0 (nth_sector c.now k) }
+// Sector k of a side's copy into out; the sector of the device that it goes to.
+#[tactic(auto, unfolding(endian::specs::Bytes::window, layout::specs::Limits::record_limit, layout::specs::Places::copy_bytes, sectors::specs::Sectors::copy_sectors))]
+fn put_sector(side: Side, d: Device, c: &[u8], k: usize, out: &mut [u8]) -> u64
+    requires c_size { length c.now ≡ copy_bytes }
+    requires k_bound { k < copy_sectors }
+    requires out_size { length out.old ≡ sector_bytes }
+    ensures value { result ≡ sector_at side d k }
+    ensures out_after { out.new ≡ nth_sector c.now k }
 {
-    endian::put(
-        out,
-        0,
-        endian::window(c, layout::SECTOR_BYTES * k, layout::SECTOR_BYTES),
-    );
-    Given::At(sectors::sector_at(side, d, k))
+    let at = layout::SECTOR_BYTES * k;
+    out.copy_from_slice(&c[at..at + layout::SECTOR_BYTES]);
+    sectors::sector_at(side, d, k)
+}
+
+// The bytes of store i into out; the sector of the device that they go to.
+fn put_store(d: Device, c: Copies<'_>, i: u64, out: &mut [u8]) -> u64
+    requires c_size { sized c.front.now c.back.now ≡ true }
+    requires i_bound { i < store_count }
+    requires out_size { length out.old ≡ sector_bytes }
+    ensures value { result ≡ sector_on d (position_of i) }
+    ensures out_after { out.new ≡ bytes_on c.entry.front.now c.entry.back.now (position_of i) }
+{
+    let p = position(i);
+    if p < SECTORS as usize {
+        return put_sector(Side::Front, d, c.front, p, out);
+    }
+    put_sector(Side::Back, d, c.back, p - SECTORS as usize, out)
 }
 
 // The store with number i, counted from 0, that writes two copies as they are lent to a device with these numbers: its 512 bytes into out, its
 // sector as the answer. 1 for a slice of another size; 4, 7 or 8 for device numbers that are not allowed; 23 past the last store. Then out
 // stays.
-pub fn store(d: Device, f: &[u8], b: &[u8], i: u64, out: &mut [u8]) -> Given
-    ensures value { result ≡ store_answer d f.now b.now i out.old }
-    ensures out_after { out.new ≡ store_left d f.now b.now i out.old }
+#[tactic(auto, unfolding(refusal::specs::Tests::first, layout::specs::Limits::record_limit, layout::specs::Places::copy_bytes, sectors::specs::Sectors::copy_sectors, crate::specs::Writing::store_count))]
+pub fn store(d: Device, c: Copies<'_>, i: u64, out: &mut [u8]) -> Result<u64, Reason>
+    ensures value { result ≡ store_answer d c.entry.front.now c.entry.back.now i out.old }
+    ensures out_after { out.new ≡ store_left d c.entry.front.now c.entry.back.now i out.old }
 {
-    let n = layout::copy_bytes();
-    let sized = ((f.len() == n) & (b.len() == n)) & (out.len() == layout::SECTOR_BYTES);
+    let sized = c.sized() & (out.len() == layout::SECTOR_BYTES);
     if !sized {
-        return Given::Refused(refusal::SLICE_SIZE);
+        return Err(Reason::SliceSize);
     }
-    let r = layout::check(d);
-    if r != 0 {
-        return Given::Refused(r);
-    }
+    layout::check(d)?;
     if STORES <= i {
-        return Given::Refused(refusal::NO_STORE);
+        return Err(Reason::NoStore);
     }
-    let p = position(i);
-    if p < SECTORS as usize {
-        return put_sector(Side::Front, d, f, p, out);
-    }
-    put_sector(Side::Back, d, b, p - SECTORS as usize, out)
+    Ok(put_store(d, c, i, out))
 }

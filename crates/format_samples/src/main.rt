@@ -5,71 +5,27 @@
 // tested. Assumes what `io` and `libc` do.
 #![tactic(auto)]
 
-ghost use Rattle.std.specs.Prelude.{◌+◌, ◌≤◌, ◌<◌, length};
+ghost use Rattle.std.specs.Prelude.{◌≤◌, ◌<◌, length};
 ghost use Rattle.sampling.specs.Laying.{input_bytes};
 
 use block::Time;
-use dump_line::Written;
+use discovery::Copies;
 use layout::Device;
 use refusal::Refusal;
 use sampling::{beside, print, say, sum};
 use text::Text;
 
 // Prints the number, what stands beside it, the two checksums and the line.
-fn print_line(r: Refusal, f: &[u8], b: &[u8]) {
-    let n = r.number;
-    print(Text::new().decimal(n as u64));
+fn print_line(r: Refusal, c: Copies<'_>) {
+    print(Text::new().decimal(r.number as u64));
     print(beside(r));
-    print(sum(f));
-    print(sum(b));
+    print(sum(c.front));
+    print(sum(c.back));
     say(b" ");
     let mut line = [0u8; dump_line::LINE_BYTES];
-    let w = dump_line::line(f, b, &mut line);
-    let Written::Length(k) = w else {
-        return;
-    };
-    say(endian::window(&line, 0, k));
-}
-
-// Formats two copies as the sample at `at` of s says.
-fn judge(f: &mut [u8], b: &mut [u8], s: &[u8], at: usize)
-    requires { at ≤ input_bytes + 4 }
-{
-    let d = Device {
-        sectors: endian::read_u64(s, at),
-        metadata: endian::read_u32(s, at + 8),
-        reserved: endian::read_u32(s, at + 12),
-    };
-    let t = Time {
-        seconds: endian::read_u64(s, at + 16),
-        nanoseconds: endian::read_u32(s, at + 24),
-    };
-    let p = endian::read_u16(s, at + 28) as usize;
-    let u = endian::read_u16(s, at + 30) as usize;
-    let r = endian::read_u16(s, at + 32) as usize;
-    let n = format::format_copies(
-        f,
-        b,
-        d,
-        endian::window(s, at + 34, p),
-        endian::window(s, at + 34 + p, u),
-        t,
-        endian::window(s, at + 34 + p + u, r),
-    );
-    print_line(n, f, b);
-}
-
-// The same with copies of n and m bytes, lent from f and b.
-fn lend(f: &mut [u8], n: usize, b: &mut [u8], m: usize, s: &[u8], at: usize)
-    requires { at ≤ input_bytes + 4 }
-{
-    if f.len() < n {
-        return;
+    if let Ok(k) = dump_line::line(c, &mut line) {
+        say(endian::window(&line, 0, k));
     }
-    if b.len() < m {
-        return;
-    }
-    judge(&mut f[..n], &mut b[..m], s, at);
 }
 
 // Runs the sample at `from` of s, with copies that hold bytes of s before it, and answers where the sample ends.
@@ -79,14 +35,30 @@ fn sample(s: &[u8], from: usize) -> usize
 {
     let n = endian::read_u16(s, from) as usize;
     let m = endian::read_u16(s, from + 2) as usize;
+    let device = Device {
+        sectors: endian::read_u64(s, from + 4),
+        metadata: endian::read_u32(s, from + 12),
+        reserved: endian::read_u32(s, from + 16),
+    };
+    let time = Time {
+        seconds: endian::read_u64(s, from + 20),
+        nanoseconds: endian::read_u32(s, from + 28),
+    };
     let p = endian::read_u16(s, from + 32) as usize;
     let u = endian::read_u16(s, from + 34) as usize;
     let r = endian::read_u16(s, from + 36) as usize;
+    let pool = endian::window(s, from + 38, p);
+    let blockdev = endian::window(s, from + 38 + p, u);
+    let record = endian::window(s, from + 38 + p + u, r);
     let mut front = io::large_buffer();
     endian::put(&mut front, 0, s);
     let mut back = io::large_buffer();
     endian::put(&mut back, 0, endian::window(s, 7, s.len()));
-    lend(&mut front, n, &mut back, m, s, from + 4);
+    if let (Some(f), Some(b)) = (front.get_mut(..n), back.get_mut(..m)) {
+        let a = format::format_copies(f, b, device, pool, blockdev, time, record);
+        let c = Copies { front: f, back: b };
+        print_line(a.map_or_else(Refusal::from, |_| refusal::plain(0)), c);
+    }
     from + 38 + p + u + r
 }
 
@@ -95,6 +67,7 @@ fn samples(s: &[u8])
     requires { length s.now ≤ input_bytes }
 {
     let mut at = 0;
+    // A `while` in each program: a sample says where the next one begins, and a shared function over a closure would have a `requires`.
     while at < s.len() {
         at = sample(s, at);
     }
@@ -102,7 +75,5 @@ fn samples(s: &[u8])
 
 fn main() {
     let input = sampling::fetch();
-    let bytes = input.bytes;
-    let n = input.used;
-    samples(&bytes[..n]);
+    samples(&input.bytes[..input.used]);
 }

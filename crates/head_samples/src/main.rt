@@ -8,10 +8,10 @@
 ghost use Rattle.std.specs.Prelude.{◌≤◌, ◌<◌, length};
 ghost use Rattle.sampling.specs.Laying.{input_bytes};
 
-use heads::{Change, Changed};
+use heads::Change;
 use items::Head;
 use layout::Device;
-use record::Heading;
+use refusal::{Reason, Refusal};
 use sampling::{number, print, refusal, say, sum};
 
 // The example device.
@@ -23,93 +23,72 @@ fn device() -> Device {
     }
 }
 
-// Prints a number and the checksum of the bytes lent.
-fn begun(n: u8, out: &[u8]) {
-    say(b"begin");
-    print(number(n as u64));
-    print(sum(out));
-    say(b"\n");
-}
-
-// Prints what a change answers, and the checksum of the bytes lent.
-fn changed(what: &[u8], a: Changed, out: &[u8]) {
-    say(what);
+// Prints what a call answers: its value, or why it refuses.
+// Not shared by the sample programs: a public function over a closure would have a `requires`.
+fn answer<T, F: FnOnce(T)>(a: Result<T, Reason>, show: F)
+    requires { F.IsAlwaysCallable show }
+{
     match a {
-        Changed::Length(n) => {
-            print(number(n as u64));
-        }
-        Changed::Refused(r) => {
+        Ok(value) => show(value),
+        Err(r) => {
             say(b" ");
-            print(refusal(r));
+            print(refusal(Refusal::from(r)));
         }
     }
-    print(sum(out));
-    say(b"\n");
 }
 
 // Prints the head of a record: its kind, block size and low water mark.
 fn head(s: &[u8]) {
     say(b"head");
-    match record::read_head(device(), s) {
-        Heading::Of(h) => {
-            print(number(items::head_kind(h) as u64));
-            print(number(items::block_size(h) as u64));
-            print(number(items::low_water(h) as u64));
-        }
-        Heading::Refused(r) => {
-            say(b" ");
-            print(refusal(r));
-        }
-    }
+    answer(record::read_head(device(), s), |h| {
+        print(number(items::head_kind(h) as u64));
+        print(number(items::block_size(h) as u64));
+        print(number(items::low_water(h) as u64));
+    });
     say(b"\n");
 }
 
-// A change of the head of s into the first n bytes of out.
-fn change_in(what: &[u8], s: &[u8], c: Change, out: &mut [u8], n: usize) {
-    if out.len() < n {
-        return;
+// Lends n bytes, which hold the first of `before`, where a large buffer has so many.
+fn lend<F: FnOnce(&mut [u8])>(before: &[u8], n: usize, f: F)
+    requires { F.IsAlwaysCallable f }
+{
+    let mut buffer = io::large_buffer();
+    endian::put(&mut buffer, 0, endian::window(before, 0, n));
+    if let Some(out) = buffer.get_mut(..n) {
+        f(out);
     }
-    let a = heads::rewrite(device(), s, c, &mut out[..n]);
-    changed(what, a, endian::window(out, 0, n));
 }
 
-// The same in a buffer that holds the bytes of `before`.
+// A change of the head of s into such bytes.
 fn change(what: &[u8], s: &[u8], c: Change, before: &[u8], n: usize) {
-    let mut out = io::large_buffer();
-    endian::put(&mut out, 0, endian::window(before, 0, n));
-    change_in(what, s, c, &mut out, n);
+    lend(before, n, |out| {
+        say(what);
+        answer(heads::rewrite(device(), s, c, out), |k| {
+            print(number(k as u64));
+        });
+        print(sum(out));
+        say(b"\n");
+    });
 }
 
 // Moving up, and back what that gave.
 fn there_and_back(s: &[u8], before: &[u8], n: usize) {
     let mut up = io::large_buffer();
-    let a = heads::rewrite(device(), s, Change::Up, &mut up);
-    let Changed::Length(k) = a else {
-        return;
-    };
-    change(
-        b"up and back",
-        endian::window(&up, 0, k),
-        Change::Back,
-        before,
-        n,
-    );
-}
-
-// A record begun with a head in the first n bytes of out.
-fn begin_in(h: Head, out: &mut [u8], n: usize) {
-    if out.len() < n {
-        return;
+    if let Ok(k) = heads::rewrite(device(), s, Change::Up, &mut up) {
+        let there = endian::window(&up, 0, k);
+        change(b"up and back", there, Change::Back, before, n);
     }
-    let k = items::begin(&mut out[..n], h);
-    begun(k, endian::window(out, 0, n));
 }
 
-// The same in a buffer that holds the bytes of `before`.
+// A record begun with a head, in such bytes.
 fn begin(h: Head, before: &[u8], n: usize) {
-    let mut out = io::large_buffer();
-    endian::put(&mut out, 0, endian::window(before, 0, n));
-    begin_in(h, &mut out, n);
+    lend(before, n, |out| {
+        let r = items::begin(out, h).map_or_else(Refusal::from, |_| refusal::plain(0));
+        say(b"begin");
+        print(number(r.number as u64));
+        print(sum(out));
+        say(b"\n");
+    });
 }
 
 // The sample at `from` of s; answers where it ends.
@@ -137,6 +116,7 @@ fn samples(s: &[u8])
     requires { length s.now ≤ input_bytes }
 {
     let mut at = 0;
+    // A `while` in each program: a sample says where the next one begins, and a shared function over a closure would have a `requires`.
     while at < s.len() {
         at = sample(s, at);
     }
@@ -144,7 +124,5 @@ fn samples(s: &[u8])
 
 fn main() {
     let input = sampling::fetch();
-    let bytes = input.bytes;
-    let n = input.used;
-    samples(&bytes[..n]);
+    samples(&input.bytes[..input.used]);
 }

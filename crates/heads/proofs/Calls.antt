@@ -1,19 +1,23 @@
 -- What a change of a head answers and leaves, test by test, as the code has it.
 use Prim.Native.Nat.{ℕ, ◌+◌, ◌-◌, ◌*◌, ◌≤◌, ◌<◌}
-use mathlib.Core.Path.{◌≡◌, refl, sym, ap, ◌∙◌}
-use mathlib.Core.Bool.{true, false}
+use mathlib.Core.Path.{◌≡◌, sym, ap, ◌∙◌}
+use mathlib.Core.Bool.{Bool, true, false, cond}
 use mathlib.Core.List.{List, [], ◌++◌}
 use native.Mathlib.Omega.{arith}
-use borrow.Author.Tests.{le-leb, lt-leb}
-use lib.Dec.{lit<, leb}
+use borrow.Author.Tests.{le-leb, lt-leb, ne_eqb}
+use lib.Dec.{lit<}
 use lib.ListN.{length, length-append}
 use Rattle.endian.specs.Bytes.{splice}
 use Rattle.endian.proofs.Parts.{splice_next}
 use Rattle.refusal.specs.Numbers.{segment_clash}
+use Rattle.std.specs.Prelude.{Ok, Err}
+use Rattle.refusal.specs.declared.Reason.{Reason}
 use Rattle.refusal.specs.declared.Refusal.{Refusal}
-use Rattle.refusal.specs.Refusals.{plain}
+use Rattle.refusal.specs.Refusals.{plain, plain_but}
+use Rattle.refusal.specs.Reasons.{told, answer}
+use Rattle.refusal.proofs.Reasons.{ok_zero, err_other, err_on, told_zero}
 use Rattle.refusal.specs.Tests.{first, Ascending}
-use Rattle.refusal.proofs.Order.{first-nil, first-pass, first_fail, first-zero, first-after, first-before, first_other, answer_no, answer-yes}
+use Rattle.refusal.proofs.Order.{first-nil, first-pass, first_fail, first-zero, first-after, first-before, first_other}
 use Rattle.layout.specs.declared.Device.{Device}
 use Rattle.layout.specs.Limits.{record_limit}
 use Rattle.items.specs.declared.Head.{Head}
@@ -21,13 +25,13 @@ use Rattle.items.specs.Head.{head_of, head_bytes, head_size, item_bytes}
 use Rattle.items.specs.Items.{items_of, segments}
 use Rattle.items.proofs.Heads.{length-head, head_small}
 use Rattle.items.proofs.Items.{length_items, formed}
-use Rattle.record.specs.Accept.{record_tests, named}
-use Rattle.record.proofs.Testing.{more_no, more_yes}
-use Rattle.record.proofs.Naming.{named_other, refuse_no, refuse-yes}
+use Rattle.items.specs.Making.{unless}
+use Rattle.record.specs.Accept.{record_tests, named, answered}
+use Rattle.record.proofs.Naming.{named_other}
 use Rattle.record.proofs.Accepted.{accepted}
 use Rattle.record.proofs.Right.{accepted-right}
+use Rattle.allocation.proofs.Calls.{after_record}
 use Rattle.heads.specs.declared.Change.{Change}
-use Rattle.heads.specs.declared.Changed.{Changed}
 use Rattle.heads.specs.Changing.{head_after, record_after, keeps, has_mark, head_tests, room_tests, change_tests, change_answer, change_left}
 
 -- the number of the head's test, in each case
@@ -81,53 +85,51 @@ after_small d s c z =
     let e : length (items_of s) ≡ length s - head_size (head_of s) = length_items s in
     omega (arith, head_small (head_after c (head_of s)))
 
-module _ (d : Device) (s : List ℕ) (c : Change) (out : List ℕ) where
-  -- refused, with what stands beside the number
-  refused : (r : Refusal) → r ≡ named r.number s → r.number ≡ first (change_tests d s c (length out)) → (r.number ≡ 0 → ⊥)
-      → (Changed.Refused r ≡ change_answer d s c (length out)) × (out ≡ change_left d s c out)
-  refused r h e z = (
-    refuse_no (Changed.Length (length (record_after c s))) Changed.Refused s r (first (change_tests d s c (length out))) h e z,
-    answer_no (splice out 0 (record_after c s)) (λ (k : ℕ). out) r.number (first (change_tests d s c (length out))) e z,
-  )
+-- a call that is refused leaves the lent bytes
+pub kept_by : {A : Type 0} (made out s : List ℕ) (n : ℕ) (v : A) (e : Reason) → Err e ≡ answered n s v → out ≡ unless n made out
+kept_by made out s n v e h = sym (ap (λ (b : Bool). cond b made out) (ne_eqb n 0 (err_other n (named n s) v e (sym h))))
 
-  -- with a number of its own, which is not 19
-  own : (k : ℕ) → (k ≡ segment_clash → ⊥) → k ≡ first (change_tests d s c (length out)) → (k ≡ 0 → ⊥)
-      → (Changed.Refused (plain k) ≡ change_answer d s c (length out)) × (out ≡ change_left d s c out)
-  own k h e z = refused (plain k) (sym (named_other k s h)) e z
+-- A change of an accepted record, by the tests that decide it.
+module _ (d : Device) (s : List ℕ) (c : Change) (w : ℕ) (z : first (record_tests d s) ≡ 0) where
+  abbrev len : ℕ
+  len = length (record_after c s)
 
-  pub record_refused : (r : Refusal) → r ≡ named r.number s → r.number ≡ first (record_tests d s) → (r.number ≡ 0 → ⊥)
-      → (Changed.Refused r ≡ change_answer d s c (length out)) × (out ≡ change_left d s c out)
-  record_refused r h e z = refused r h (more_no d s _ r.number e z) z
+  pub head-refused : (e : Reason) → answer (first (head_tests c (head_of s))) (tt {0}) ≡ Err e → Err e ≡ change_answer d s c w
+  head-refused e h =
+      let n : ℕ = first (head_tests c (head_of s)) in
+      let k : n ≡ 0 → ⊥ = err_other n (plain n) (tt {0}) e h in
+      let t : first (change_tests d s c w) ≡ n =
+      after_record d s (head_tests c (head_of s) ++ room_tests c s w) z ∙ first-before 0 (head_tests c (head_of s)) (room_tests c s w) (head-ascending c (head_of s)) k in
+      sym (ap (λ (m : ℕ). answered m s len) t ∙ (ap (λ (r : Refusal). told n r len) (named_other n s (head_no_clash c (head_of s))) ∙ err_on n (plain n) (tt {0}) len e h))
 
-  module _ (r : ℕ) (e : r ≡ first (record_tests d s)) (zero : r ≡ 0) (n : ℕ) (f : n ≡ first (head_tests c (head_of s))) where
-    pub head-refused : (q : Refusal) → q ≡ plain n → (n ≡ 0 → ⊥) → (Changed.Refused q ≡ change_answer d s c (length out)) × (out ≡ change_left d s c out)
-    head-refused q p z =
-        let t : n ≡ first (head_tests c (head_of s) ++ room_tests c s (length out)) = f ∙ sym (first-before 0 (head_tests c (head_of s)) (room_tests c s (length out)) (head-ascending c (head_of s)) (λ y. z (f ∙ y))) in
-        let o : (Changed.Refused (plain n) ≡ change_answer d s c (length out)) × (out ≡ change_left d s c out) = own n (λ y. head_no_clash c (head_of s) (sym f ∙ y)) (more_yes d s _ r n e zero t) z in
-        (ap Changed.Refused p ∙ o.0, o.1)
+  module _ (u : Unit {0}) (h : answer (first (head_tests c (head_of s))) (tt {0}) ≡ Ok u) where
+    room : first (change_tests d s c w) ≡ first (room_tests c s w)
+    room =
+        let n : ℕ = first (head_tests c (head_of s)) in
+        after_record d s (head_tests c (head_of s) ++ room_tests c s w) z
+        ∙ first-after (head_tests c (head_of s)) (room_tests c s w) (first-zero 0 (head_tests c (head_of s)) (head-ascending c (head_of s)) (ok_zero n (plain n) (tt {0}) u h))
 
-    module _ (none : n ≡ 0) where
-      numbers : (k : ℕ) → k ≡ first (room_tests c s (length out)) → k ≡ first (change_tests d s c (length out))
-      numbers k h =
-          more_yes d s _ r k e zero
-          (h ∙ sym (first-after (head_tests c (head_of s)) (room_tests c s (length out)) (first-zero 0 (head_tests c (head_of s)) (head-ascending c (head_of s)) (sym f ∙ none))))
+    pub room-refused : w < head_size (head_after c (head_of s)) + length (items_of s) → Err Reason.SliceSize ≡ change_answer d s c w
+    unfolding first named plain_but
+    room-refused l =
+        let m : len ≡ head_size (head_after c (head_of s)) + length (items_of s) = length-after c s in
+        let t : first (room_tests c s w) ≡ 1 = rw (lt-leb len w (let q : w < len = omega arith in q)) in
+        ap (λ (k : ℕ). answered k s len) (sym (room ∙ t))
 
-      pub room-refused : (q : Refusal) → q ≡ plain 1 → length out < head_size (head_after c (head_of s)) + length (items_of s)
-          → (Changed.Refused q ≡ change_answer d s c (length out)) × (out ≡ change_left d s c out)
-      room-refused q p l =
-          let m : length out < length (record_after c s) = (let i : length (record_after c s) ≡ head_size (head_after c (head_of s)) + length (items_of s) = length-after c s in omega arith) in
-          let o : (Changed.Refused (plain 1) ≡ change_answer d s c (length out)) × (out ≡ change_left d s c out) =
-          own 1 (λ y. omega arith) (numbers 1 (sym (first_fail (leb (length (record_after c s)) (length out)) 1 [] (lt-leb (length (record_after c s)) (length out) m)))) (λ y. omega arith) in
-          (ap Changed.Refused p ∙ o.0, o.1)
+    pub room_there : head_size (head_after c (head_of s)) + length (items_of s) ≤ w → first (change_tests d s c w) ≡ 0
+    unfolding first
+    room_there l =
+        let m : len ≡ head_size (head_after c (head_of s)) + length (items_of s) = length-after c s in
+        let t : first (room_tests c s w) ≡ 0 = rw (le-leb len w (let q : len ≤ w = omega arith in q)) in
+        room ∙ t
 
-      -- done: the two parts were written
-      pub done : (size : ℕ) (t a b : List ℕ) → size ≡ head_size (head_after c (head_of s)) → t ≡ items_of s → size + length t ≤ length out
-          → a ≡ splice out 0 (head_bytes (head_after c (head_of s))) → b ≡ splice a size t
-          → (Changed.Length (size + length t) ≡ change_answer d s c (length out)) × (b ≡ change_left d s c out)
-      done size t a b i j l g k =
-          let m : size + length t ≡ length (record_after c s) = rw (i, j) (sym (length-after c s)) in
-          let o : 0 ≡ first (change_tests d s c (length out)) = numbers 0 (sym (first-pass (leb (length (record_after c s)) (length out)) 1 [] (le-leb (length (record_after c s)) (length out) (let q : length (record_after c s) ≤ length out = omega arith in q)) ∙ first-nil)) in
-          let p : b ≡ splice out 0 (record_after c s) = k ∙ (rw (g, i, j) (after-laid c s out (let q : length (record_after c s) ≤ length out = omega arith in q))) in (
-            ap Changed.Length m ∙ refuse-yes (Changed.Length (length (record_after c s))) Changed.Refused s 0 (first (change_tests d s c (length out))) o refl,
-            p ∙ answer-yes (splice out 0 (record_after c s)) (λ (k : ℕ). out) 0 (first (change_tests d s c (length out))) o refl,
-          )
+-- done: the two parts were written
+pub done : (d : Device) (s : List ℕ) (c : Change) (out a b : List ℕ) → first (change_tests d s c (length out)) ≡ 0
+    → head_size (head_after c (head_of s)) + length (items_of s) ≤ length out
+    → a ≡ splice out 0 (head_bytes (head_after c (head_of s))) → b ≡ splice a (head_size (head_after c (head_of s))) (items_of s)
+    → (Ok (head_size (head_after c (head_of s)) + length (items_of s)) ≡ change_answer d s c (length out)) × (b ≡ change_left d s c out)
+done d s c out a b z l g k =
+    let m : length (record_after c s) ≡ head_size (head_after c (head_of s)) + length (items_of s) = length-after c s in (
+      ap Ok (sym m) ∙ sym (told_zero (first (change_tests d s c (length out))) (named (first (change_tests d s c (length out))) s) (length (record_after c s)) z),
+      rw (z, k, g) (after-laid c s out (omega arith)),
+    )

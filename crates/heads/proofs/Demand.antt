@@ -27,14 +27,14 @@ use Rattle.record.specs.Accept.{record_tests, named}
 use Rattle.record.specs.Sectors.{parts}
 use Rattle.record.specs.Demand.{Right}
 use Rattle.record.proofs.Testing.{record_ascending, record_numbered}
-use Rattle.record.proofs.Naming.{refuse-yes}
+use Rattle.record.proofs.Naming.{refusal_named}
+use Rattle.refusal.proofs.Reasons.{told_zero, told_other}
 use Rattle.record.proofs.Accepted.{accepted}
 use Rattle.record.proofs.Right.{accepted_made, accepted-right, read_head, read_segments, right-empty}
-use Rattle.record.proofs.Demand.{refusal_of, heads, head_says}
+use Rattle.record.proofs.Demand.{heads, head_says}
 use Rattle.allocation.specs.Answers.{free_runs}
 use Rattle.heads.specs.declared.Change.{Change}
-use Rattle.heads.specs.declared.Changed.{Changed}
-use Rattle.heads.specs.Changing.{head_after, record_after, head_tests, room_tests, change_tests, change_left, changed_refusal}
+use Rattle.heads.specs.Changing.{head_after, record_after, head_tests, room_tests, change_tests, change_left}
 use Rattle.heads.specs.Demand.{FourBytes, Becomes, KindBytes, ByteForByte, Moved, Changes, Same, Returns, UpAndBack, BackAndUp, Loses, TwentyFour, LosesBytes, Movable, head_bytes_after, Owned, RecordFirst, Refusing, Numbered as AllNumbered, Existing}
 use Rattle.heads.proofs.Calls.{up_number, back_lost, back_kept, mark_no, mark_yes, head-ascending, length-after}
 use Rattle.heads.proofs.Bytes.{literal, lost_bytes, bytes_lost}
@@ -164,12 +164,21 @@ twenty_four d s c w = (lost d s c w, loses d s c w)
 pub refusing : Refusing
 refusing d s c out l =
     let n : ℕ = first (change_tests d s c (length out)) in (
-      sym (answer_no (Changed.Length (length (record_after c s))) (λ (k : ℕ). Changed.Refused (named k s)) n n refl (λ z. omega arith)),
+      told_other n (named n s) (length (record_after c s)) (λ z. omega arith),
       sym (answer_no (splice out 0 (record_after c s)) (λ (k : ℕ). out) n n refl (λ z. omega arith)),
     )
 
+-- the numbers are known
+change-known : (d : Device) (s : List ℕ) (c : Change) (w : ℕ) → first (change_tests d s c w) < 25
+change-known d s Change.Up w =
+    first_below 25 (change_tests d s Change.Up w) (lit< tt) (lit< tt, (lit< tt, (lit< tt, (lit< tt, (lit< tt, (lit< tt, (lit< tt, (lit< tt, tt))))))))
+change-known d s Change.Back w =
+    first_below 25 (change_tests d s Change.Back w) (lit< tt) (lit< tt, (lit< tt, (lit< tt, (lit< tt, (lit< tt, (lit< tt, (lit< tt, (lit< tt, (lit< tt, tt)))))))))
+change-known d s (Change.Mark n) w =
+    first_below 25 (change_tests d s (Change.Mark n) w) (lit< tt) (lit< tt, (lit< tt, (lit< tt, (lit< tt, (lit< tt, (lit< tt, (lit< tt, (lit< tt, (lit< tt, tt)))))))))
+
 pub numbered : AllNumbered
-numbered d s c w = refusal_of changed_refusal (Changed.Length (length (record_after c s))) Changed.Refused s refl (λ r. refl) (first (change_tests d s c w))
+numbered d s c w = refusal_named (first (change_tests d s c w)) s (length (record_after c s)) (change-known d s c w)
 
 -- DONE
 module _ (d : Device) (s : List ℕ) (c : Change) (out : List ℕ) (small : d.sectors < 2 ^ 64) (again : record_of (head_of s) (segments s) ≡ s) (four : FourBytes c)
@@ -224,7 +233,7 @@ module _ (d : Device) (s : List ℕ) (c : Change) (out : List ℕ) (small : d.se
   moved : Moved d s c out (length t) t
   moved =
       record {
-        answer = sym (refuse-yes (Changed.Length (length t)) Changed.Refused s 0 (first (change_tests d s c (length out))) (sym e) refl);
+        answer = told_zero (first (change_tests d s c (length out))) (named (first (change_tests d s c (length out))) s) (length t) e;
         new = ap (take (length t)) left ∙ take_at t (drop (0 + length t) out) (length t) refl;
         past = ap (drop (length t)) left ∙ (drop_at t (drop (0 + length t) out) (length t) refl ∙ ap (λ (k : ℕ). drop k out) (let q : 0 + length t ≡ length t = omega arith in q));
         long = refl;

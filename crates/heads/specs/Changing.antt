@@ -1,8 +1,7 @@
 -- Moving a record's head up and back, and setting its mark: what each refuses, answers, and leaves in the lent bytes.
-use Rattle.std.specs.Prelude.{ℕ, Bool, cond, List, [], ◌∷◌, ◌++◌, leb, eqb, length}
+use Rattle.std.specs.Prelude.{Result, Ok, Err, ℕ, Bool, List, [], ◌∷◌, ◌++◌, leb, eqb, length}
 use Rattle.refusal.specs.Numbers.{slice_size, record_form, head_move}
-use Rattle.refusal.specs.declared.Refusal.{Refusal}
-use Rattle.refusal.specs.Refusals.{plain}
+use Rattle.refusal.specs.declared.Reason.{Reason}
 use Rattle.refusal.specs.Tests.{Test, ◌else_refuse◌, first}
 use Rattle.endian.specs.Bytes.{splice}
 use Rattle.layout.specs.declared.Device.{Device}
@@ -11,9 +10,8 @@ use Rattle.items.specs.declared.Head.TheVariants.{Plain, Marked, Unknown}
 use Rattle.items.specs.Head.{marked_kind, head_of, head_kind, head_bytes, low_water}
 use Rattle.items.specs.Items.{items_of}
 use Rattle.items.specs.Making.{unless}
-use Rattle.record.specs.Accept.{record_tests, named}
+use Rattle.record.specs.Accept.{record_tests, answered}
 use Rattle.heads.specs.declared.Change.{Change}
-use Rattle.heads.specs.declared.Changed.{Changed}
 
 -- moved up: kind 17 with the mark 0; one of kind 17 stays
 unfoldable pub raised : Head → Head
@@ -65,21 +63,15 @@ room_tests c s w = (leb (length (record_after c s)) w else_refuse slice_size) �
 abbrev pub change_tests : Device → List ℕ → Change → ℕ → List Test
 change_tests d s c w = record_tests d s ++ (head_tests c (head_of s) ++ room_tests c s w)
 
-abbrev pub changed : ℕ → List ℕ → ℕ → Changed
-changed n s len = cond (eqb n 0) (Changed.Length len) (Changed.Refused (named n s))
-
 -- the new record's length
-abbrev pub change_answer : Device → List ℕ → Change → ℕ → Changed
-change_answer d s c w = changed (first (change_tests d s c w)) s (length (record_after c s))
+abbrev pub change_answer : Device → List ℕ → Change → ℕ → Result ℕ Reason
+change_answer d s c w = answered (first (change_tests d s c w)) s (length (record_after c s))
 
 -- the lent bytes: the new record, and those past it as they were
 abbrev pub change_left : Device → List ℕ → Change → List ℕ → List ℕ
 change_left d s c out = unless (first (change_tests d s c (length out))) (splice out 0 (record_after c s)) out
 
-abbrev pub changed_refusal : Changed → Refusal
-changed_refusal (Changed.Length len) = plain 0
-changed_refusal (Changed.Refused r) = r
-
-abbrev pub changed_values : Changed → List ℕ
-changed_values (Changed.Length len) = len ∷ []
-changed_values (Changed.Refused r) = []
+-- the value; the refusal is `refusal_in` of it (`refusal`, Reasons)
+abbrev pub changed_values : Result ℕ Reason → List ℕ
+changed_values (Ok len) = len ∷ []
+changed_values (Err r) = []

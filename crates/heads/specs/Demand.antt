@@ -1,7 +1,8 @@
 -- Moving a head and setting its mark, in other words than the definitions that the call cites. A device's size below 2^64, elements below 256
 -- (`Bytes`) and a mark below 2^32 (`FourBytes`) are what the machine's types have. `proofs/Demand.antt` proves all of it.
-use Rattle.std.specs.Prelude.{ℕ, ◌+◌, ◌*◌, ◌^◌, ◌≤◌, ◌<◌, ◌≡◌, List, [], ◌∷◌, ◌++◌, length, take, drop}
+use Rattle.std.specs.Prelude.{ℕ, ◌+◌, ◌*◌, ◌^◌, ◌≤◌, ◌<◌, ◌≡◌, List, [], ◌∷◌, ◌++◌, length, take, drop, Ok, Err}
 use Rattle.endian.specs.Bytes.{Bytes}
+use Rattle.refusal.specs.Reasons.{reason_of, refusal_in}
 use Rattle.refusal.specs.Tests.{first}
 use Rattle.layout.specs.declared.Device.{Device}
 use Rattle.layout.specs.Limits.{device_tests}
@@ -17,8 +18,7 @@ use Rattle.record.specs.Demand.{RightBytes, BlockSize, four_bytes}
 use Rattle.allocation.specs.Answers.{runs_in}
 use Rattle.allocation.specs.Change.{runs_for}
 use Rattle.heads.specs.declared.Change.{Change}
-use Rattle.heads.specs.declared.Changed.TheVariants as Changed
-use Rattle.heads.specs.Changing.{change_tests, change_answer, change_left, changed_refusal}
+use Rattle.heads.specs.Changing.{change_tests, change_answer, change_left}
 
 -- a mark that is asked for is a number of four bytes
 abbrev pub FourBytes : Change → Type 0
@@ -48,7 +48,7 @@ ByteForByte (Change.Mark n) s t = t ≡ take 8 s ++ (four_bytes n ++ drop 12 s)
 
 -- The new record t, of n bytes, that a change of the record s leaves at the start of `out`.
 pub record Moved (d : Device) (s : List ℕ) (c : Change) (out : List ℕ) (n : ℕ) (t : List ℕ) : Type 0 where
-  pub answer : change_answer d s c (length out) ≡ Changed.Length n
+  pub answer : change_answer d s c (length out) ≡ Ok n
   pub new : take n (change_left d s c out) ≡ t
   pub past : drop n (change_left d s c out) ≡ drop n out
   pub long : length t ≡ n
@@ -155,12 +155,12 @@ RecordFirst = (d : Device) (s : List ℕ) (c : Change) (w : ℕ) → 0 < first (
 abbrev pub Refusing : Type 0
 Refusing =
     (d : Device) (s : List ℕ) (c : Change) (out : List ℕ) → 0 < first (change_tests d s c (length out))
-    → (change_answer d s c (length out) ≡ Changed.Refused (named (first (change_tests d s c (length out))) s)) × (change_left d s c out ≡ out)
+    → (change_answer d s c (length out) ≡ Err (reason_of (named (first (change_tests d s c (length out))) s))) × (change_left d s c out ≡ out)
 
 -- The number that is answered is that of the tests, for every input.
 abbrev pub Numbered : Type 0
 Numbered =
-    (d : Device) (s : List ℕ) (c : Change) (w : ℕ) → changed_refusal (change_answer d s c w) ≡ named (first (change_tests d s c w)) s
+    (d : Device) (s : List ℕ) (c : Change) (w : ℕ) → refusal_in (change_answer d s c w) ≡ named (first (change_tests d s c w)) s
 
 -- What these claims ask for is there: on every device whose numbers are allowed, with every block size that is allowed, the record of one head of
 -- each kind and no segments is accepted; where 12 bytes are lent, moving up the one of kind 16 is not refused, nor is moving back the one of kind 17

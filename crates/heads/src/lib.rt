@@ -1,28 +1,22 @@
 // The head of a segment record, changed: moved up to kind 17, moved back to kind 16, or with another low water mark. Every change checks the
 // device numbers and the record first, as allocation does; the items after the head stay, byte for byte.
-#![tactic(auto)]
+#![tactic(auto, unfolding(crate::specs::Changing::raised, crate::specs::Changing::lowered, crate::specs::Changing::remarked, record::specs::Accept::named, refusal::specs::Refusals::plain_but, refusal::specs::Tests::first))]
 
 ghost use Rattle.std.specs.Prelude.{◌≡◌, length};
 ghost use Rattle.refusal.specs.Tests.{first};
+ghost use Rattle.refusal.specs.Reasons.{answer};
 ghost use Rattle.heads.specs.Changing.{raised, lowered, remarked, head_after, keeps, has_mark, head_tests, change_answer, change_left};
 
 use items::Head;
 use layout::Device;
-use refusal::Refusal;
+use refusal::Reason;
 
 // What is asked of a head: up, from kind 16 to kind 17 with the mark 0; back, from kind 17 to kind 16; or this low water mark in blocks.
-#[derive(Clone, Copy)]
+#[derive(Clone, Copy, PartialEq, Eq)]
 pub enum Change {
     Up,
     Back,
     Mark(u32),
-}
-
-// What `rewrite` answers: the new record's length in bytes.
-#[derive(Clone, Copy)]
-pub enum Changed {
-    Length(usize),
-    Refused(Refusal),
 }
 
 // A head moved up.
@@ -31,8 +25,7 @@ fn raise(h: Head) -> Head
 {
     match h {
         Head::Plain(size) => Head::Marked(size, 0),
-        Head::Marked(_, _) => h,
-        Head::Unknown => h,
+        Head::Marked(_, _) | Head::Unknown => h,
     }
 }
 
@@ -41,9 +34,8 @@ fn lower(h: Head) -> Head
     ensures { result ≡ lowered h }
 {
     match h {
-        Head::Plain(_) => h,
+        Head::Plain(_) | Head::Unknown => h,
         Head::Marked(size, _) => Head::Plain(size),
-        Head::Unknown => h,
     }
 }
 
@@ -52,9 +44,8 @@ fn remark(mark: u32, h: Head) -> Head
     ensures { result ≡ remarked mark h }
 {
     match h {
-        Head::Plain(_) => h,
+        Head::Plain(_) | Head::Unknown => h,
         Head::Marked(size, _) => Head::Marked(size, mark),
-        Head::Unknown => h,
     }
 }
 
@@ -83,48 +74,43 @@ fn has_mark(h: Head) -> bool
     items::head_kind(h) == items::MARKED_KIND
 }
 
-// The number that a head gives to a change: 24 where moving back would lose its mark, 17 where it has no place for a mark; else 0.
-fn head_number(c: Change, h: Head) -> u8
-    ensures { result ≡ first (head_tests c h) }
+// Whether a head can be changed so: moving back must not lose its mark, and a mark must have a place.
+fn check_head(c: Change, h: Head) -> Result<(), Reason>
+    ensures { result ≡ answer (first (head_tests c h)) tt }
 {
     match c {
-        Change::Up => refusal::NONE,
+        Change::Up => Ok(()),
         Change::Back => {
             if !keeps(h) {
-                return refusal::HEAD_MOVE;
+                return Err(Reason::HeadMove);
             }
-            refusal::NONE
+            Ok(())
         }
         Change::Mark(_) => {
             if !has_mark(h) {
-                return refusal::RECORD_FORM;
+                return Err(Reason::RecordForm);
             }
-            refusal::NONE
+            Ok(())
         }
     }
 }
 
-// Changes the head of a record: the new record is written to the start of out.
-pub fn rewrite(d: Device, s: &[u8], c: Change, out: &mut [u8]) -> Changed
+// Changes the head of a record: the new record is written to the start of out, and its length in bytes answered.
+pub fn rewrite(d: Device, s: &[u8], c: Change, out: &mut [u8]) -> Result<usize, Reason>
     ensures value { result ≡ change_answer d s.now c (length out.old) }
     ensures out_after { out.new ≡ change_left d s.now c out.old }
 {
-    let refused = record::check(d, s);
-    if refused.number != 0 {
-        return Changed::Refused(refused);
-    }
+    record::check(d, s)?;
     let h = items::head_of(s);
-    let n = head_number(c, h);
-    if n != 0 {
-        return Changed::Refused(refusal::plain(n));
-    }
+    check_head(c, h)?;
     let after = head_after(c, h);
     let size = items::head_size(after);
     let t = items::items_of(s);
     if out.len() < size + t.len() {
-        return Changed::Refused(refusal::plain(refusal::SLICE_SIZE));
+        return Err(Reason::SliceSize);
     }
-    items::put_head(out, after);
+    // There is room for it.
+    let _ = items::put_head(out, after);
     endian::put(out, size, t);
-    Changed::Length(size + t.len())
+    Ok(size + t.len())
 }

@@ -1,7 +1,7 @@
 -- A record made step by step.
 use Prim.Native.Nat.{ℕ, ◌+◌, ◌*◌, ◌≤◌}
 use mathlib.Core.Path.{◌≡◌, refl, sym, ap, ap₂, ◌∙◌}
-use mathlib.Core.Bool.{true, false, ◌&&◌}
+use mathlib.Core.Bool.{true, ◌&&◌}
 use mathlib.Core.List.{List, [], ◌∷◌, ◌++◌, append_assoc, append-nil}
 use native.Mathlib.Omega.{arith}
 use borrow.Author.Tests.{eq-eqb, le-leb, leb-true}
@@ -9,19 +9,18 @@ use lib.Dec.{eqb, leb, lit<}
 use lib.ListN.{length, take, drop, length-append, take-append-drop}
 use lib.Seq.{take_at, drop_at}
 use Rattle.endian.specs.Bytes.{le, window, splice, fits}
-use Rattle.endian.proofs.Parts.{splice-fits, write-fits}
+use Rattle.endian.proofs.Parts.{splice-fits}
 use Rattle.endian.proofs.Tests.{and_both}
+use Rattle.std.specs.Prelude.{Ok}
 use Rattle.refusal.specs.Tests.{first, AllHold}
 use Rattle.refusal.proofs.Order.{first_holds, answer_no, answer-yes}
 use Rattle.segments.specs.declared.Segment.{Segment}
 use Rattle.items.specs.declared.Head.{Head}
-use Rattle.items.specs.declared.Put.{Put}
 use Rattle.items.specs.Head.{head_of, head_bytes, head_size, head_allowed, item_bytes}
 use Rattle.items.specs.Making.{segment_bytes, all_bytes, record_of, place, begins, begin_tests, begun, put_answer, put_left}
 use Rattle.items.specs.Demand.{Holds, Beginning, Starting, Building}
 use Rattle.items.proofs.Heads.{length-head, allowed-fits, head_made, size_made}
-use Rattle.items.proofs.Making.{length-segment, length_record, all_append, all_one, begin-short, begin_form, begin-written}
-use Rattle.items.proofs.Putting.{put-done}
+use Rattle.items.proofs.Making.{length-segment, length_record, all_append, all_one, begin-short, begin_form, begin_fits, put_done}
 
 -- a record and one segment more
 pub one_more : (h : Head) (gs : List Segment) (g : Segment) → record_of h gs ++ segment_bytes g ≡ record_of h (gs ++ (g ∷ []))
@@ -51,9 +50,9 @@ beginning out h e =
 pub starting : Starting
 starting out h =
     record {
-      short = λ l. sym (begin-short out h l).0;
-      wrong = λ l e. sym (begin_form out h false l (sym e) refl).0;
-      done = λ l e. sym (begin-written out _ h true 0 l (sym e) refl (sym (write-fits out 0 (head_size h) (omega arith))) refl).0;
+      short = begin-short out h;
+      wrong = begin_form out h;
+      done = begin_fits out h;
       refused = λ l. sym (answer_no (splice out 0 (head_bytes h)) (λ (n : ℕ). out) (first (begin_tests out h)) (first (begin_tests out h)) refl (λ z. omega arith));
       past = λ e. past e;
     }
@@ -95,11 +94,9 @@ module _ (out : List ℕ) (h : Head) (gs : List Segment) (g : Segment) (ok : hea
       (le-leb (head_size (head_of out)) (length out) (let k : head_size (head_of out) ≡ head_size h = ap head_size head_is in omega arith))
       (ap head_allowed head_is ∙ ok))
 
-  put : (Put.Length (length (record_of h gs) + item_bytes) ≡ put_answer out (length gs))
-      × (splice out (length (record_of h gs)) (segment_bytes g) ≡ put_left out (length gs) g)
-  put =
-      put-done out (length gs) g begins_it (length (record_of h gs)) (let p : place out (length gs) ≡ length (record_of h gs) = place_is in omega arith) 0
-      (sym (write-fits out (length (record_of h gs)) item_bytes room)) (splice out (length (record_of h gs)) (segment_bytes g)) refl refl
+  put : (put_answer out (length gs) ≡ Ok (length (record_of h gs) + item_bytes))
+      × (put_left out (length gs) g ≡ splice out (length (record_of h gs)) (segment_bytes g))
+  put = rw (← place_is) (put_done out (length gs) g begins_it (rw place_is room))
 
   long : length (record_of h (gs ++ (g ∷ []))) ≡ length (record_of h gs) + item_bytes
   long = ap length (sym (one_more h gs g)) ∙ (length-append (record_of h gs) (segment_bytes g) ∙ ap (λ (k : ℕ). length (record_of h gs) + k) (length-segment g))
@@ -111,10 +108,10 @@ module _ (out : List ℕ) (h : Head) (gs : List Segment) (g : Segment) (ok : hea
       ∙ (ap (λ (z : List ℕ). z ++ (segment_bytes g ++ drop (length (record_of h gs) + length (segment_bytes g)) out)) holds
       ∙ (sym (append_assoc (record_of h gs) (segment_bytes g) _) ∙ ap (λ (z : List ℕ). z ++ drop (length (record_of h gs) + length (segment_bytes g)) out) (one_more h gs g)))
 
-  built : (put_answer out (length gs) ≡ Put.Length (length (record_of h (gs ++ (g ∷ []))))) × Holds (put_left out (length gs) g) h (gs ++ (g ∷ []))
+  built : (put_answer out (length gs) ≡ Ok (length (record_of h (gs ++ (g ∷ []))))) × Holds (put_left out (length gs) g) h (gs ++ (g ∷ []))
   built = (
-    sym put.0 ∙ ap Put.Length (sym long),
-    ap (take (length (record_of h (gs ++ (g ∷ []))))) (sym put.1 ∙ laid) ∙ take_at (record_of h (gs ++ (g ∷ []))) _ _ refl,
+    put.0 ∙ ap Ok (sym long),
+    ap (take (length (record_of h (gs ++ (g ∷ []))))) (put.1 ∙ laid) ∙ take_at (record_of h (gs ++ (g ∷ []))) _ _ refl,
   )
 
 pub building : Building

@@ -49,15 +49,6 @@ pub nth-segments : (t : List ℕ) (i : ℕ) → i < length t / item_bytes → nt
 unfolding segments_in
 nth-segments t i l = nth_read (length t / item_bytes) t i l
 
-pub nth_past : (t : List ℕ) (i : ℕ) → length t / item_bytes ≤ i → nth (segments_in t) i ≡ none
-nth_past t i l = get_or-eq_default (segments_in t) none (let h : length (segments_in t) ≤ i = rw (length-segments t) l in h)
-
--- an item that is counted is there with all its bytes
-pub item_there : (t : List ℕ) (i : ℕ) → i < length t / item_bytes → item_bytes * i + item_bytes ≤ length t
-item_there t i h =
-    let l : length t / 20 * 20 + length t % 20 ≡ length t = div-add-mod' (length t) 20 in
-    omega arith
-
 -- numbers that the fields of a segment have room for
 pub record Fit (g : Segment) : Type 0 where
   pub kind : g.kind < 256 ^ 2
@@ -72,11 +63,6 @@ fit_of u =
       start = le_bound (window u 4 8) 8 (length-window u 4 8);
       sectors = le_bound (window u 12 8) 8 (length-window u 12 8);
     }
-
--- the items after the head
-pub items_past : (s : List ℕ) → length s < head_size (head_of s) → items_of s ≡ []
-unfolding items_of
-items_past s h = drop_of_length-le s (let l : length s ≤ head_size (head_of s) = omega arith in l)
 
 pub items_are : (s : List ℕ) → items_of s ≡ drop (head_size (head_of s)) s
 unfolding items_of
@@ -95,18 +81,6 @@ pub kind-item : (t u : List ℕ) (i r : ℕ) → i < length t / item_bytes → u
 unfolding segment_of
 kind-item t u i r l e f =
     f ∙ (ap (λ (z : List ℕ). le (window z 2 2)) e ∙ sym (ap (λ (g : Segment). g.kind) (nth-segments t i l)))
-
--- the frame, as the code tests it
-pub framed-short : (s : List ℕ) → length s < head_size (head_of s) → framed s ≡ false
-unfolding framed
-framed-short s h =
-    and_false-right (eqb (le (window s 0 2)) (head_size (head_of s))) (leb (head_size (head_of s)) (length s) && eqb ((length s - head_size (head_of s)) % item_bytes) 0)
-    (and_false-left (leb (head_size (head_of s)) (length s)) (eqb ((length s - head_size (head_of s)) % item_bytes) 0) (lt-leb (head_size (head_of s)) (length s) h))
-
-pub framed_long : (s : List ℕ) → head_size (head_of s) ≤ length s
-    → eqb (le (window s 0 2)) (head_size (head_of s)) && eqb ((length s - head_size (head_of s)) % item_bytes) 0 ≡ framed s
-unfolding framed
-framed_long s h = rw (le-leb (head_size (head_of s)) (length s) h)
 
 -- what it is that a record is well formed
 pub record Formed (d : Device) (s : List ℕ) : Type 0 where

@@ -2,5 +2,4 @@
 pub mod Heads
 pub mod Items
 pub mod Making
-pub mod Putting
 pub mod Building

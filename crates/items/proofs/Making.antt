@@ -1,7 +1,7 @@
 -- Laws of making a record: parts written one after the other, reading what was made, and making what was read.
-use Prim.Native.Nat.{ℕ, zero, suc, ◌+◌, ◌-◌, ◌*◌, ◌/◌, ◌^◌, ◌≤◌, ◌<◌}
+use Prim.Native.Nat.{ℕ, zero, suc, ◌+◌, ◌-◌, ◌*◌, ◌/◌, ◌^◌, ◌≤◌, ◌<◌, min}
 use mathlib.Core.Path.{◌≡◌, refl, sym, ap, ◌∙◌}
-use mathlib.Core.Bool.{Bool, true, false, not, true≢false}
+use mathlib.Core.Bool.{true, false, true≢false}
 use mathlib.Core.List.{List, [], ◌∷◌, ◌++◌, append_assoc, append-nil}
 use native.Mathlib.Nat.{not-suc-le-zero, le_of_suc-le-suc}
 use native.Mathlib.Omega.{arith}
@@ -9,21 +9,25 @@ use borrow.Author.Tests.{le-leb, lt-leb}
 use lib.Dec.{lit<, lit≤}
 use lib.ListN.{length, take, drop, length-append, length-drop, take-append-drop}
 use lib.Seq.{length-take-le, take_at, drop_at, get_or-drop, split_at}
-use Rattle.refusal.specs.Numbers.{slice_size, record_form}
-use Rattle.refusal.specs.Tests.{◌else_refuse◌, first}
-use Rattle.refusal.proofs.Order.{refused, passed, first-pass, first_fail, first-nil}
-use Rattle.endian.specs.Bytes.{le, to_le, window, splice, fits, write_number, Bytes}
+use Rattle.std.specs.Prelude.{Ok, Err}
+use native.Mathlib.Decide.{dec_le}
+use Rattle.refusal.specs.declared.Reason.{Reason}
+use Rattle.refusal.specs.Refusals.{plain}
+use Rattle.refusal.specs.Reasons.{answer}
+use Rattle.refusal.specs.Tests.{first}
+use Rattle.refusal.proofs.Reasons.{err_other}
+use Rattle.endian.specs.Bytes.{le, to_le, window, splice, fits, Bytes}
 use Rattle.endian.proofs.Numbers.{length-to_le, le-to_le, to_le-le}
-use Rattle.endian.proofs.Parts.{length-window-fits, window-append, bytes_window, window-window, splice_next, splice-short, splice-fits, write-fits, write-short}
+use Rattle.endian.proofs.Parts.{length-window-fits, window-append, bytes_window, window-window, splice_next, splice-short}
 use Rattle.layout.specs.declared.Device.{Device}
 use Rattle.segments.specs.declared.Segment.{Segment}
 use Rattle.segments.specs.Segments.{none, nth}
 use Rattle.items.specs.declared.Item.{Item}
 use Rattle.items.specs.declared.Head.{Head}
-use Rattle.items.specs.declared.Head.TheVariants.{Plain, Marked, Unknown}
+use Rattle.items.specs.declared.Head.TheVariants.{Plain, Marked}
 use Rattle.items.specs.Head.{plain_kind, marked_kind, item_of, head_as, head_of, head_bytes, head_size, head_allowed, head_right, allows, item_bytes}
 use Rattle.items.specs.Items.{items_of, segment_of, read_items, segments_in, segments, size_in, well_formed}
-use Rattle.items.specs.Making.{segment_bytes, all_bytes, record_of, place, appended, removed, unless, begin_tests, begun}
+use Rattle.items.specs.Making.{segment_bytes, all_bytes, record_of, place, appended, removed, begin_tests, begun, begins, room_tests, put_tests, put_answer, put_left}
 use Rattle.items.proofs.Heads.{length-head, HeadFits, field, kind_is, head_made, size_made}
 use Rattle.items.proofs.Items.{window-drop, length-segments, Fit, items_are, length_items, Formed, formed, formed_back}
 
@@ -31,60 +35,43 @@ pub length-segment : (g : Segment) → length (segment_bytes g) ≡ item_bytes
 unfolding segment_bytes
 length-segment g = rw (length-append, length-append, length-append, length-to_le, length-to_le, length-to_le, length-to_le)
 
--- what writing a head answers and leaves where it does not fit
-pub head-short : (s : List ℕ) (h : Head) → length s < head_size h → (1 ≡ write_number s 0 (head_size h)) × (s ≡ splice s 0 (head_bytes h))
+-- a head and a segment that do not fit leave what was there
+pub head-short : (s : List ℕ) (h : Head) → length s < head_size h → splice s 0 (head_bytes h) ≡ s
 head-short s h l =
     let n : length (head_bytes h) ≡ head_size h = length-head h in
-    (sym (write-short s 0 (head_size h) (omega arith)), sym (splice-short s 0 (head_bytes h) (omega arith)))
+    splice-short s 0 (head_bytes h) (omega arith)
+
+pub put-short : (s : List ℕ) (at : ℕ) (g : Segment) → length s < at + 20 → splice s at (segment_bytes g) ≡ s
+put-short s at g h = splice-short s at (segment_bytes g) (rw length-segment h)
 
 -- three writes make a head
-pub plain-written : (s : List ℕ) (z : ℕ) (a b c : List ℕ) → 8 ≤ length s → a ≡ splice s 0 (to_le 2 8) → b ≡ splice a 2 (to_le 2 plain_kind) → c ≡ splice b 4 (to_le 4 z)
-    → (0 ≡ write_number s 0 (head_size (Plain z))) × (c ≡ splice s 0 (head_bytes (Plain z)))
+pub plain-written : (s : List ℕ) (z : ℕ) → head_size (Plain z) ≤ length s
+    → splice (splice (splice s 0 (to_le 2 8)) 2 (to_le 2 plain_kind)) 4 (to_le 4 z) ≡ splice s 0 (head_bytes (Plain z))
 unfolding head_bytes head_size
-plain-written s z a b c h i j k =
+plain-written s z h =
     let d : length (to_le 2 8) ≡ 2 = length-to_le 2 8 in
     let e : length (to_le 2 plain_kind) ≡ 2 = length-to_le 2 plain_kind in
-    let f : length (to_le 4 z) ≡ 4 = length-to_le 4 z in (
-      sym (write-fits s 0 8 h),
-      rw (k, j, i)
-          (ap (λ (x : List ℕ). splice x 4 (to_le 4 z)) (splice_next s 0 (to_le 2 8) (to_le 2 plain_kind) 2 (omega arith) (omega arith))
-          ∙ (splice_next s 0 (to_le 2 8 ++ to_le 2 plain_kind) (to_le 4 z) 4 (rw length-append (omega arith)) (omega arith)
-          ∙ ap (splice s 0) (append_assoc (to_le 2 8) (to_le 2 plain_kind) (to_le 4 z)))),
-    )
+    let f : length (to_le 4 z) ≡ 4 = length-to_le 4 z in
+    ap (λ (x : List ℕ). splice x 4 (to_le 4 z)) (splice_next s 0 (to_le 2 8) (to_le 2 plain_kind) 2 (omega arith) (omega arith))
+    ∙ (splice_next s 0 (to_le 2 8 ++ to_le 2 plain_kind) (to_le 4 z) 4 (rw length-append (omega arith)) (omega arith)
+    ∙ ap (splice s 0) (append_assoc (to_le 2 8) (to_le 2 plain_kind) (to_le 4 z)))
 
 -- four make one with a mark
-pub marked_written : (s : List ℕ) (z m : ℕ) (a b c w : List ℕ) → 12 ≤ length s → a ≡ splice s 0 (to_le 2 12) → b ≡ splice a 2 (to_le 2 marked_kind)
-    → c ≡ splice b 4 (to_le 4 z) → w ≡ splice c 8 (to_le 4 m) → (0 ≡ write_number s 0 (head_size (Marked z m))) × (w ≡ splice s 0 (head_bytes (Marked z m)))
+pub marked_written : (s : List ℕ) (z m : ℕ) → head_size (Marked z m) ≤ length s
+    → splice (splice (splice (splice s 0 (to_le 2 12)) 2 (to_le 2 marked_kind)) 4 (to_le 4 z)) 8 (to_le 4 m) ≡ splice s 0 (head_bytes (Marked z m))
 unfolding head_bytes head_size
-marked_written s z m a b c w h i j k l =
+marked_written s z m h =
     let d : length (to_le 2 12) ≡ 2 = length-to_le 2 12 in
     let e : length (to_le 2 marked_kind) ≡ 2 = length-to_le 2 marked_kind in
     let f : length (to_le 4 z) ≡ 4 = length-to_le 4 z in
-    let g : length (to_le 4 m) ≡ 4 = length-to_le 4 m in (
-      sym (write-fits s 0 12 h),
-      rw (l, k, j, i)
-          (ap (λ (x : List ℕ). splice (splice x 4 (to_le 4 z)) 8 (to_le 4 m)) (splice_next s 0 (to_le 2 12) (to_le 2 marked_kind) 2 (omega arith) (omega arith))
-          ∙ (ap (λ (x : List ℕ). splice x 8 (to_le 4 m)) (splice_next s 0 (to_le 2 12 ++ to_le 2 marked_kind) (to_le 4 z) 4 (rw length-append (omega arith)) (omega arith))
-          ∙ (splice_next s 0 ((to_le 2 12 ++ to_le 2 marked_kind) ++ to_le 4 z) (to_le 4 m) 8 (rw (length-append, length-append) (omega arith)) (omega arith)
-          ∙ ap (splice s 0) (simp append_assoc)))),
-    )
-
--- one that is not known has no bytes
-pub unknown-written : (s : List ℕ) (h : Head) → h ≡ Unknown → (0 ≡ write_number s 0 (head_size h)) × (s ≡ splice s 0 (head_bytes h))
-unfolding head_size head_bytes
-unknown-written s h e = rw e (sym (write-fits s 0 0 (omega arith)), sym (splice-fits s 0 [] (omega arith)))
-
--- a size that the code tests by number
-pub plain_size : (z : ℕ) → head_size (Plain z) ≡ 8
-unfolding head_size
-plain_size z = refl
-
-pub marked_size : (z m : ℕ) → head_size (Marked z m) ≡ 12
-unfolding head_size
-marked_size z m = refl
+    let g : length (to_le 4 m) ≡ 4 = length-to_le 4 m in
+    ap (λ (x : List ℕ). splice (splice x 4 (to_le 4 z)) 8 (to_le 4 m)) (splice_next s 0 (to_le 2 12) (to_le 2 marked_kind) 2 (omega arith) (omega arith))
+    ∙ (ap (λ (x : List ℕ). splice x 8 (to_le 4 m)) (splice_next s 0 (to_le 2 12 ++ to_le 2 marked_kind) (to_le 4 z) 4 (rw length-append (omega arith)) (omega arith))
+    ∙ (splice_next s 0 ((to_le 2 12 ++ to_le 2 marked_kind) ++ to_le 4 z) (to_le 4 m) 8 (rw (length-append, length-append) (omega arith)) (omega arith)
+    ∙ ap (splice s 0) (simp append_assoc)))
 
 -- four writes make a segment
-segment-written : (s : List ℕ) (at : ℕ) (g : Segment) → at + 20 ≤ length s
+pub segment-written : (s : List ℕ) (at : ℕ) (g : Segment) → at + 20 ≤ length s
     → splice (splice (splice (splice s at (to_le 2 20)) (at + 2) (to_le 2 g.kind)) (at + 4) (to_le 8 g.start)) (at + 12) (to_le 8 g.sectors)
     ≡ splice s at (segment_bytes g)
 unfolding segment_bytes
@@ -100,45 +87,48 @@ segment-written s at g h =
     ∙ (splice_next s at (to_le 2 20 ++ to_le 2 g.kind ++ to_le 8 g.start) (to_le 8 g.sectors) (at + 12)
     (rw (length-append, length-append) (omega arith)) (omega arith) ∙ ap (splice s at) (simp append_assoc)))
 
--- what `put_segment` answers and leaves: it does not fit, or its writes came back one after the other
-pub put-short : (s : List ℕ) (at : ℕ) (g : Segment) → length s < at + 20
-    → (1 ≡ write_number s at item_bytes) × (s ≡ splice s at (segment_bytes g))
-put-short s at g h =
-    let m : length s < at + length (segment_bytes g) = rw length-segment h in
-    (sym (write-short s at item_bytes h), sym (splice-short s at (segment_bytes g) m))
+-- the number of a record that is begun
+pub begin-short : (s : List ℕ) (h : Head) → length s < head_size h → first (begin_tests s h) ≡ 1
+unfolding first fits
+begin-short s h l = rw (lt-leb (0 + head_size h) (length s) (omega arith))
 
-pub put_written : (s : List ℕ) (at : ℕ) (g : Segment) (a b c d : List ℕ) → at + 20 ≤ length s
-    → a ≡ splice s at (to_le 2 20) → b ≡ splice a (at + 2) (to_le 2 g.kind) → c ≡ splice b (at + 4) (to_le 8 g.start)
-    → d ≡ splice c (at + 12) (to_le 8 g.sectors)
-    → (0 ≡ write_number s at item_bytes) × (d ≡ splice s at (segment_bytes g))
-put_written s at g a b c d n i j k l = (sym (write-fits s at item_bytes n), rw (l, k, j, i) (segment-written s at g n))
+pub begin_form : (s : List ℕ) (h : Head) → head_size h ≤ length s → head_allowed h ≡ false → first (begin_tests s h) ≡ 17
+unfolding first fits
+begin_form s h l e = rw (le-leb (0 + head_size h) (length s) (omega arith), e)
 
--- the same of `begin`
-pub begin-short : (s : List ℕ) (h : Head) → length s < head_size h → (1 ≡ first (begin_tests s h)) × (s ≡ begun s h)
-unfolding fits
-begin-short s h l =
-    let q : 1 ≡ first (begin_tests s h) = sym (first_fail (fits s 0 (head_size h)) slice_size ((head_allowed h else_refuse record_form) ∷ []) (lt-leb (0 + head_size h) (length s) (omega arith))) in
-    (q, ap (λ (z : ℕ). unless z (splice s 0 (head_bytes h)) s) q)
-
-room_there : (s : List ℕ) (h : Head) (n : ℕ) → head_size h ≤ length s → n ≡ first ((head_allowed h else_refuse record_form) ∷ []) → n ≡ first (begin_tests s h)
-unfolding fits
-room_there s h n l e = e ∙ sym (first-pass (fits s 0 (head_size h)) slice_size ((head_allowed h else_refuse record_form) ∷ []) (le-leb (0 + head_size h) (length s) (omega arith)))
-
-pub begin_form : (s : List ℕ) (h : Head) (r : Bool) → head_size h ≤ length s → r ≡ head_allowed h → not r ≡ true → (17 ≡ first (begin_tests s h)) × (s ≡ begun s h)
-begin_form s h r l e t =
-    let q : 17 ≡ first (begin_tests s h) = room_there s h 17 l (refused r (head_allowed h) 17 [] e t) in
-    (q, ap (λ (z : ℕ). unless z (splice s 0 (head_bytes h)) s) q)
-
-pub begin-written : (s w : List ℕ) (h : Head) (r : Bool) (n : ℕ) → head_size h ≤ length s → r ≡ head_allowed h → not r ≡ false
-    → n ≡ write_number s 0 (head_size h) → w ≡ splice s 0 (head_bytes h) → (n ≡ first (begin_tests s h)) × (w ≡ begun s h)
-begin-written s w h r n l e t k i =
-    let z : n ≡ 0 = k ∙ write-fits s 0 (head_size h) (omega arith) in
-    let q : n ≡ first (begin_tests s h) = z ∙ room_there s h 0 l (passed r (head_allowed h) 17 [] e t 0 (sym first-nil)) in
-    (q, i ∙ (ap (λ (y : ℕ). unless y (splice s 0 (head_bytes h)) s) (sym z) ∙ ap (λ (y : ℕ). unless y (splice s 0 (head_bytes h)) s) q))
+pub begin_fits : (s : List ℕ) (h : Head) → head_size h ≤ length s → head_allowed h ≡ true → first (begin_tests s h) ≡ 0
+unfolding first fits
+begin_fits s h l e = rw (le-leb (0 + head_size h) (length s) (omega arith), e)
 
 -- a record begun with a head that is within its limits and has room
 pub begun_is : (s : List ℕ) (h : Head) → head_allowed h ≡ true → head_size h ≤ length s → begun s h ≡ splice s 0 (head_bytes h)
-begun_is s h r l = sym (begin-written s (splice s 0 (head_bytes h)) h true 0 l (sym r) refl (sym (write-fits s 0 (head_size h) (omega arith))) refl).1
+begun_is s h r l = rw (begin_fits s h l r)
+
+-- bytes that are refused have no room
+pub no_room : (out : List ℕ) (at n : ℕ) (e : Reason) → answer (first (room_tests out at n)) (tt {0}) ≡ Err e → length out < at + n
+unfolding first fits
+no_room out at n e h =
+    elim (dec_le (at + n) (length out)) [
+      | yes l ↦ absurd (err_other (first (room_tests out at n)) (plain (first (room_tests out at n))) tt e h (rw (le-leb (at + n) (length out) l)))
+      | no l ↦ omega arith
+    ]
+
+-- a segment that is put, and one that is not
+module _ (out : List ℕ) (i : ℕ) (g : Segment) (b : begins out ≡ true) where
+  put_fits : place out i + item_bytes ≤ length out → first (put_tests out i) ≡ 0
+  unfolding first fits
+  put_fits l = rw (b, le-leb (place out i + item_bytes) (length out) l)
+
+  put_no : length out < place out i + item_bytes → first (put_tests out i) ≡ 1
+  unfolding first fits
+  put_no l = rw (b, lt-leb (place out i + item_bytes) (length out) l)
+
+  pub put_done : place out i + item_bytes ≤ length out
+      → (put_answer out i ≡ Ok (place out i + item_bytes)) × (put_left out i g ≡ splice out (place out i) (segment_bytes g))
+  put_done l = (rw (put_fits l), rw (put_fits l))
+
+  pub put_kept : (at : ℕ) → at ≡ min (place out i) (length out) → length out < at + item_bytes → splice out at (segment_bytes g) ≡ put_left out i g
+  put_kept at e l = rw (put_no (let m : length out < place out i + item_bytes = omega arith in m)) (put-short out at g l)
 
 -- READ WHAT WAS MADE: an item
 module _ (g : Segment) where

@@ -1,9 +1,8 @@
 -- Making a record step by step, in other words: `proofs/Building.antt` proves `Beginning`, `Starting` and `Building`.
-use Rattle.std.specs.Prelude.{ℕ, ◌+◌, ◌≤◌, ◌<◌, ◌≡◌, true, false, List, [], ◌∷◌, ◌++◌, length, take, drop}
+use Rattle.std.specs.Prelude.{ℕ, ◌+◌, ◌≤◌, ◌<◌, ◌≡◌, true, false, List, [], ◌∷◌, ◌++◌, length, take, drop, Ok}
 use Rattle.refusal.specs.Tests.{first}
 use Rattle.segments.specs.declared.Segment.{Segment}
 use Rattle.items.specs.declared.Head.{Head}
-use Rattle.items.specs.declared.Put.TheVariants as Put
 use Rattle.items.specs.Head.{head_size, head_allowed}
 use Rattle.items.specs.Making.{record_of, begin_tests, begun, put_answer, put_left}
 
@@ -32,4 +31,4 @@ Starting = (out : List ℕ) (h : Head) → Begins out h
 abbrev pub Building : Type 0
 Building =
     (out : List ℕ) (h : Head) (gs : List Segment) (g : Segment) → head_allowed h ≡ true → Holds out h gs → length (record_of h gs) + 20 ≤ length out
-    → (put_answer out (length gs) ≡ Put.Length (length (record_of h (gs ++ (g ∷ []))))) × Holds (put_left out (length gs) g) h (gs ++ (g ∷ []))
+    → (put_answer out (length gs) ≡ Ok (length (record_of h (gs ++ (g ∷ []))))) × Holds (put_left out (length gs) g) h (gs ++ (g ∷ []))

@@ -1,11 +1,12 @@
 -- Making a record: the bytes of a head and of segments one after the other.
-use Rattle.std.specs.Prelude.{ℕ, ◌+◌, ◌*◌, Bool, cond, ◌&&◌, List, [], ◌∷◌, ◌++◌, eqb, leb, length, take, drop}
+use Rattle.std.specs.Prelude.{ℕ, ◌+◌, ◌*◌, Bool, cond, ◌&&◌, List, [], ◌∷◌, ◌++◌, eqb, leb, length, take, drop, Result, Ok, Err}
 use Rattle.refusal.specs.Numbers.{record_form, slice_size}
+use Rattle.refusal.specs.declared.Reason.{Reason}
+use Rattle.refusal.specs.Reasons.{answer}
 use Rattle.refusal.specs.Tests.{Test, ◌else_refuse◌, first}
 use Rattle.endian.specs.Bytes.{le, to_le, window, splice, fits}
 use Rattle.segments.specs.declared.Segment.{Segment}
 use Rattle.items.specs.declared.Head.{Head}
-use Rattle.items.specs.declared.Put.{Put}
 use Rattle.items.specs.Head.{head_of, head_bytes, head_size, head_allowed, item_bytes}
 
 -- length 20, kind, start, length
@@ -37,6 +38,10 @@ removed s p = take (place s p) s ++ drop (place s p + item_bytes) s
 abbrev pub unless : ℕ → List ℕ → List ℕ → List ℕ
 unless n made out = cond (eqb n 0) made out
 
+-- room for n bytes from place `at` on
+abbrev pub room_tests : List ℕ → ℕ → ℕ → List Test
+room_tests out at n = (fits out at n else_refuse slice_size) ∷ []
+
 -- a record begun with a head: room for its bytes, then whether it is within its limits
 abbrev pub begin_tests : List ℕ → Head → List Test
 begin_tests out h = (fits out 0 (head_size h) else_refuse slice_size) ∷ (head_allowed h else_refuse record_form) ∷ []
@@ -53,17 +58,13 @@ begins s = eqb (le (window s 0 2)) (head_size (head_of s)) && (leb (head_size (h
 abbrev pub put_tests : List ℕ → ℕ → List Test
 put_tests out i = (begins out else_refuse record_form) ∷ (fits out (place out i) item_bytes else_refuse slice_size) ∷ []
 
-abbrev pub put_answer : List ℕ → ℕ → Put
-put_answer out i = cond (eqb (first (put_tests out i)) 0) (Put.Length (place out i + item_bytes)) (Put.Refused (first (put_tests out i)))
+abbrev pub put_answer : List ℕ → ℕ → Result ℕ Reason
+put_answer out i = answer (first (put_tests out i)) (place out i + item_bytes)
 
 abbrev pub put_left : List ℕ → ℕ → Segment → List ℕ
 put_left out i g = unless (first (put_tests out i)) (splice out (place out i) (segment_bytes g)) out
 
--- the refusal number, and the value
-abbrev pub put_number : Put → ℕ
-put_number (Put.Length n) = 0
-put_number (Put.Refused n) = n
-
-abbrev pub put_values : Put → List ℕ
-put_values (Put.Length n) = n ∷ []
-put_values (Put.Refused n) = []
+-- the value; the refusal number is `number_in` of it (`refusal`, Reasons)
+abbrev pub put_values : Result ℕ Reason → List ℕ
+put_values (Ok n) = n ∷ []
+put_values (Err r) = []

@@ -1,18 +1,20 @@
 // The items of a segment record: a head, then segments, each with its length first, then its kind. Read and made; what depends on
 // the head's kind is here, and what changes it in `heads`.
-#![tactic(auto)]
+#![tactic(auto, unfolding(crate::specs::Head::item_of, crate::specs::Head::head_of, crate::specs::Head::head_kind, crate::specs::Head::head_size, crate::specs::Head::head_bytes, crate::specs::Head::block_size, crate::specs::Head::low_water, crate::specs::Head::head_allowed, crate::specs::Head::head_right, crate::specs::Head::allows, crate::specs::Head::range_for, crate::specs::Head::most_segments, crate::specs::Items::items_of, crate::specs::Items::segment_of, crate::specs::Items::item_right, crate::specs::Items::framed, crate::specs::Items::well_formed, crate::specs::Making::segment_bytes, crate::specs::Making::place, crate::specs::Making::begins, refusal::specs::Tests::first, endian::specs::Bytes::fits, endian::specs::Bytes::splice))]
 
 ghost use Rattle.std.specs.Prelude.{◌≡◌, ◌*◌, ◌/◌, ◌<◌, ◌≤◌, min, length};
 ghost use Rattle.refusal.specs.Tests.{first};
-ghost use Rattle.endian.specs.Bytes.{le, window, write_number, splice};
+ghost use Rattle.refusal.specs.Reasons.{answer};
+ghost use Rattle.endian.specs.Bytes.{le, window, splice};
 ghost use Rattle.search.specs.Search.{every};
 ghost use Rattle.segments.specs.Segments.{nth};
 ghost use Rattle.items.specs.declared.Head.TheVariants.{Plain, Marked};
 ghost use Rattle.items.specs.Head.{item_of, is_segment, head_of, head_kind, head_size, head_bytes, block_size, low_water, block_size_allowed, mark_allowed, head_allowed, head_right, allows, data_range, range_for, item_bytes, most_segments};
 ghost use Rattle.items.specs.Items.{items_of, segment_of, segments_in, segments, item_right, framed, well_formed};
-ghost use Rattle.items.specs.Making.{segment_bytes, place, begin_tests, begun, begins, put_answer, put_left};
+ghost use Rattle.items.specs.Making.{segment_bytes, place, room_tests, begin_tests, begun, begins, put_answer, put_left};
 
 use layout::Device;
+use refusal::Reason;
 use segments::{Range, Segment};
 
 // Bytes of a segment's item.
@@ -44,6 +46,35 @@ pub enum Item {
     Unknown,
 }
 
+impl From<u16> for Item {
+    ghost from_gives = { λ k i. i ≡ item_of k };
+
+    // What an item of this kind is.
+    fn from(kind: u16) -> Item {
+        match kind {
+            1 => Item::ThinMetadata,
+            2 => Item::ThinData,
+            3 => Item::Spare,
+            4 => Item::MetadataVolume,
+            PLAIN_KIND => Item::Head,
+            MARKED_KIND => Item::MarkedHead,
+            0 | 5..=15 | 18..=65535 => Item::Unknown,
+        }
+    }
+}
+
+impl Item {
+    // Whether an item is a segment.
+    fn is_segment(self) -> bool
+        ensures { result ≡ is_segment self }
+    {
+        matches!(
+            self,
+            Item::ThinMetadata | Item::ThinData | Item::Spare | Item::MetadataVolume
+        )
+    }
+}
+
 // The head of a record: of kind 16, with the data block size in sectors; of kind 17, with that and the low water mark in blocks; or none that is
 // known.
 #[derive(Clone, Copy)]
@@ -53,60 +84,16 @@ pub enum Head {
     Unknown,
 }
 
-// What `put_at` answers: a record's length in bytes.
-#[derive(Clone, Copy)]
-pub enum Put {
-    Length(usize),
-    Refused(u8),
-}
-
-// What an item of this kind is.
-fn item_of(kind: u16) -> Item
-    ensures { result ≡ item_of kind }
-{
-    match kind {
-        0 => Item::Unknown,
-        1 => Item::ThinMetadata,
-        2 => Item::ThinData,
-        3 => Item::Spare,
-        4 => Item::MetadataVolume,
-        5..=15 => Item::Unknown,
-        16 => Item::Head,
-        17 => Item::MarkedHead,
-        18..=65535 => Item::Unknown,
-    }
-}
-
-// Whether an item is a segment.
-fn is_segment(i: Item) -> bool
-    ensures { result ≡ is_segment i }
-{
-    match i {
-        Item::ThinMetadata => true,
-        Item::ThinData => true,
-        Item::Spare => true,
-        Item::MetadataVolume => true,
-        Item::Head => false,
-        Item::MarkedHead => false,
-        Item::Unknown => false,
-    }
-}
-
 // The head of a record, of any bytes.
 pub fn head_of(s: &[u8]) -> Head
     ensures { result ≡ head_of s.now }
 {
     let size = endian::read_u32(s, 4);
     let mark = endian::read_u32(s, 8);
-    let i = item_of(endian::read_u16(s, 2));
-    match i {
-        Item::ThinMetadata => Head::Unknown,
-        Item::ThinData => Head::Unknown,
-        Item::Spare => Head::Unknown,
-        Item::MetadataVolume => Head::Unknown,
+    match Item::from(endian::read_u16(s, 2)) {
         Item::Head => Head::Plain(size),
         Item::MarkedHead => Head::Marked(size, mark),
-        Item::Unknown => Head::Unknown,
+        _ => Head::Unknown,
     }
 }
 
@@ -137,8 +124,7 @@ pub fn block_size(h: Head) -> u32
     ensures { result ≡ block_size h }
 {
     match h {
-        Head::Plain(size) => size,
-        Head::Marked(size, _) => size,
+        Head::Plain(size) | Head::Marked(size, _) => size,
         Head::Unknown => 0,
     }
 }
@@ -184,8 +170,7 @@ fn head_right(d: Device, h: Head) -> bool
     ensures { result ≡ head_right d h }
 {
     match h {
-        Head::Plain(_) => head_allowed(h),
-        Head::Marked(_, _) => head_allowed(h),
+        Head::Plain(_) | Head::Marked(_, _) => head_allowed(h),
         Head::Unknown => false,
     }
 }
@@ -195,8 +180,7 @@ pub fn allowed(h: Head, kind: u16) -> bool
     ensures { result ≡ allows h kind }
 {
     match h {
-        Head::Plain(_) => is_segment(item_of(kind)),
-        Head::Marked(_, _) => is_segment(item_of(kind)),
+        Head::Plain(_) | Head::Marked(_, _) => Item::from(kind).is_segment(),
         Head::Unknown => false,
     }
 }
@@ -216,8 +200,7 @@ pub fn range_for(d: Device, h: Head, kind: u16) -> Range
     ensures { result ≡ range_for d h kind }
 {
     match h {
-        Head::Plain(_) => data_range(d),
-        Head::Marked(_, _) => data_range(d),
+        Head::Plain(_) | Head::Marked(_, _) => data_range(d),
         Head::Unknown => Range { start: 0, end: 0 },
     }
 }
@@ -271,14 +254,10 @@ fn segment_of(u: &[u8]) -> Segment
 pub fn segment_in(t: &[u8], i: usize) -> Segment
     ensures { result ≡ nth (segments_in t.now) i }
 {
-    if i < t.len() / ITEM_BYTES {
+    if i < count_in(t) {
         return segment_of(item_at(t, i));
     }
-    Segment {
-        kind: 0,
-        start: 0,
-        sectors: 0,
-    }
+    segments::NONE
 }
 
 // The number of segments of a record, of any bytes.
@@ -308,13 +287,10 @@ fn item_right(h: Head, t: &[u8], i: usize) -> bool
 fn items_right(h: Head, t: &[u8]) -> bool
     ensures { result ≡ every (item_right h t.now) (length (segments_in t.now)) }
 {
-    let n = count_in(t);
-    let mut i = 0;
-    while i < n {
+    for i in 0..count_in(t) {
         if !item_right(h, t, i) {
             return false;
         }
-        i += 1;
     }
     true
 }
@@ -353,78 +329,70 @@ pub fn place_in(s: &[u8], i: usize) -> usize
     h + ITEM_BYTES * i
 }
 
-// Writes a head of kind 16 to the start of out and answers 0; where it does not fit, writes nothing and answers 1.
-fn put_plain(out: &mut [u8], size: u32) -> u8
-    ensures value { result ≡ write_number out.old 0 (head_size (Plain size)) }
-    ensures out_after { out.new ≡ splice out.old 0 (head_bytes (Plain size)) }
+// Writes a head of kind 16 to the start of out, which has room for it. One function for each kind: 17 has a field more.
+fn put_plain(out: &mut [u8], size: u32)
+    requires { head_size (Plain size) ≤ length out.old }
+    ensures { out.new ≡ splice out.old 0 (head_bytes (Plain size)) }
 {
-    if out.len() < HEAD_BYTES {
-        return refusal::SLICE_SIZE;
-    }
     endian::write_u16(out, 0, HEAD_BYTES as u16);
     endian::write_u16(out, 2, PLAIN_KIND);
     endian::write_u32(out, 4, size);
-    refusal::NONE
 }
 
 // The same of a head of kind 17.
-fn put_marked(out: &mut [u8], size: u32, mark: u32) -> u8
-    ensures value { result ≡ write_number out.old 0 (head_size (Marked size mark)) }
-    ensures out_after { out.new ≡ splice out.old 0 (head_bytes (Marked size mark)) }
+fn put_marked(out: &mut [u8], size: u32, mark: u32)
+    requires { head_size (Marked size mark) ≤ length out.old }
+    ensures { out.new ≡ splice out.old 0 (head_bytes (Marked size mark)) }
 {
-    if out.len() < MARKED_HEAD_BYTES {
-        return refusal::SLICE_SIZE;
-    }
     endian::write_u16(out, 0, MARKED_HEAD_BYTES as u16);
     endian::write_u16(out, 2, MARKED_KIND);
     endian::write_u32(out, 4, size);
     endian::write_u32(out, 8, mark);
-    refusal::NONE
 }
 
-// Writes a head, within its limits or not, to the start of out and answers 0; where it does not fit, writes nothing and answers 1. One that is
-// not known has no bytes.
-pub fn put_head(out: &mut [u8], h: Head) -> u8
-    ensures value { result ≡ write_number out.old 0 (head_size h) }
+// Writes a head, within its limits or not, to the start of out; where it does not fit, writes nothing. One that is not known has no bytes.
+pub fn put_head(out: &mut [u8], h: Head) -> Result<(), Reason>
+    ensures value { result ≡ answer (first (room_tests out.old 0 (head_size h))) tt }
     ensures out_after { out.new ≡ splice out.old 0 (head_bytes h) }
 {
+    if out.len() < head_size(h) {
+        return Err(Reason::SliceSize);
+    }
     match h {
         Head::Plain(size) => put_plain(out, size),
         Head::Marked(size, mark) => put_marked(out, size, mark),
-        Head::Unknown => refusal::NONE,
+        Head::Unknown => {}
     }
+    Ok(())
 }
 
-// Begins a record: writes its head to the start of out. 1 where there is no room, 17 for a head that is not within its limits.
-pub fn begin(out: &mut [u8], h: Head) -> u8
-    ensures value { result ≡ first (begin_tests out.old h) }
+// Begins a record: writes its head to the start of out. Refused where there is no room, and for a head that is not within its limits.
+pub fn begin(out: &mut [u8], h: Head) -> Result<(), Reason>
+    ensures value { result ≡ answer (first (begin_tests out.old h)) tt }
     ensures out_after { out.new ≡ begun out.old h }
 {
     if out.len() < head_size(h) {
-        return refusal::SLICE_SIZE;
+        return Err(Reason::SliceSize);
     }
     if !head_allowed(h) {
-        return refusal::RECORD_FORM;
+        return Err(Reason::RecordForm);
     }
     put_head(out, h)
 }
 
-// Writes a segment's item to out from byte `at` on and answers 0; where it does not fit there, writes nothing and answers 1.
-pub fn put_segment(out: &mut [u8], at: usize, g: Segment) -> u8
-    ensures value { result ≡ write_number out.old at item_bytes }
+// Writes a segment's item to out from byte `at` on; where it does not fit there, writes nothing.
+pub fn put_segment(out: &mut [u8], at: usize, g: Segment) -> Result<(), Reason>
+    ensures value { result ≡ answer (first (room_tests out.old at item_bytes)) tt }
     ensures out_after { out.new ≡ splice out.old at (segment_bytes g) }
 {
-    if out.len() < at {
-        return refusal::SLICE_SIZE;
-    }
-    if out.len() - at < ITEM_BYTES {
-        return refusal::SLICE_SIZE;
+    if out.len().saturating_sub(at) < ITEM_BYTES {
+        return Err(Reason::SliceSize);
     }
     endian::write_u16(out, at, ITEM_BYTES as u16);
     endian::write_u16(out, at + 2, g.kind);
     endian::write_u64(out, at + 4, g.start);
     endian::write_u64(out, at + 12, g.sectors);
-    refusal::NONE
+    Ok(())
 }
 
 // Whether s begins with a head: of the length of its kind, all of it there, and within its limits.
@@ -437,19 +405,16 @@ fn begins(s: &[u8]) -> bool
     (endian::read_u16(s, 0) as usize == n) & whole
 }
 
-// Puts a segment at position i of a record that was begun in out; the record that ends with it then has so many bytes. 17 where out does
-// not begin with a head, 1, last, where there is no room; then out stays.
-pub fn put_at(out: &mut [u8], i: usize, g: Segment) -> Put
+// Puts a segment at position i of a record that was begun in out; the record that ends with it then has so many bytes. Refused where out does
+// not begin with a head and, last, where there is no room; then out stays.
+pub fn put_at(out: &mut [u8], i: usize, g: Segment) -> Result<usize, Reason>
     ensures value { result ≡ put_answer out.old i }
     ensures out_after { out.new ≡ put_left out.old i g }
 {
     if !begins(out) {
-        return Put::Refused(refusal::RECORD_FORM);
+        return Err(Reason::RecordForm);
     }
     let at = place_in(out, i);
-    let n = put_segment(out, at, g);
-    if n != 0 {
-        return Put::Refused(n);
-    }
-    Put::Length(at + ITEM_BYTES)
+    put_segment(out, at, g)?;
+    Ok(at + ITEM_BYTES)
 }

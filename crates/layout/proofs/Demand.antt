@@ -9,8 +9,11 @@ use Rattle.refusal.specs.Tests.{first, AllHold, Ascending}
 use Rattle.refusal.proofs.Order.{first-zero, first_all}
 use Rattle.layout.specs.declared.Device.{Device}
 use Rattle.layout.specs.Limits.{record_limit, device_tests}
-use Rattle.layout.specs.declared.BlocksLocated.TheVariants as BlocksLocated
-use Rattle.layout.specs.Places.{area_offset, copy_bytes, map_of, located_at, blocks_located}
+use Rattle.std.specs.Prelude.{Ok, Err}
+use Rattle.refusal.specs.declared.Reason.TheVariants.{DeviceSize}
+use Rattle.refusal.specs.Reasons.{answer}
+use Rattle.layout.specs.declared.BlockSectors.{BlockSectors}
+use Rattle.layout.specs.Places.{area_offset, copy_bytes, map_of, blocks_located}
 use Rattle.layout.specs.Demand.{Sizes, Allowed, Exactly, Tiled, Mapped, Tiling, Beginning}
 use Rattle.layout.proofs.Laws.{metadata_facts, metadata_test}
 
@@ -79,7 +82,7 @@ mapped d h =
       back_b = refl;
       data_start_lem = refl;
       data_end_lem = refl;
-      answer = ap (λ (n : ℕ). located_at n (map_of d)) (tests d h);
+      answer = ap (λ (n : ℕ). answer n (map_of d)) (tests d h);
     }
 
 pub tiling : Tiling
@@ -88,6 +91,6 @@ tiling d h = (tiled d h, mapped d h)
 pub beginning : Beginning
 beginning s =
     record {
-      blocks = λ d h e. ap blocks_located (sym e) ∙ ap (λ (b : Bool). cond b (BlocksLocated.At 1 (d.sectors - 7)) (BlocksLocated.Refused 4)) (le-leb 2097152 d.sectors h.sectors);
-      small = λ l. ap (λ (b : Bool). cond b (BlocksLocated.At 1 (s - 7)) (BlocksLocated.Refused 4)) (lt-leb 2097152 s l);
+      blocks = λ d h e. ap blocks_located (sym e) ∙ ap (λ (b : Bool). cond b (Ok (record { front = 1; back = d.sectors - 7 })) (Err DeviceSize)) (le-leb 2097152 d.sectors h.sectors);
+      small = λ l. ap (λ (b : Bool). cond b (Ok (record { front = 1; back = s - 7 })) (Err DeviceSize)) (lt-leb 2097152 s l);
     }

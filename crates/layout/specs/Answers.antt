@@ -1,14 +1,13 @@
--- The numbers of an answer: the refusal number, 0 for none, and the values of each case.
-use Rattle.std.specs.Prelude.{ℕ, List, [], ◌∷◌}
+-- The values of an answer; its refusal number is `number_in` of it (`refusal`, Reasons).
+use Rattle.std.specs.Prelude.{ℕ, List, [], ◌∷◌, Result, Ok, Err}
 use Rattle.layout.specs.declared.Side.{Side}
 use Rattle.layout.specs.declared.Side.TheVariants.{Front, Back}
 use Rattle.layout.specs.declared.Area.{Area}
 use Rattle.layout.specs.declared.Area.TheVariants.{A, B}
 use Rattle.layout.specs.declared.CopyMap.{CopyMap}
 use Rattle.layout.specs.declared.DeviceMap.{DeviceMap}
-use Rattle.layout.specs.declared.Located.{Located}
-use Rattle.layout.specs.declared.Located.TheVariants.{At, Refused}
-use Rattle.layout.specs.declared.BlocksLocated.{BlocksLocated}
+use Rattle.layout.specs.declared.BlockSectors.{BlockSectors}
+use Rattle.refusal.specs.declared.Reason.{Reason}
 
 -- a side and an area as numbers
 abbrev pub side_number : Side → ℕ
@@ -28,19 +27,11 @@ abbrev pub map_numbers : DeviceMap → List ℕ
 map_numbers p = copy_map_numbers p.front (copy_map_numbers p.back (p.start ∷ p.end ∷ []))
 
 -- what `locate` answers
-abbrev pub located_number : Located → ℕ
-located_number (At p) = 0
-located_number (Refused n) = n
-
-abbrev pub located_values : Located → List ℕ
-located_values (At p) = map_numbers p
-located_values (Refused n) = []
+abbrev pub located_values : Result DeviceMap Reason → List ℕ
+located_values (Ok p) = map_numbers p
+located_values (Err r) = []
 
 -- what `locate_blocks` answers
-abbrev pub blocks_number : BlocksLocated → ℕ
-blocks_number (BlocksLocated.At f b) = 0
-blocks_number (BlocksLocated.Refused n) = n
-
-abbrev pub blocks_values : BlocksLocated → List ℕ
-blocks_values (BlocksLocated.At f b) = f ∷ b ∷ []
-blocks_values (BlocksLocated.Refused n) = []
+abbrev pub blocks_values : Result BlockSectors Reason → List ℕ
+blocks_values (Ok b) = b.front ∷ b.back ∷ []
+blocks_values (Err r) = []

@@ -1,12 +1,11 @@
 -- The sizes and limits in the format's numbers, where things lie on its example device with 100 reserved sectors at each end, which
 -- device numbers are allowed, where things lie on every such device, and where to look first. `proofs/Demand.antt` proves it.
-use Rattle.std.specs.Prelude.{ℕ, ◌+◌, ◌/◌, ◌%◌, ◌≤◌, ◌<◌, ◌≡◌, ◌↔◌, [], ◌∷◌}
+use Rattle.std.specs.Prelude.{ℕ, ◌+◌, ◌/◌, ◌%◌, ◌≤◌, ◌<◌, ◌≡◌, ◌↔◌, [], ◌∷◌, Ok, Err}
 use Rattle.refusal.specs.Tests.{first}
 use Rattle.layout.specs.declared.Device.{Device}
 use Rattle.layout.specs.declared.Side.TheVariants.{Front, Back}
 use Rattle.layout.specs.declared.Area.TheVariants.{A, B}
-use Rattle.layout.specs.declared.Located.TheVariants.{At}
-use Rattle.layout.specs.declared.BlocksLocated.TheVariants as BlocksLocated
+use Rattle.refusal.specs.declared.Reason.TheVariants.{DeviceSize}
 use Rattle.layout.specs.Limits.{most_nanoseconds, sector_bytes, record_limit, device_tests}
 use Rattle.layout.specs.Places.{header_sector, block_sector, area_sector, data_start, data_end, area_offset, copy_bytes, map_of, located, blocks_located}
 use Rattle.layout.specs.Answers.{map_numbers}
@@ -65,7 +64,7 @@ pub record Mapped (d : Device) : Type 0 where
   pub back_b : (map_of d).back.b ≡ area_sector Back B d
   pub data_start_lem : (map_of d).start ≡ data_start d
   pub data_end_lem : (map_of d).end ≡ data_end d
-  pub answer : located d ≡ At (map_of d)
+  pub answer : located d ≡ Ok (map_of d)
 
 -- With device numbers that are allowed, the parts tile the device.
 abbrev pub Tiling : Type 0
@@ -74,8 +73,8 @@ Tiling = (d : Device) → Allowed d → Tiled d × Mapped d
 -- Where the two signature blocks lie on a drive, before any was read: those of every allowed device of its size, and 4 for a size that no
 -- device has.
 pub record Begins (s : ℕ) : Type 0 where
-  pub blocks : (d : Device) → Allowed d → d.sectors ≡ s → blocks_located s ≡ BlocksLocated.At (map_of d).front.block (map_of d).back.block
-  pub small : s < 2097152 → blocks_located s ≡ BlocksLocated.Refused 4
+  pub blocks : (d : Device) → Allowed d → d.sectors ≡ s → blocks_located s ≡ Ok (record { front = (map_of d).front.block; back = (map_of d).back.block })
+  pub small : s < 2097152 → blocks_located s ≡ Err DeviceSize
 
 abbrev pub Beginning : Type 0
 Beginning = (s : ℕ) → Begins s

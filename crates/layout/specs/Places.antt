@@ -1,6 +1,6 @@
 -- Where things lie: docs/FORMAT.md, 'Where things lie', in its order. Differences of numbers stop at 0; with device numbers
 -- that are allowed none does.
-use Rattle.std.specs.Prelude.{ℕ, ◌+◌, ◌-◌, ◌/◌, cond, eqb}
+use Rattle.std.specs.Prelude.{ℕ, ◌+◌, ◌-◌, ◌/◌, cond, Result, Ok, Err}
 use Rattle.refusal.specs.Tests.{first}
 use Rattle.layout.specs.declared.Device.{Device}
 use Rattle.layout.specs.declared.Side.{Side}
@@ -9,10 +9,10 @@ use Rattle.layout.specs.declared.Area.{Area}
 use Rattle.layout.specs.declared.Area.TheVariants.{A, B}
 use Rattle.layout.specs.declared.CopyMap.{CopyMap}
 use Rattle.layout.specs.declared.DeviceMap.{DeviceMap}
-use Rattle.layout.specs.declared.Located.{Located}
-use Rattle.layout.specs.declared.Located.TheVariants.{At, Refused}
-use Rattle.layout.specs.declared.BlocksLocated.{BlocksLocated}
+use Rattle.layout.specs.declared.BlockSectors.{BlockSectors}
+use Rattle.refusal.specs.declared.Reason.{Reason}
 use Rattle.refusal.specs.Numbers.{device_size}
+use Rattle.refusal.specs.Reasons.{reason, answer}
 use Rattle.layout.specs.Limits.{size_allowed, device_tests, header_sectors, header_bytes, record_limit}
 
 -- front: header in sectors 0 to 7; back: header in the last 8 sectors
@@ -68,17 +68,14 @@ copy_map_of s d =
 abbrev pub map_of : Device → DeviceMap
 map_of d = record { front = copy_map_of Front d; back = copy_map_of Back d; start = data_start d; end = data_end d }
 
-abbrev pub located_at : ℕ → DeviceMap → Located
-located_at n p = cond (eqb n 0) (At p) (Refused n)
-
--- what `locate` answers: the refusal number, or the places
-abbrev pub located : Device → Located
-located d = located_at (first (device_tests d)) (map_of d)
+-- what `locate` answers: the places, or the reason why the device numbers are refused
+abbrev pub located : Device → Result DeviceMap Reason
+located d = answer (first (device_tests d)) (map_of d)
 
 -- What `locate_blocks` answers of a device of s sectors: where its signature blocks lie depends on nothing else.
 abbrev pub sized_device : ℕ → Device
 sized_device s = record { sectors = s; metadata = 0; reserved = 0 }
 
-abbrev pub blocks_located : ℕ → BlocksLocated
+abbrev pub blocks_located : ℕ → Result BlockSectors Reason
 blocks_located s =
-    cond (size_allowed s) (BlocksLocated.At (block_sector Front (sized_device s)) (block_sector Back (sized_device s))) (BlocksLocated.Refused device_size)
+    cond (size_allowed s) (Ok (record { front = block_sector Front (sized_device s); back = block_sector Back (sized_device s) })) (Err (reason device_size))

@@ -4,9 +4,12 @@
 #![tactic(auto)]
 
 ghost use Rattle.std.specs.Prelude.{◌≡◌, ◌-◌};
+ghost use Rattle.refusal.specs.Reasons.{answer};
 ghost use Rattle.refusal.specs.Tests.{first};
 ghost use Rattle.layout.specs.Limits.{size_allowed, metadata_allowed, reserved_allowed, length_allowed, device_tests};
 ghost use Rattle.layout.specs.Places.{block_sector, area_sector, data_start, data_end, area_offset, copy_bytes, located, blocks_located};
+
+use refusal::Reason;
 
 pub const SECTOR_BYTES: usize = 512;
 
@@ -40,7 +43,7 @@ pub const MOST_NANOSECONDS: u32 = 999999999;
 
 // The device's numbers, as the signature block has them.
 #[repr(C)]
-#[derive(Clone, Copy)]
+#[derive(Clone, Copy, PartialEq, Eq)]
 pub struct Device {
     // S, in sectors.
     pub sectors: u64,
@@ -51,14 +54,14 @@ pub struct Device {
 }
 
 // The two copies of the metadata.
-#[derive(Clone, Copy)]
+#[derive(Clone, Copy, PartialEq, Eq)]
 pub enum Side {
     Front,
     Back,
 }
 
 // The two metadata areas of a copy.
-#[derive(Clone, Copy)]
+#[derive(Clone, Copy, PartialEq, Eq)]
 pub enum Area {
     A,
     B,
@@ -66,7 +69,7 @@ pub enum Area {
 
 // First sectors of a copy's parts.
 #[repr(C)]
-#[derive(Clone, Copy)]
+#[derive(Clone, Copy, PartialEq, Eq)]
 pub struct CopyMap {
     pub header: u64,
     pub block: u64,
@@ -77,7 +80,7 @@ pub struct CopyMap {
 
 // Both copies, and the data range: from start up to, not including, end.
 #[repr(C)]
-#[derive(Clone, Copy)]
+#[derive(Clone, Copy, PartialEq, Eq)]
 pub struct DeviceMap {
     pub front: CopyMap,
     pub back: CopyMap,
@@ -85,18 +88,11 @@ pub struct DeviceMap {
     pub end: u64,
 }
 
-// What `locate` answers.
-#[derive(Clone, Copy)]
-pub enum Located {
-    At(DeviceMap),
-    Refused(u8),
-}
-
-// What `locate_blocks` answers: the sectors of the front's signature block and of the back's.
-#[derive(Clone, Copy)]
-pub enum BlocksLocated {
-    At(u64, u64),
-    Refused(u8),
+// The sectors of the front's signature block and of the back's.
+#[derive(Clone, Copy, PartialEq, Eq)]
+pub struct BlockSectors {
+    pub front: u64,
+    pub back: u64,
 }
 
 // Whether S is allowed.
@@ -127,27 +123,21 @@ pub fn length_allowed(n: u64) -> bool
     (1 <= n) & (n <= RECORD_LIMIT)
 }
 
-// The refusal number of device numbers that are not allowed: 4, 7 or 8, the lowest that applies; 0 where all are.
-pub fn check(d: Device) -> u8
-    ensures { result ≡ first (device_tests d) }
+// The reason why device numbers are not allowed, of 4, 7 or 8 the lowest that applies.
+#[tactic(auto, unfolding(refusal::specs::Tests::first))]
+pub fn check(d: Device) -> Result<(), Reason>
+    ensures { result ≡ answer (first (device_tests d)) tt }
 {
     if !size_allowed(d.sectors) {
-        return refusal::DEVICE_SIZE;
+        return Err(Reason::DeviceSize);
     }
     if !metadata_allowed(d.metadata) {
-        return refusal::METADATA_SIZE;
+        return Err(Reason::MetadataSize);
     }
     if !reserved_allowed(d.reserved) {
-        return refusal::RESERVED_SIZE;
+        return Err(Reason::ReservedSize);
     }
-    refusal::NONE
-}
-
-// a - b, or 0 where b is more than a.
-fn saturating_sub(a: u64, b: u64) -> u64
-    ensures { result ≡ a - b }
-{
-    if a < b { 0 } else { a - b }
+    Ok(())
 }
 
 // The sector of a copy's signature block; of any numbers, with differences that stop at 0.
@@ -156,7 +146,7 @@ pub fn block_sector(side: Side, d: Device) -> u64
 {
     match side {
         Side::Front => 1,
-        Side::Back => saturating_sub(d.sectors, 7),
+        Side::Back => d.sectors.saturating_sub(7),
     }
 }
 
@@ -171,8 +161,11 @@ pub fn area_sector(side: Side, area: Area, d: Device) -> u64
             Area::B => HEADER_SECTORS + l / 2,
         },
         Side::Back => match area {
-            Area::A => saturating_sub(saturating_sub(d.sectors, HEADER_SECTORS), l),
-            Area::B => saturating_sub(saturating_sub(d.sectors, HEADER_SECTORS), l / 2),
+            Area::A => d.sectors.saturating_sub(HEADER_SECTORS).saturating_sub(l),
+            Area::B => d
+                .sectors
+                .saturating_sub(HEADER_SECTORS)
+                .saturating_sub(l / 2),
         },
     }
 }
@@ -205,20 +198,17 @@ pub fn data_start(d: Device) -> u64
 pub fn data_end(d: Device) -> u64
     ensures { result ≡ data_end d }
 {
-    saturating_sub(
-        saturating_sub(saturating_sub(d.sectors, HEADER_SECTORS), d.metadata as u64),
-        d.reserved as u64,
-    )
+    d.sectors
+        .saturating_sub(HEADER_SECTORS)
+        .saturating_sub(d.metadata as u64)
+        .saturating_sub(d.reserved as u64)
 }
 
-// The places of both copies and the data range, or the number of device numbers that are not allowed.
-pub fn locate(d: Device) -> Located
+// The places of both copies and the data range, or why the device numbers are not allowed.
+pub fn locate(d: Device) -> Result<DeviceMap, Reason>
     ensures { result ≡ located d }
 {
-    let n = check(d);
-    if n != 0 {
-        return Located::Refused(n);
-    }
+    check(d)?;
     let l = d.metadata as u64;
     let front = CopyMap {
         header: 0,
@@ -228,13 +218,13 @@ pub fn locate(d: Device) -> Located
         reserved: HEADER_SECTORS + l,
     };
     let back = CopyMap {
-        header: saturating_sub(d.sectors, HEADER_SECTORS),
+        header: d.sectors.saturating_sub(HEADER_SECTORS),
         block: block_sector(Side::Back, d),
         a: area_sector(Side::Back, Area::A, d),
         b: area_sector(Side::Back, Area::B, d),
         reserved: data_end(d),
     };
-    Located::At(DeviceMap {
+    Ok(DeviceMap {
         front,
         back,
         start: data_start(d),
@@ -243,16 +233,19 @@ pub fn locate(d: Device) -> Located
 }
 
 // Where the two signature blocks lie on a device of S sectors, or 4: what is known before any block has been read.
-pub fn locate_blocks(sectors: u64) -> BlocksLocated
+pub fn locate_blocks(sectors: u64) -> Result<BlockSectors, Reason>
     ensures { result ≡ blocks_located sectors }
 {
     if !size_allowed(sectors) {
-        return BlocksLocated::Refused(refusal::DEVICE_SIZE);
+        return Err(Reason::DeviceSize);
     }
     let d = Device {
         sectors,
         metadata: 0,
         reserved: 0,
     };
-    BlocksLocated::At(block_sector(Side::Front, d), block_sector(Side::Back, d))
+    Ok(BlockSectors {
+        front: block_sector(Side::Front, d),
+        back: block_sector(Side::Back, d),
+    })
 }

@@ -3,61 +3,54 @@ use Prim.Native.Nat.{ℕ}
 use mathlib.Core.Path.{◌≡◌, refl, sym, ap, ◌∙◌}
 use mathlib.Core.Bool.{Bool, true, false, cond, true≢false}
 use mathlib.Core.List.{List}
+use Rattle.std.specs.Prelude.{Option, Some, None, Result, Ok, Err, is_ok}
+use Rattle.refusal.specs.declared.Reason.{Reason}
 use native.Mathlib.Omega.{arith}
 use Rattle.layout.specs.declared.Side.{Side}
-use Rattle.discovery.specs.declared.Answer.{Answer}
+use Rattle.discovery.specs.declared.Found.{Found}
 use Rattle.discovery.specs.Discovery.{discovery, is_in_step, copy_on}
-use Rattle.discovery.proofs.Latest.{refused_found}
 use Rattle.stores.proofs.InStep.{in_step_facts}
 use Rattle.stores.proofs.States.{stepped-found}
 use Rattle.mend.specs.declared.Rewrite.{Rewrite}
-use Rattle.mend.specs.declared.Mending.{Mending}
 use Rattle.mend.specs.Plan.{rewrite_of, mending_after, mending}
 use Rattle.mend.specs.Demand.{MendAnswers, Answering}
 
 -- the three answers differ
-refused-same : (n m : ℕ) → Mending.Refused n ≡ Mending.Refused m → n ≡ m
-refused-same n m e = cc
+refused-same : {A B : Type 0} (n m : Reason) → ◌≡◌ {A = Result A Reason} (Err n) (Err m) → ◌≡◌ {A = Result B Reason} (Err n) (Err m)
+refused-same n m e = let z : n ≡ m = cc in ap Err z
 
-number_same : (n m : ℕ) → Answer.Refused n ≡ Answer.Refused m → n ≡ m
-number_same n m e = cc
+err_ok : {A : Type 0} (n : Reason) (v : A) → Err n ≡ Ok v → ⊥
+err_ok n v e = true≢false (sym (ap is_ok e))
 
-refused-step : (n : ℕ) → Mending.Refused n ≡ Mending.InStep → ⊥
-refused-step n e = let z : ◌≡◌ {A = ℕ} 0 1 = cc in omega arith
-
-refused_needed : (n : ℕ) (p : Rewrite) → Mending.Refused n ≡ Mending.Needed p → ⊥
-refused_needed n p e = let z : ◌≡◌ {A = ℕ} 0 1 = cc in omega arith
-
-step_needed : (p : Rewrite) → Mending.InStep ≡ Mending.Needed p → ⊥
+step_needed : (p : Rewrite) → ◌≡◌ {A = Result (Option Rewrite) Reason} (Ok None) (Ok (Some p)) → ⊥
 step_needed p e = let z : ◌≡◌ {A = ℕ} 0 1 = cc in omega arith
 
 module _ (f b : List ℕ) where
   -- copies in step are not refused
-  in_step-found : (n : ℕ) → discovery f b ≡ Answer.Refused n → is_in_step f b ≡ true → ⊥
-  in_step-found n e i =
-      refused_found _ _ n (sym e ∙ stepped-found (λ (w : Side). copy_on w f b) (in_step_facts (λ (w : Side). copy_on w f b) i))
+  in_step-found : (n : Reason) → discovery f b ≡ Err n → is_in_step f b ≡ true → ⊥
+  in_step-found n e i = err_ok n _ (sym e ∙ stepped-found (λ (w : Side). copy_on w f b) (in_step_facts (λ (w : Side). copy_on w f b) i))
 
-  by_answer : (a : Answer) → discovery f b ≡ a → MendAnswers f b (mending_after a f b)
-  by_answer (Answer.Refused n) e =
+  by_answer : (a : Result Found Reason) → discovery f b ≡ a → MendAnswers f b (mending_after a f b)
+  by_answer (Err n) e =
       record {
-        refused = λ m. (λ h. e ∙ ap Answer.Refused (refused-same n m h), λ h. ap Mending.Refused (number_same n m (sym e ∙ h)));
-        in_step = (λ h. absurd (refused-step n h), λ i. absurd (in_step-found n e i));
-        needed = (λ h. absurd (refused_needed n h.0 h.1), λ h. absurd (refused_found h.0 h.1 n (sym e ∙ h.2)));
+        refused = λ m. (λ h. e ∙ refused-same n m h, λ h. refused-same n m (sym e ∙ h));
+        in_step = (λ h. absurd (err_ok n None h), λ i. absurd (in_step-found n e i));
+        needed = (λ h. absurd (err_ok n (Some h.0) h.1), λ h. absurd (err_ok n _ (sym e ∙ h.2)));
       }
-  by_answer (Answer.Found q o) e = go (is_in_step f b) refl
+  by_answer (Ok a) e = go (is_in_step f b) refl
     where
-      go : (u : Bool) → is_in_step f b ≡ u → MendAnswers f b (cond u Mending.InStep (Mending.Needed (rewrite_of q)))
+      go : (u : Bool) → is_in_step f b ≡ u → MendAnswers f b (cond u (Ok None) (Ok (Some (rewrite_of a.finding))))
       go true i =
           record {
-            refused = λ m. (λ h. absurd (refused-step m (sym h)), λ h. absurd (refused_found q o m (sym h ∙ e)));
+            refused = λ m. (λ h. absurd (err_ok m None (sym h)), λ h. absurd (err_ok m a (sym h ∙ e)));
             in_step = (λ h. i, λ h. refl);
             needed = (λ h. absurd (step_needed h.0 h.1), λ h. absurd (true≢false (sym i ∙ h.3)));
           }
       go false i =
           record {
-            refused = λ m. (λ h. absurd (refused_needed m (rewrite_of q) (sym h)), λ h. absurd (refused_found q o m (sym h ∙ e)));
-            in_step = (λ h. absurd (step_needed (rewrite_of q) (sym h)), λ h. absurd (true≢false (sym h ∙ i)));
-            needed = (λ h. (q, o, e, i), λ h. (rewrite_of q, refl));
+            refused = λ m. (λ h. absurd (err_ok m (Some (rewrite_of a.finding)) (sym h)), λ h. absurd (err_ok m a (sym h ∙ e)));
+            in_step = (λ h. absurd (step_needed (rewrite_of a.finding) (sym h)), λ h. absurd (true≢false (sym h ∙ i)));
+            needed = (λ h. (a.finding, a.other, e, i), λ h. (rewrite_of a.finding, refl));
           }
 
 pub answering : Answering

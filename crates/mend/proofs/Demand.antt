@@ -9,39 +9,40 @@ use native.Mathlib.Decide.{ℕ_discrete}
 use native.Mathlib.Omega.{arith}
 use borrow.Author.Tests.{eq-eqb}
 use lib.ListN.{length}
+use Rattle.std.specs.Prelude.{Option, Some, None, Result, Ok, Err}
+use Rattle.refusal.specs.declared.Reason.{Reason}
+use Rattle.refusal.specs.Reasons.{reason}
 use Rattle.layout.specs.declared.Device.{Device}
 use Rattle.layout.specs.declared.Side.{Side}
 use Rattle.layout.specs.declared.Side.TheVariants.{Front, Back}
 use Rattle.layout.specs.declared.Area.{Area}
+use Rattle.mend.specs.declared.Rewrite.{Rewrite}
 use Rattle.layout.specs.declared.Area.TheVariants.{A}
 use Rattle.layout.specs.Places.{block_sector, copy_bytes}
 use Rattle.block.specs.declared.Time.{Time}
 use Rattle.block.specs.declared.Holding.{Holding}
-use Rattle.block.specs.declared.Entry.TheVariants.{Unused, Used}
 use Rattle.block.specs.declared.BlockFields.{BlockFields}
 use Rattle.block.specs.declared.Reading.{Reading}
 use Rattle.block.specs.Entry.{time_of}
-use Rattle.block.specs.Block.{pool_of, blockdev_of, fields_of}
+use Rattle.block.specs.Block.{pool_of, blockdev_of, fields_of, accepted_reading}
 use Rattle.block.proofs.Readings.{accepted_reading_lem}
 use Rattle.block.proofs.Demand as Block
 use Rattle.discovery.specs.declared.Finding.{Finding}
-use Rattle.discovery.specs.declared.Answer.{Answer}
-use Rattle.discovery.specs.declared.Answer.TheVariants.{Found}
-use Rattle.copy.specs.Copy.{device_in, block_in, entry_in, other_side, newest}
+use Rattle.discovery.specs.declared.Found.{Found}
+use Rattle.copy.specs.Copy.{record_at, device_in, block_in, entry_in, other_side, newest}
 use Rattle.copy.specs.Demand.{AcceptedCopy, WholeArea, LaterEntry}
 use Rattle.copy.proofs.Demand.{copy-sized, later-newest, newest-whole, whole-newest}
-use Rattle.discovery.specs.Discovery.{finding_of, is_in_step, copy_on, record_bytes}
+use Rattle.discovery.specs.Discovery.{found_with, finding_of, is_in_step, copy_on, record_bytes}
 use Rattle.discovery.specs.Newest.{time_at}
 use Rattle.discovery.proofs.Latest.{found-same}
 use Rattle.crash.specs.Crash.{Sectors, Sound, Store, Groups, stores, store_in, landed, all_landed, area_sectors, copy_from}
 use Rattle.crash.proofs.Landing.{landed-size}
 use Rattle.crash.proofs.Copies.{length-copy}
-use Rattle.stores.specs.declared.Given.TheVariants.{At, Refused}
 use Rattle.stores.specs.Stores.{sectors_of, holding_for, with_entry}
 use Rattle.stores.specs.States.{Gives, Ready, Answered, Fits, AllFit}
 use Rattle.stores.proofs.Holding.{held_in, record_in, Holds}
 use Rattle.stores.proofs.Blocks.{device_kept}
-use Rattle.stores.proofs.InStep.{Stepped, in_step_facts, verdict_facts}
+use Rattle.stores.proofs.InStep.{Stepped, in_step_facts, reading_facts}
 use Rattle.stores.proofs.Discovering.{gives}
 use Rattle.stores.proofs.States.{stepped-found, made_ready}
 use Rattle.stores.proofs.Facts.{sized_copies}
@@ -49,7 +50,6 @@ use Rattle.stores.proofs.Padding.{sectors_few, sectors-within, length_sector}
 use Rattle.stores.proofs.OneCopy.{stepped-held}
 use Rattle.stores.proofs.Places.{Sizes, sizes_accepted, area_below, block_below}
 use Rattle.mend.specs.Mend.{block_like, emptied, refilled, blanked, later_whole, rewriting, groups_after, mend_groups}
-use Rattle.mend.specs.declared.Mending.{Mending}
 use Rattle.mend.specs.Plan.{rewrite_of, mending_after, mending, store_answer, store_bytes}
 use Rattle.mend.specs.Demand.{after, Serving, Mended, Counts, Counting, BlockFor, Rewrites, Rewriting, Goes, Touching, GivenAfter, NoneAfter, GoesOn, Going}
 use Rattle.mend.proofs.Giving.{none_number_lem, given, past}
@@ -59,7 +59,7 @@ use Rattle.mend.proofs.Stores.{by_store, start_one, start_two, start_three, coun
 use Rattle.mend.proofs.Landing.{first-at, sector_at_lem, second_at, last-at, some_sound, end_sound, stays_copy, other_holds, kept_whole, kept_blank}
 
 -- entries that are used and the same say the same
-used-same : (h k : Holding) → Used h ≡ Used k → h ≡ k
+used-same : (h k : Holding) → ◌≡◌ {A = Option Holding} (Some h) (Some k) → h ≡ k
 used-same h k e = cc
 
 -- the copy of a side
@@ -102,7 +102,7 @@ module _ (v : Device) (d : Sectors) (t : Time) (r₀ : List ℕ) (s : Answered v
   groups : mend_groups f b ≡ cond (is_in_step f b) [] (rewriting q.side c q.area r)
   unfolding mend_groups
   groups =
-      ap (λ (a : Answer). groups_after a f b) s.gives.answers
+      ap (λ (a : Result Found Reason). groups_after a f b) s.gives.answers
       ∙ ap (λ (z : List ℕ). cond (is_in_step f b) [] (rewriting q.side z q.area r)) (side_copy v d q.side)
 
   -- the record and its time, as they were given
@@ -116,7 +116,7 @@ module _ (v : Device) (d : Sectors) (t : Time) (r₀ : List ℕ) (s : Answered v
   abbrev end : Sectors
   end = all_landed (rewriting q.side c q.area r) d
 
-  other_device : (refilled (device_in c) (Used h)).device ≡ v
+  other_device : (refilled (device_in c) (Some h)).device ≡ v
   other_device = s.says
 
   rewritten : Ready v end (time_at q) r
@@ -129,7 +129,7 @@ module _ (v : Device) (d : Sectors) (t : Time) (r₀ : List ℕ) (s : Answered v
       go false n =
           both_hold v end (end_sound q.side v d s.sound s.says q.area h r itself) q.side
           (kept_blank q.side v d s.sound s.says q.area h r itself n) (other_holds q.side v d s.sound s.says q.area h r itself)
-          (device_kept (fields_of (block_in c)) (newest (fields_of (block_in c))) Unused ∙ s.says) other_device
+          (device_kept (fields_of (block_in c)) (newest (fields_of (block_in c))) None ∙ s.says) other_device
 
   -- in step: nothing is stored
   module _ (i : is_in_step f b ≡ true) where
@@ -137,9 +137,9 @@ module _ (v : Device) (d : Sectors) (t : Time) (r₀ : List ℕ) (s : Answered v
     stepped = in_step_facts (λ (w : Side). copy_from w v d) i
 
     -- what discovery found is the front's
-    is_front : q ≡ finding_of Front (fields_of (block_in f)) (newest (fields_of (block_in f))) (held_in f)
+    is_front : q ≡ finding_of Front (fields_of (block_in f)) (record_at (newest (fields_of (block_in f))) (held_in f))
     is_front =
-        found-same (finding_of Front (fields_of (block_in f)) (newest (fields_of (block_in f))) (held_in f)) _ q s.gives.other
+        found-same (finding_of Front (fields_of (block_in f)) (record_at (newest (fields_of (block_in f))) (held_in f))) _ q s.gives.other
         (sym s.gives.answers ∙ stepped-found (λ (w : Side). copy_from w v d) stepped)
 
     front-says : device_in f ≡ v
@@ -186,13 +186,13 @@ module _ (v : Device) (d : Sectors) (t : Time) (r₀ : List ℕ) (s : Answered v
   is_accepted =
       record {
         size = copy-sized c (eq-eqb (length c) copy_bytes (length-copy q.side v d s.sound));
-        block = (Block.exactly (block_in c)).1 (fields_of (block_in c)) (sym (ap (λ (z : Reading). z.verdict) (accepted_reading_lem (block_in c) itself.accepted)));
+        block = (Block.exactly (block_in c)).1 (accepted_reading (block_in c)) (accepted_reading_lem (block_in c) itself.accepted);
       }
 
-  its_entry : refilled (device_in c) (entry_in (fields_of (block_in c)) q.area) ≡ record { device = v; a = Used (holding_for (time_of h) r); b = Unused }
+  its_entry : refilled (device_in c) (entry_in (fields_of (block_in c)) q.area) ≡ record { device = v; a = Some (holding_for (time_of h) r); b = None }
   its_entry =
       let e : h ≡ holding_for (time_of h) r = λ i. record { seconds = h.seconds; nanoseconds = h.nanoseconds; bytes = itself.long i; checksum = itself.sum i } in
-      ap₂ refilled s.says (itself.entry ∙ ap Used e)
+      ap₂ refilled s.says (itself.entry ∙ ap Some e)
 
   block_for : (w : Side) (g : BlockFields) (z : Store) → z ≡ record { sector = block_sector w v; content = block_like c g } → Right c g → BlockFor v w g c z
   block_for w g z e k =
@@ -215,7 +215,7 @@ module _ (v : Device) (d : Sectors) (t : Time) (r₀ : List ℕ) (s : Answered v
         third = start_two q.side c q.area r;
         fourth = start_three q.side c q.area r;
         empty =
-            subst (λ (u : Device). BlockFor v (other_side q.side) (record { device = u; a = Unused; b = Unused }) c (store_in (rewriting q.side c q.area r) 0)) s.says
+            subst (λ (u : Device). BlockFor v (other_side q.side) (record { device = u; a = None; b = None }) c (store_in (rewriting q.side c q.area r) 0)) s.says
             (block_for (other_side q.side) (emptied (device_in c)) _ (first-at q.side v d s.sound s.says q.area h r itself) (right-empty c itself.accepted));
         filled = sector_at_lem q.side v d s.sound s.says q.area h r itself;
         entry =
@@ -225,7 +225,7 @@ module _ (v : Device) (d : Sectors) (t : Time) (r₀ : List ℕ) (s : Answered v
         torn = λ y i l n.
             let z : later_whole c ≡ false = later_torn y i l n in (
               count-blank q.side c q.area r z,
-              subst (λ (x : Area). BlockFor v q.side (with_entry (fields_of (block_in c)) x Unused) c (store_in (rewriting q.side c q.area r) (suc (suc (sectors_of (length r))))))
+              subst (λ (x : Area). BlockFor v q.side (with_entry (fields_of (block_in c)) x None) c (store_in (rewriting q.side c q.area r) (suc (suc (sectors_of (length r))))))
                   (later-newest c is_accepted y i l)
                   (block_for q.side (blanked (fields_of (block_in c))) _ (last-at q.side v d s.sound s.says q.area h r itself z) (right_blank c itself.accepted)),
             );
@@ -288,13 +288,13 @@ module _ (v : Device) (d : Sectors) (t : Time) (r₀ : List ℕ) (s : Answered v
 
   -- the stores, of copies to which earlier ones were applied
   goes_on : (i j : ℕ) (out : List ℕ) → j ≤ i → i < length (stores (rewriting q.side c q.area r)) → length out ≡ 512
-      → GivenAfter v d (Mending.Needed (rewrite_of q)) (rewriting q.side c q.area r) j i out
+      → GivenAfter v d (Ok (Some (rewrite_of q))) (rewriting q.side c q.area r) j i out
   goes_on i j out a l room =
       let e : Sectors = landed (store_in (rewriting q.side c q.area r)) j d in
       let se : Sound e = some_sound q.side v d s.sound s.says q.area h r itself j (omega arith) in
       subst (λ (z : List ℕ).
-      (store_answer (Mending.Needed (rewrite_of q)) (copy_from Front v e) (copy_from Back v e) i out ≡ At (store_in (rewriting q.side z q.area r) i).sector)
-      × (store_bytes (Mending.Needed (rewrite_of q)) (copy_from Front v e) (copy_from Back v e) i out ≡ (store_in (rewriting q.side z q.area r) i).content))
+      (store_answer (Ok (Some (rewrite_of q))) (copy_from Front v e) (copy_from Back v e) i out ≡ Ok (store_in (rewriting q.side z q.area r) i).sector)
+      × (store_bytes (Ok (Some (rewrite_of q))) (copy_from Front v e) (copy_from Back v e) i out ≡ (store_in (rewriting q.side z q.area r) i).content))
       (side_copy v d q.side)
       (given f b q s.gives.other s.gives.answers (copy_from Front v e) (copy_from Back v e) (sized_copies v e e se se)
       (side_copy v e q.side ∙ (stays_copy q.side v d s.sound s.says q.area h r itself j (omega arith) ∙ sym (side_copy v d q.side))) out room i
@@ -304,7 +304,7 @@ module _ (v : Device) (d : Sectors) (t : Time) (r₀ : List ℕ) (s : Answered v
   abbrev its-groups : Groups
   its-groups = rewriting q.side c q.area r
 
-  entry_kept : (j : ℕ) → j ≤ length (stores its-groups) → entry_in (fields_of (block_in (copy_from q.side v (landed (store_in its-groups) j d)))) q.area ≡ Used h
+  entry_kept : (j : ℕ) → j ≤ length (stores its-groups) → entry_in (fields_of (block_in (copy_from q.side v (landed (store_in its-groups) j d)))) q.area ≡ Some h
   entry_kept j l =
       elim (ℕ_discrete j (length (stores its-groups))) [
         | yes m ↦ ap (λ (n : ℕ). entry_in (fields_of (block_in (copy_from q.side v (landed (store_in its-groups) n d)))) q.area) m ∙ go (later_whole c) refl
@@ -314,16 +314,16 @@ module _ (v : Device) (d : Sectors) (t : Time) (r₀ : List ℕ) (s : Answered v
       ]
     where
       of-holds : (g : BlockFields) (x u : List ℕ) → Holds (copy_from q.side v end) g x u q.area h r
-          → entry_in (fields_of (block_in (copy_from q.side v end))) q.area ≡ Used h
+          → entry_in (fields_of (block_in (copy_from q.side v end))) q.area ≡ Some h
       of-holds g x u k =
-          ap (λ (z : BlockFields). entry_in z q.area) (sym (verdict_facts (block_in (copy_from q.side v end)) g (ap (λ (z : Reading). z.verdict) k.reads)).1) ∙ k.entry
+          ap (λ (z : Reading). entry_in z.fields q.area) (sym (reading_facts (block_in (copy_from q.side v end)) _ k.reads).1) ∙ k.entry
 
-      go : (u : Bool) → later_whole c ≡ u → entry_in (fields_of (block_in (copy_from q.side v end))) q.area ≡ Used h
+      go : (u : Bool) → later_whole c ≡ u → entry_in (fields_of (block_in (copy_from q.side v end))) q.area ≡ Some h
       go true n = of-holds _ _ _ (kept_whole q.side v d s.sound s.says q.area h r itself n)
       go false n = of-holds _ _ _ (kept_blank q.side v d s.sound s.says q.area h r itself n)
 
   goes_past : (i j : ℕ) (out : List ℕ) → j ≤ length (stores its-groups) → length (stores its-groups) ≤ i → length out ≡ 512
-      → NoneAfter v d (Mending.Needed (rewrite_of q)) its-groups j i out
+      → NoneAfter v d (Ok (Some (rewrite_of q))) its-groups j i out
   goes_past i j out a l room =
       let e : Sectors = landed (store_in its-groups) j d in
       let se : Sound e = some_sound q.side v d s.sound s.says q.area h r itself j a in
@@ -332,11 +332,11 @@ module _ (v : Device) (d : Sectors) (t : Time) (r₀ : List ℕ) (s : Answered v
       ∙ (entry_kept j a ∙ sym (ap (λ (z : List ℕ). entry_in (fields_of (block_in z)) q.area) (side_copy v d q.side) ∙ itself.entry)))
       out room i (subst (λ (z : List ℕ). length (stores (rewriting q.side z q.area r)) ≤ i) (sym (side_copy v d q.side)) l)
 
-  plan : mending f b ≡ cond (is_in_step f b) Mending.InStep (Mending.Needed (rewrite_of q))
+  plan : mending f b ≡ cond (is_in_step f b) (Ok None) (Ok (Some (rewrite_of q)))
   unfolding mending
-  plan = ap (λ (a : Answer). mending_after a f b) s.gives.answers
+  plan = ap (λ (a : Result Found Reason). mending_after a f b) s.gives.answers
 
-  on_step : (u : Bool) → GoesOn v d (cond u Mending.InStep (Mending.Needed (rewrite_of q))) (cond u [] its-groups)
+  on_step : (u : Bool) → GoesOn v d (cond u (Ok None) (Ok (Some (rewrite_of q)))) (cond u [] its-groups)
   unfolding flatten
   on_step true =
       record {
@@ -344,14 +344,14 @@ module _ (v : Device) (d : Sectors) (t : Time) (r₀ : List ℕ) (s : Answered v
         no_store = λ i j out a l room.
             let e : Sectors = landed (store_in []) j d in
             let se : Sound e = record { size = landed-size (store_in []) d s.sound.size j (λ n m. omega arith) } in
-            (ap Refused (none_number_lem (copy_from Front v e) (copy_from Back v e) out (sized_copies v e e se se) room), refl);
+            (ap (λ (k : ℕ). Err (reason k)) (none_number_lem (copy_from Front v e) (copy_from Back v e) out (sized_copies v e e se se) room), refl);
       }
   on_step false = record { store = goes_on; no_store = goes_past }
 
   all_on : GoesOn v d (mending f b) (mend_groups f b)
   all_on =
-      subst (λ (m : Mending). GoesOn v d m (mend_groups f b)) (sym plan)
-      (subst (GoesOn v d (cond (is_in_step f b) Mending.InStep (Mending.Needed (rewrite_of q)))) (sym groups) (on_step (is_in_step f b)))
+      subst (λ (m : Result (Option Rewrite) Reason). GoesOn v d m (mend_groups f b)) (sym plan)
+      (subst (GoesOn v d (cond (is_in_step f b) (Ok None) (Ok (Some (rewrite_of q))))) (sym groups) (on_step (is_in_step f b)))
 
 pub serving : Serving
 serving v d q o sd e says =
@@ -364,7 +364,7 @@ serving v d q o sd e says =
     given : Gives (copy_from Front v d) (copy_from Back v d) (time_at q) (record_bytes q (copy_from Front v d) (copy_from Back v d))
     given =
         gives (copy_from Front v d) (copy_from Back v d) q.side q.fields q.area (held (copy_from Front v d) (copy_from Back v d) q o e) o (time_at q) _
-        (e ∙ ap (λ (z : Finding). Found z o) (found_is (copy_from Front v d) (copy_from Back v d) q o e))
+        (e ∙ ap (λ (z : Finding). found_with z o) (found_is (copy_from Front v d) (copy_from Back v d) q o e))
         (kept (copy_from Front v d) (copy_from Back v d) q o e).bytes (kept (copy_from Front v d) (copy_from Back v d) q o e).long
         (sym (found_time (copy_from Front v d) (copy_from Back v d) q o e))
 

@@ -7,6 +7,7 @@ use mathlib.Core.List.{List, ◌++◌}
 use native.Mathlib.Nat.{zero-add}
 use native.Mathlib.Omega.{arith}
 use lib.ListN.{length, take}
+use Rattle.std.specs.Prelude.{Option, Some, Ok}
 use Rattle.layout.specs.declared.Device.{Device}
 use Rattle.layout.specs.declared.Side.{Side}
 use Rattle.layout.specs.declared.Side.TheVariants.{Front, Back}
@@ -14,11 +15,8 @@ use Rattle.layout.specs.declared.Area.{Area}
 use Rattle.layout.specs.declared.Area.TheVariants.{A, B}
 use Rattle.layout.specs.Places.{header_sector, block_sector, area_sector}
 use Rattle.block.specs.declared.Holding.{Holding}
-use Rattle.block.specs.declared.Entry.{Entry}
-use Rattle.block.specs.declared.Entry.TheVariants.{Used}
 use Rattle.block.specs.declared.BlockFields.{BlockFields}
 use Rattle.block.specs.declared.Reading.{Reading}
-use Rattle.block.specs.declared.Verdict.TheVariants as Verdict
 use Rattle.block.specs.Block.{pool_of, blockdev_of, fields_of, reading}
 use Rattle.block.proofs.Readings.{accepted_reading_lem}
 use Rattle.copy.specs.Copy.{block_in, entry_in, other_area, other_side, newest, device_in}
@@ -201,16 +199,16 @@ module _ (w : Side) (v : Device) (d : Sectors) (sd : Sound d) (placed : device_i
   abbrev pub HeldIn : Side → Sectors → BlockFields → Area → Type 0
   HeldIn s e g y = Holds (copy_from s v e) g pool blockdev y h r
 
-  read_as : BlockFields → Reading
-  read_as g = record { verdict = Verdict.Accepted g; pool = pool; blockdev = blockdev }
+  abbrev read_as : BlockFields → Reading
+  read_as g = record { fields = g; pool = pool; blockdev = blockdev }
 
-  pub other_holds : HeldIn (other_side w) end (refilled (device_in c) (Used h)) A
+  pub other_holds : HeldIn (other_side w) end (refilled (device_in c) (Some h)) A
   other_holds =
       holds_at (other_side w) v end end_sound sizes
       (ap reading filled_block
       ∙ (like-reads c kept.accepted (refilled (device_in c) (entry_in fields x)) (right-filled c kept.accepted x)
-      ∙ ap (λ (e : Entry). record { verdict = Verdict.Accepted (refilled (device_in c) e); pool = pool; blockdev = blockdev }) kept.entry))
-      (newest-filled (device_in c) (Used h)) refl kept.sum kept.long kept.small
+      ∙ ap (λ (e : Option Holding). Ok (read_as (refilled (device_in c) e))) kept.entry))
+      (newest-filled (device_in c) (Some h)) refl kept.sum kept.long kept.small
       (ap (λ (n : ℕ). take n (gather end (area_sector (other_side w) A v) area_sectors)) kept.long
       ∙ gather_record end r (area_sector (other_side w) A v) area_sectors (sectors-within (length r) (kept_small kept)) filled_area)
 
@@ -229,13 +227,13 @@ module _ (w : Side) (v : Device) (d : Sectors) (sd : Sound d) (placed : device_i
   pub kept_whole : later_whole c ≡ true → HeldIn w end fields x
   kept_whole n =
       holds_at w v end end_sound sizes
-      (ap reading (kept_block n ∙ sym was) ∙ sym (accepted_reading_lem (block_in c) kept.accepted))
+      (ap reading (kept_block n ∙ sym was) ∙ accepted_reading_lem (block_in c) kept.accepted)
       (kept.in_newest n) kept.entry kept.sum kept.long kept.small kept_area
 
   pub kept_blank : later_whole c ≡ false → HeldIn w end (blanked fields) x
   kept_blank n =
       let o : other_area (newest fields) ≡ x = kept.in_other n in
-      let en : entry_in fields (other_area (newest fields)) ≡ Used h = ap (entry_in fields) o ∙ kept.entry in
+      let en : entry_in fields (other_area (newest fields)) ≡ Some h = ap (entry_in fields) o ∙ kept.entry in
       holds_at w v end end_sound sizes
       (ap reading (blank_block n) ∙ like-reads c kept.accepted (blanked fields) (right_blank c kept.accepted))
       (newest-blanked fields h en ∙ o) (ap (entry_in (blanked fields)) (sym o) ∙ (entry-blanked fields ∙ en)) kept.sum kept.long kept.small kept_area

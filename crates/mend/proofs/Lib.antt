@@ -1,6 +1,5 @@
 -- The laws of `mend`.
 pub mod Choosing
-pub mod Planning
 pub mod Kept
 pub mod Stores
 pub mod Blocks

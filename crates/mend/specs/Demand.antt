@@ -1,8 +1,10 @@
 -- What mending promises: `proofs/Demand.antt` proves `Serving`, `Mended`, `Counting`, `Rewriting`, `Touching` and `Going`, `proofs/Giving.antt`
 -- `Giving`, `proofs/Answering.antt` `Answering`, `proofs/Refusing.antt` `Refusing`, `proofs/Lying.antt` `Within`. The states of a device are those that demand 3 speaks of: a mend serves what a cut in an update leaves, and leaves what every update may start
 -- from. What a cut in a mend leaves is request [7].
-use Rattle.std.specs.Prelude.{ℕ, suc, ◌+◌, ◌≤◌, ◌<◌, ◌≡◌, ◌⊎◌, ◌↔◌, true, false, List, [], length}
+use Rattle.std.specs.Prelude.{ℕ, suc, ◌+◌, ◌≤◌, ◌<◌, ◌≡◌, ◌⊎◌, ◌↔◌, true, false, List, [], length, Option, Some, None, Result, Ok, Err}
+use Rattle.refusal.specs.declared.Reason.{Reason}
 use Rattle.refusal.specs.Numbers.{no_such_store}
+use Rattle.refusal.specs.Reasons.{reason}
 use Rattle.layout.specs.declared.Device.{Device}
 use Rattle.layout.specs.declared.Side.{Side}
 use Rattle.layout.specs.declared.Side.TheVariants.{Front, Back}
@@ -11,24 +13,17 @@ use Rattle.layout.specs.declared.Area.TheVariants.{A}
 use Rattle.layout.specs.Places.{block_sector, area_sector}
 use Rattle.block.specs.declared.Time.{Time}
 use Rattle.block.specs.declared.Holding.{Holding}
-use Rattle.block.specs.declared.Entry.TheVariants.{Unused, Used}
 use Rattle.block.specs.declared.BlockFields.{BlockFields}
-use Rattle.block.specs.declared.Verdict.TheVariants as Verdict
 use Rattle.block.specs.Block.{pool_of, blockdev_of, fields_of, reading}
 use Rattle.copy.specs.Copy.{block_in, other_side, device_in}
 use Rattle.copy.specs.Demand.{WholeArea, LaterEntry}
 use Rattle.discovery.specs.declared.Finding.{Finding}
-use Rattle.discovery.specs.declared.Other.{Other}
-use Rattle.discovery.specs.declared.Answer.TheVariants as Answer
-use Rattle.discovery.specs.declared.Answer.TheVariants.{Found}
-use Rattle.discovery.specs.Discovery.{sized, discovery, is_in_step, copy_on, record_bytes}
+use Rattle.discovery.specs.Discovery.{found_with, sized, discovery, is_in_step, copy_on, record_bytes}
 use Rattle.discovery.specs.Newest.{time_at}
 use Rattle.crash.specs.Crash.{Sectors, Sound, Store, Groups, stores, store_in, group_start, landed, all_landed, copy_from}
-use Rattle.stores.specs.declared.Given.TheVariants.{At, Refused}
 use Rattle.stores.specs.Stores.{sectors_of, sector_of, holding_for, with_entry}
 use Rattle.stores.specs.States.{Ready, Answered, Lies, AllFit}
 use Rattle.mend.specs.declared.Rewrite.{Rewrite}
-use Rattle.mend.specs.declared.Mending.{Mending}
 use Rattle.mend.specs.Mend.{later_whole, mend_groups}
 use Rattle.mend.specs.Plan.{mending, stores_in, group_of, flush_after, store_answer, store_bytes}
 
@@ -42,7 +37,8 @@ after v d = all_landed (groups_on v d) d
 -- Any state that discovery answers, from a copy that is where its own S and L place it, is one that mending serves.
 abbrev pub Serving : Type 0
 Serving =
-    (v : Device) (d : Sectors) (q : Finding) (o : Other) → Sound d → discovery (copy_from Front v d) (copy_from Back v d) ≡ Found q o
+    (v : Device) (d : Sectors) (q : Finding) (o : Result BlockFields Reason) → Sound d
+    → discovery (copy_from Front v d) (copy_from Back v d) ≡ found_with q o
     → device_in (copy_from q.side v d) ≡ v → Answered v d (time_at q) (record_bytes q (copy_from Front v d) (copy_from Back v d))
 
 -- All stores landed: the copies are in step on the same record with its time. The stores go only where they belong.
@@ -64,7 +60,7 @@ Counting = (v : Device) (d : Sectors) (t : Time) (r : List ℕ) (a : Answered v 
 -- a store that is a signature block for side w: its sector, and what reading its bytes answers: these numbers, and the UUIDs of the copy c
 pub record BlockFor (v : Device) (w : Side) (g : BlockFields) (c : List ℕ) (s : Store) : Type 0 where
   pub place : s.sector ≡ block_sector w v
-  pub reads : reading s.content ≡ record { verdict = Verdict.Accepted g; pool = pool_of (block_in c); blockdev = blockdev_of (block_in c) }
+  pub reads : reading s.content ≡ Ok (record { fields = g; pool = pool_of (block_in c); blockdev = blockdev_of (block_in c) })
 
 -- The groups of a mend that keeps the copy c of side w, with its present record r and time t, in their order: the other copy's block with
 -- both entries unused; the record in its area a; its block with the record's entry; and only where the kept copy's later entry is not
@@ -73,13 +69,13 @@ pub record Rewrites (v : Device) (w : Side) (c : List ℕ) (t : Time) (r : List 
   pub second : group_start gs 1 ≡ 1
   pub third : group_start gs 2 ≡ sectors_of (length r) + 1
   pub fourth : group_start gs 3 ≡ sectors_of (length r) + 2
-  pub empty : BlockFor v (other_side w) (record { device = v; a = Unused; b = Unused }) c (store_in gs 0)
+  pub empty : BlockFor v (other_side w) (record { device = v; a = None; b = None }) c (store_in gs 0)
   pub filled : (j : ℕ) → j < sectors_of (length r) → store_in gs (suc j) ≡ record { sector = area_sector (other_side w) A v + j; content = sector_of r j }
-  pub entry : BlockFor v (other_side w) (record { device = v; a = Used (holding_for t r); b = Unused }) c (store_in gs (suc (sectors_of (length r))))
+  pub entry : BlockFor v (other_side w) (record { device = v; a = Some (holding_for t r); b = None }) c (store_in gs (suc (sectors_of (length r))))
   pub whole : (y : Area) (h : Holding) → LaterEntry c y h → WholeArea c y h → length (stores gs) ≡ sectors_of (length r) + 2
   pub torn : (y : Area) (h : Holding) → LaterEntry c y h → (WholeArea c y h → ⊥)
       → (length (stores gs) ≡ sectors_of (length r) + 3)
-      × BlockFor v w (with_entry (fields_of (block_in c)) y Unused) c (store_in gs (suc (suc (sectors_of (length r)))))
+      × BlockFor v w (with_entry (fields_of (block_in c)) y None) c (store_in gs (suc (suc (sectors_of (length r)))))
 
 abbrev pub Rewriting : Type 0
 Rewriting =
@@ -101,10 +97,11 @@ Touching =
 
 -- What `work_out` answers of any two copies: a refusal exactly where discovery refuses, with its number; nothing to store exactly where they
 -- are in step; something exactly where discovery answers and they are not.
-pub record MendAnswers (f b : List ℕ) (m : Mending) : Type 0 where
-  pub refused : (n : ℕ) → (m ≡ Mending.Refused n ↔ discovery f b ≡ Answer.Refused n)
-  pub in_step : m ≡ Mending.InStep ↔ is_in_step f b ≡ true
-  pub needed : ((p : Rewrite) × (m ≡ Mending.Needed p)) ↔ ((q : Finding) × (o : Other) × (discovery f b ≡ Found q o) × (is_in_step f b ≡ false))
+pub record MendAnswers (f b : List ℕ) (m : Result (Option Rewrite) Reason) : Type 0 where
+  pub refused : (r : Reason) → (m ≡ Err r ↔ discovery f b ≡ Err r)
+  pub in_step : m ≡ Ok None ↔ is_in_step f b ≡ true
+  pub needed : ((p : Rewrite) × (m ≡ Ok (Some p)))
+      ↔ ((q : Finding) × (o : Result BlockFields Reason) × (discovery f b ≡ found_with q o) × (is_in_step f b ≡ false))
 
 abbrev pub Answering : Type 0
 Answering = (f b : List ℕ) → MendAnswers f b (mending f b)
@@ -112,37 +109,37 @@ Answering = (f b : List ℕ) → MendAnswers f b (mending f b)
 -- What the calls give of a mend m is what the groups gs have: the count is the length of the list of stores, each store is in its group,
 -- a flush belongs exactly after the last store of each group, each store is given with its sector and its 512 bytes; past the last there
 -- is none of copies by their size, no group, and no flush.
-pub record MendGives (f b : List ℕ) (m : Mending) (gs : Groups) : Type 0 where
+pub record MendGives (f b : List ℕ) (m : Result (Option Rewrite) Reason) (gs : Groups) : Type 0 where
   pub count : stores_in m ≡ length (stores gs)
   pub grouped : (g i : ℕ) → g < 4 → group_start gs g ≤ i → i < group_start gs (suc g) → group_of m i ≡ g
   pub no_group : (i : ℕ) → length (stores gs) ≤ i → group_of m i ≡ 4
   pub flush : (g i : ℕ) → g < 4 → group_start gs g ≤ i → i < group_start gs (suc g) → (flush_after m i ≡ true ↔ suc i ≡ group_start gs (suc g))
   pub no_flush : (i : ℕ) → length (stores gs) ≤ i → flush_after m i ≡ false
   pub store : (i : ℕ) (out : List ℕ) → i < length (stores gs) → length out ≡ 512
-      → (store_answer m f b i out ≡ At (store_in gs i).sector) × (store_bytes m f b i out ≡ (store_in gs i).content)
+      → (store_answer m f b i out ≡ Ok (store_in gs i).sector) × (store_bytes m f b i out ≡ (store_in gs i).content)
   pub no_store : (i : ℕ) (out : List ℕ) → length (stores gs) ≤ i → sized f b ≡ true → length out ≡ 512
-      → (store_answer m f b i out ≡ Refused no_such_store) × (store_bytes m f b i out ≡ out)
+      → (store_answer m f b i out ≡ Err (reason no_such_store)) × (store_bytes m f b i out ≡ out)
 
 -- Of any two copies.
 abbrev pub Giving : Type 0
 Giving = (f b : List ℕ) → MendGives f b (mending f b) (mend_groups f b)
 
 -- store i of a mend m, of the device's copies with the first j stores of the groups gs applied to them
-abbrev pub GivenAfter : Device → Sectors → Mending → Groups → ℕ → ℕ → List ℕ → Type 0
+abbrev pub GivenAfter : Device → Sectors → Result (Option Rewrite) Reason → Groups → ℕ → ℕ → List ℕ → Type 0
 GivenAfter v d m gs j i out =
-    (store_answer m (copy_from Front v (landed (store_in gs) j d)) (copy_from Back v (landed (store_in gs) j d)) i out ≡ At (store_in gs i).sector)
+    (store_answer m (copy_from Front v (landed (store_in gs) j d)) (copy_from Back v (landed (store_in gs) j d)) i out ≡ Ok (store_in gs i).sector)
     × (store_bytes m (copy_from Front v (landed (store_in gs) j d)) (copy_from Back v (landed (store_in gs) j d)) i out ≡ (store_in gs i).content)
 
 -- the same past the last store: there is none
-abbrev pub NoneAfter : Device → Sectors → Mending → Groups → ℕ → ℕ → List ℕ → Type 0
+abbrev pub NoneAfter : Device → Sectors → Result (Option Rewrite) Reason → Groups → ℕ → ℕ → List ℕ → Type 0
 NoneAfter v d m gs j i out =
-    (store_answer m (copy_from Front v (landed (store_in gs) j d)) (copy_from Back v (landed (store_in gs) j d)) i out ≡ Refused no_such_store)
+    (store_answer m (copy_from Front v (landed (store_in gs) j d)) (copy_from Back v (landed (store_in gs) j d)) i out ≡ Err (reason no_such_store))
     × (store_bytes m (copy_from Front v (landed (store_in gs) j d)) (copy_from Back v (landed (store_in gs) j d)) i out ≡ out)
 
 -- A caller may apply each store to its copies as it goes: a mend worked out from the copies as they were gives store i with its sector and
 -- its 512 bytes also of copies to which stores with lower numbers were applied; and past the last there is none, also with all of them
 -- applied.
-pub record GoesOn (v : Device) (d : Sectors) (m : Mending) (gs : Groups) : Type 0 where
+pub record GoesOn (v : Device) (d : Sectors) (m : Result (Option Rewrite) Reason) (gs : Groups) : Type 0 where
   pub store : (i j : ℕ) (out : List ℕ) → j ≤ i → i < length (stores gs) → length out ≡ 512 → GivenAfter v d m gs j i out
   pub no_store : (i j : ℕ) (out : List ℕ) → j ≤ length (stores gs) → length (stores gs) ≤ i → length out ≡ 512 → NoneAfter v d m gs j i out
 
@@ -155,12 +152,12 @@ Going =
 -- past number k + 1 on the kept one.
 abbrev pub Within : Type 0
 Within =
-    (m : Mending) (f b : List ℕ) (i : ℕ) (out : List ℕ) (s : ℕ) → store_answer m f b i out ≡ At s
+    (m : Result (Option Rewrite) Reason) (f b : List ℕ) (i : ℕ) (out : List ℕ) (s : ℕ) → store_answer m f b i out ≡ Ok s
     → (p : Rewrite)
-    × ((m ≡ Mending.Needed p)
+    × ((m ≡ Ok (Some p))
     × ((i ≤ sectors_of p.bytes + 1 → Lies (other_side p.kept) (device_in (copy_on p.kept f b)) s)
     × (sectors_of p.bytes + 1 < i → Lies p.kept (device_in (copy_on p.kept f b)) s)))
 
 -- A refused store changes no lent byte, of any mend, made up or not.
 abbrev pub Refusing : Type 0
-Refusing = (m : Mending) (f b : List ℕ) (i : ℕ) (out : List ℕ) (n : ℕ) → store_answer m f b i out ≡ Refused n → store_bytes m f b i out ≡ out
+Refusing = (m : Result (Option Rewrite) Reason) (f b : List ℕ) (i : ℕ) (out : List ℕ) (r : Reason) → store_answer m f b i out ≡ Err r → store_bytes m f b i out ≡ out

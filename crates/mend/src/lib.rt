@@ -2,13 +2,15 @@
 #![tactic(auto)]
 
 ghost use Rattle.std.specs.Prelude.{◌≡◌, List};
-ghost use Rattle.mend.specs.declared.Mending.TheVariants.{Needed};
+ghost use Rattle.refusal.specs.Reasons.{reason};
+ghost use Rattle.discovery.specs.Discovery.{copy_on};
 ghost use Rattle.mend.specs.Plan.{rewrite_of, mending, plan_stores, stores_in, group_in, group_of, flush_after, part_for, rewrite_answer, rewrite_bytes, needed_answer, needed_bytes, none_number, store_answer, store_bytes};
 
-use block::{BlockFields, Entry};
-use discovery::{Answer, Finding};
+use block::BlockFields;
+use discovery::{Copies, Finding};
 use layout::{Area, Side};
-use stores::{Given, Part};
+use refusal::Reason;
+use stores::Part;
 
 // What a mend stores: the side whose copy is kept, the area of that copy with the found record, the record's length, and whether a
 // last store blanks the other entry of the kept block. All else is read from the kept copy when a store is asked for.
@@ -20,112 +22,86 @@ pub struct Rewrite {
     pub last: bool,
 }
 
-// What `work_out` answers: nothing to store, what to store, or discovery's refusal number.
-#[derive(Clone, Copy)]
-pub enum Mending {
-    InStep,
-    Needed(Rewrite),
-    Refused(u8),
-}
-
 // What is stored where the copy with the found record q is kept. There is a last store where that record is not the later entry's,
 // which is not whole then.
 fn plan_for(q: Finding) -> Rewrite
     ensures { result ≡ rewrite_of q }
 {
-    let side = q.side;
-    let area = q.area;
-    let y = copy::newest(q.fields);
-    let later = copy::same_area(area, y);
     Rewrite {
-        kept: side,
-        area: area,
+        kept: q.side,
+        area: q.area,
         bytes: q.bytes,
-        last: !later,
+        last: q.area != copy::newest(q.fields),
     }
 }
 
 // Works a mend of a front and a back copy out: nothing where they are in step, what to store where they are not, or the
-// number that discovery refuses them with.
-pub fn work_out(f: &[u8], b: &[u8]) -> Mending
-    ensures { result ≡ mending f.now b.now }
+// reason why discovery refuses them.
+#[tactic(auto, unfolding(crate::specs::Plan::mending))]
+pub fn work_out(c: Copies<'_>) -> Result<Option<Rewrite>, Reason>
+    ensures { result ≡ mending c.entry.front.now c.entry.back.now }
 {
-    let v = discovery::examine(f, b);
-    let a = v.answer;
-    match a {
-        Answer::Refused(n) => Mending::Refused(n),
-        Answer::Found(q, _) => {
-            if v.step {
-                return Mending::InStep;
-            }
-            Mending::Needed(plan_for(q))
-        }
+    let v = discovery::examine(c);
+    let a = v.answer?;
+    if v.step {
+        return Ok(None);
     }
+    Ok(Some(plan_for(a.finding)))
 }
 
 // How many stores a plan has: k + 2, or k + 3 with the last one.
 fn planned(p: Rewrite) -> u64
     ensures { result ≡ plan_stores p }
 {
-    let k = stores::sectors(p.bytes);
-    if p.last {
-        return k as u64 + 3;
-    }
-    k as u64 + 2
+    let k = stores::sectors(p.bytes) as u64;
+    if p.last { k + 3 } else { k + 2 }
 }
 
 // How many stores a mend has: 0, k + 2, or k + 3 with the last one; 0 for one that is refused.
-pub fn count(m: Mending) -> u64
+pub fn count(m: Result<Option<Rewrite>, Reason>) -> u64
     ensures { result ≡ stores_in m }
 {
     match m {
-        Mending::InStep => 0,
-        Mending::Needed(p) => planned(p),
-        Mending::Refused(_) => 0,
+        Ok(Some(p)) => planned(p),
+        Ok(None) | Err(_) => 0,
     }
 }
 
 // The group of store i, of n that store a record of k sectors.
+// A number and no enum: it is the group's place in the list of groups, which the theorems count with, and C's answer.
 fn group_in(k: u32, n: u64, i: u64) -> u8
     ensures { result ≡ group_in k n i }
 {
+    let k = k as u64;
     if n <= i {
-        return 4;
+        4
+    } else if i == 0 {
+        0
+    } else if i <= k {
+        1
+    } else if i <= k + 1 {
+        2
+    } else {
+        3
     }
-    if i == 0 {
-        return 0;
-    }
-    if i <= k as u64 {
-        return 1;
-    }
-    if i <= k as u64 + 1 {
-        return 2;
-    }
-    3
 }
 
 // The group of a mend's store: 0 the other block emptied, 1 the record, 2 the other block with its entry, 3 the last store;
 // 4 past the last store.
-pub fn group(m: Mending, i: u64) -> u8
+pub fn group(m: Result<Option<Rewrite>, Reason>, i: u64) -> u8
     ensures { result ≡ group_of m i }
 {
     match m {
-        Mending::InStep => 4,
-        Mending::Needed(p) => group_in(stores::sectors(p.bytes), planned(p), i),
-        Mending::Refused(_) => 4,
+        Ok(Some(p)) => group_in(stores::sectors(p.bytes), planned(p), i),
+        Ok(None) | Err(_) => 4,
     }
 }
 
 // Whether a flush belongs after store i of a mend: it is the last of its group.
-pub fn flush(m: Mending, i: u64) -> bool
+pub fn flush(m: Result<Option<Rewrite>, Reason>, i: u64) -> bool
     ensures { result ≡ flush_after m i }
 {
-    if count(m) <= i {
-        return false;
-    }
-    let g = group(m, i);
-    let h = group(m, i + 1);
-    !(g == h)
+    i < count(m) && group(m, i) != group(m, i + 1)
 }
 
 // What is stored on side w where a block with the numbers x is kept on the other: the record, and a block that has its entry for area a.
@@ -133,101 +109,88 @@ fn part_for(w: Side, y: Area, x: BlockFields) -> Part
     ensures { result ≡ part_for w y x }
 {
     let d = x.device;
-    let e = copy::entry_in(x, y);
-    let at = layout::area_sector(w, Area::A, d);
-    let block = layout::block_sector(w, d);
-    let fields = BlockFields {
-        device: d,
-        a: e,
-        b: Entry::Unused,
-    };
     Part {
-        area: at,
-        block: block,
-        fields: fields,
+        area: layout::area_sector(w, Area::A, d),
+        block: layout::block_sector(w, d),
+        fields: BlockFields {
+            device: d,
+            a: copy::entry_in(x, y),
+            b: None,
+        },
     }
 }
 
 // Store i of a plan, with the kept copy c, whose block has the numbers x.
-fn put_store(p: Rewrite, x: BlockFields, c: &[u8], i: u64, out: &mut [u8]) -> Given
+fn put_store(p: Rewrite, x: BlockFields, c: &[u8], i: u64, out: &mut [u8]) -> Result<u64, Reason>
     ensures value { result ≡ rewrite_answer p x c.now i out.old }
     ensures out_after { out.new ≡ rewrite_bytes p x c.now i out.old }
 {
-    let side = p.kept;
-    let area = p.area;
     let d = x.device;
-    let w = copy::other_side(side);
+    let w = copy::other_side(p.kept);
     let k = stores::sectors(p.bytes);
     if i == 0 {
         let empty = BlockFields {
             device: d,
-            a: Entry::Unused,
-            b: Entry::Unused,
+            a: None,
+            b: None,
         };
         return stores::put_block(layout::block_sector(w, d), empty, c, out);
     }
     if i <= k as u64 + 1 {
-        let r = endian::window(c, layout::area_offset(area), p.bytes as usize);
-        return stores::put_part(part_for(w, area, x), k, c, r, i - 1, out);
+        let r = endian::window(c, layout::area_offset(p.area), p.bytes as usize);
+        return stores::put_part(part_for(w, p.area, x), k, c, r, i - 1, out);
     }
-    let blank = stores::with_entry(x, copy::other_area(area), Entry::Unused);
-    stores::put_block(layout::block_sector(side, d), blank, c, out)
+    let blank = stores::with_entry(x, copy::other_area(p.area), None);
+    stores::put_block(layout::block_sector(p.kept, d), blank, c, out)
 }
 
-// Store i of a plan for the copies f and b, of which c is kept, where the tests of a plan's store hold.
-fn needed_store(p: Rewrite, f: &[u8], b: &[u8], c: &[u8], i: u64, out: &mut [u8]) -> Given
-    ensures value { result ≡ needed_answer p f.now b.now c.now i out.old }
-    ensures out_after { out.new ≡ needed_bytes p f.now b.now c.now i out.old }
+// Store i of a plan for two copies, where the tests of a plan's store hold.
+fn needed_store(p: Rewrite, c: Copies<'_>, i: u64, out: &mut [u8]) -> Result<u64, Reason>
+    ensures value { result ≡ needed_answer p c.entry.front.now c.entry.back.now (copy_on p.kept c.entry.front.now c.entry.back.now) i out.old }
+    ensures out_after { out.new ≡ needed_bytes p c.entry.front.now c.entry.back.now (copy_on p.kept c.entry.front.now c.entry.back.now) i out.old }
 {
-    let x = copy::fields_in(c);
-    let area = p.area;
-    let h = block::holding_of(copy::entry_in(x, area));
-    let n = stores::check_store(
-        f,
-        b,
+    let kept = c.on(p.kept);
+    let x = copy::fields_in(kept);
+    let h = block::holding_of(copy::entry_in(x, p.area));
+    stores::check_store(
+        c,
         out.len(),
         h.bytes as u64,
         p.bytes,
         i,
         planned(p),
         x.device,
-    );
-    if n != 0 {
-        return Given::Refused(n);
-    }
-    put_store(p, x, c, i, out)
+    )?;
+    put_store(p, x, kept, i, out)
 }
 
-// What a store is refused with where there is none: 1 for a slice of another size, else 23.
-fn no_store(f: &[u8], b: &[u8], room: usize) -> u8
-    ensures { result ≡ none_number f.now b.now room }
+// Why a store is refused where there is none: 1 for a slice of another size, else 23.
+fn no_store(c: Copies<'_>, room: usize) -> Reason
+    ensures { result ≡ reason (none_number c.entry.front.now c.entry.back.now room) }
 {
-    let n = layout::copy_bytes();
-    let sized = ((f.len() == n) & (b.len() == n)) & (room == layout::SECTOR_BYTES);
+    let sized = c.sized() & (room == layout::SECTOR_BYTES);
     if !sized {
-        return refusal::SLICE_SIZE;
+        return Reason::SliceSize;
     }
-    refusal::NO_STORE
+    Reason::NoStore
 }
 
 // The store of a mend with number i, counted from 0: its 512 bytes into out, its sector as the answer. The copies are those
 // that the mend was worked out from; its stores with lower numbers may have been applied to them. 1 for a slice of another size, 23
 // past the last store; of a mend that nobody worked out also 15 where the kept copy's entry has a length that no record has, 1 where
-// it has another length than the mend, after 23 also 4, 7 or 8 for the kept copy's device numbers, and the writer's number for a block
+// it has another length than the mend, after 23 also 4, 7 or 8 for the kept copy's device numbers, and the writer's reason for a block
 // that it refuses. Then out stays.
-pub fn store(m: Mending, f: &[u8], b: &[u8], i: u64, out: &mut [u8]) -> Given
-    ensures value { result ≡ store_answer m f.now b.now i out.old }
-    ensures out_after { out.new ≡ store_bytes m f.now b.now i out.old }
+pub fn store(
+    m: Result<Option<Rewrite>, Reason>,
+    c: Copies<'_>,
+    i: u64,
+    out: &mut [u8],
+) -> Result<u64, Reason>
+    ensures value { result ≡ store_answer m c.entry.front.now c.entry.back.now i out.old }
+    ensures out_after { out.new ≡ store_bytes m c.entry.front.now c.entry.back.now i out.old }
 {
-    match m {
-        Mending::InStep => Given::Refused(no_store(f, b, out.len())),
-        Mending::Needed(p) => {
-            let side = p.kept;
-            match side {
-                Side::Front => needed_store(p, f, b, f, i, out),
-                Side::Back => needed_store(p, f, b, b, i, out),
-            }
-        }
-        Mending::Refused(_) => Given::Refused(no_store(f, b, out.len())),
-    }
+    let Ok(Some(p)) = m else {
+        return Err(no_store(c, out.len()));
+    };
+    needed_store(p, c, i, out)
 }

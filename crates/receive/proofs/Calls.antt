@@ -3,60 +3,23 @@ use Prim.Native.Nat.{ℕ, ◌+◌, ◌-◌, ◌^◌, ◌≤◌, ◌<◌, min}
 use mathlib.Core.Path.{◌≡◌, refl, sym, ap, ◌∙◌}
 use mathlib.Core.Bool.{Bool, true, false, cond}
 use mathlib.Core.List.{List, [], ◌∷◌}
-use native.Mathlib.Decide.{dec_le}
 use native.Mathlib.Omega.{arith}
-use borrow.Author.Tests.{le-leb, lt-leb, leb-true}
-use lib.Dec.{leb, eqb}
+use borrow.Author.Tests.{leb-true}
 use lib.ListN.{length, take, drop, length-take, length-drop}
 use Rattle.endian.specs.Bytes.{window}
 use Rattle.checksum.specs.Crc.{continued}
 use Rattle.checksum.proofs.Laws.{continued-nil}
-use Rattle.refusal.specs.Numbers.{slice_size}
 use Rattle.layout.specs.Limits.{record_limit, length_allowed}
 use Rattle.layout.specs.Places.{area_offset, copy_bytes}
 use Rattle.layout.proofs.Laws.{length_facts}
 use Rattle.layout.specs.declared.Area.{Area}
-use Rattle.block.specs.declared.Holding.{Holding}
-use Rattle.block.specs.declared.BlockFields.{BlockFields}
-use Rattle.block.specs.declared.Reading.{Reading}
-use Rattle.block.specs.declared.Verdict.TheVariants.{Accepted, Refused}
-use Rattle.block.specs.Block.{fields_of, reading, refused_reading}
-use Rattle.block.specs.Writing.{holding_of}
-use Rattle.copy.specs.declared.Present.{Present}
-use Rattle.copy.specs.declared.Present.TheVariants.{Nothing}
-use Rattle.copy.specs.Copy.{entry_in, present_by}
 use Rattle.receive.specs.declared.Received.{Received}
-use Rattle.receive.specs.Receive.{part, length_in, used_in, sum_with, fits_in, sum_right, ended_for, ended_with, ending}
+use Rattle.receive.specs.Receive.{part, length_in, used_in, sum_with, fits_in}
 
--- whether a piece passes the end
-pub past_end : (at n k : ℕ) → k ≡ copy_bytes → k < at → false ≡ fits_in at n
-unfolding fits_in
-past_end at n k e h = sym (lt-leb (at + n) copy_bytes (omega arith))
-
-pub within_end : (at n k : ℕ) → k ≡ copy_bytes → at ≤ k → leb n (k - at) ≡ fits_in at n
-unfolding fits_in
-within_end at n k e h =
-    elim (dec_le n (k - at)) [
-      | yes l ↦ le-leb n (k - at) l ∙ sym (le-leb (at + n) copy_bytes (omega arith))
-      | no l ↦ lt-leb n (k - at) (omega arith) ∙ sym (lt-leb (at + n) copy_bytes (omega arith))
-    ]
-
+-- a piece that does not pass the end
 pub fits-most : (at n : ℕ) → fits_in at n ≡ true → at + n ≤ copy_bytes
 unfolding fits_in
 fits-most at n h = leb-true (at + n) copy_bytes h
-
--- the used bytes of an area
-module _ (block : List ℕ) (x : Area) (h : Holding) (t : Bool) (e : h ≡ holding_of (entry_in (fields_of block) x)) (f : t ≡ length_allowed h.bytes) where
-  used_by : used_in block x ≡ cond t h.bytes 0
-  unfolding used_in
-  used_by =
-      ap (λ (k : Holding). cond (length_allowed k.bytes) k.bytes 0) (sym e) ∙ ap (λ (b : Bool). cond b h.bytes 0) (sym f)
-
-  pub used-none : t ≡ false → 0 ≡ used_in block x
-  used-none g = sym (used_by ∙ ap (λ (b : Bool). cond b h.bytes 0) g)
-
-  pub used-some : t ≡ true → h.bytes ≡ used_in block x
-  used-some g = sym (used_by ∙ ap (λ (b : Bool). cond b h.bytes 0) g)
 
 -- never more than the most
 used-most : (block : List ℕ) (x : Area) → used_in block x ≤ record_limit
@@ -100,23 +63,3 @@ sum-none sum block at p x o n f l e =
 pub piece-below : (s : Received) (p : List ℕ) (t : Bool) → t ≡ fits_in s.taken (length p) → t ≡ true → s.taken + length p < 2 ^ 64
 unfolding copy_bytes record_limit
 piece-below s p t f g = let l : s.taken + length p ≤ copy_bytes = fits-most s.taken (length p) (sym f ∙ g) in omega arith
-
--- the end
-module _ (s : Received) (k : ℕ) (c : k ≡ copy_bytes) where
-  pub end_short : (r : Reading) → r ≡ refused_reading slice_size → eqb s.taken k ≡ false
-      → record { block = r; a = false; b = false; present = Nothing } ≡ ending s
-  unfolding ending
-  end_short r e g = rw (← c, g, e)
-
-  module _ (g : eqb s.taken k ≡ true) (r : Reading) (e : r ≡ reading s.block) where
-    ended : ending s ≡ ended_with s r
-    unfolding ending
-    ended = rw (← c, g, e)
-
-    pub end_refused : (n : ℕ) → r.verdict ≡ Refused n → record { block = r; a = false; b = false; present = Nothing } ≡ ending s
-    end_refused n v = sym (ended ∙ ap (ended_for s r) v)
-
-    pub end-accepted : (f : BlockFields) → r.verdict ≡ Accepted f → (a b : Bool) (p : Present)
-        → a ≡ sum_right s.a f.a → b ≡ sum_right s.b f.b → p ≡ present_by f a b
-        → record { block = r; a = a; b = b; present = p } ≡ ending s
-    end-accepted f v a b p ea eb ep = rw (ep, ea, eb) (sym (ended ∙ ap (ended_for s r) v))

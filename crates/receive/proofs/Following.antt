@@ -9,9 +9,11 @@ use lib.ListN.{length, length-append}
 use Rattle.refusal.specs.Numbers.{slice_size}
 use Rattle.layout.specs.Places.{copy_bytes}
 use Rattle.receive.specs.declared.Received.{Received}
-use Rattle.receive.specs.declared.Taking.{Taking}
+use Rattle.std.proofs.Common.{Result, Ok, Err}
+use Rattle.refusal.specs.declared.Reason.{Reason}
+use Rattle.refusal.specs.Reasons.{reason, number_in}
 use Rattle.receive.specs.Receive.{fresh, fits_in, advanced, taking}
-use Rattle.receive.specs.Demand.{after, unless_refused, bytes_taken, AllTaken, size, NoneRefused, NoTrace, AnyState, Passing}
+use Rattle.receive.specs.Demand.{kept_after, state_after, after, unless_refused, bytes_taken, AllTaken, size, NoneRefused, NoTrace, AnyState, Passing}
 use Rattle.receive.proofs.Joined.{left, advanced-joined, advanced-nothing, fresh-left, advanced-left}
 
 pub copy-size : copy_bytes ≡ size
@@ -20,19 +22,13 @@ copy-size = refl
 
 -- a piece that fits, and one that does not
 module _ (s : Received) (p : List ℕ) where
-  pub taking-fits : s.taken + length p ≤ size → taking s p ≡ record { number = 0; received = advanced s p }
+  pub taking-fits : s.taken + length p ≤ size → taking s p ≡ Ok (advanced s p)
   unfolding taking fits_in
   taking-fits h = rw (le-leb (s.taken + length p) copy_bytes (let e : copy_bytes ≡ size = copy-size in omega arith))
 
-  pub taking-past : size < s.taken + length p → taking s p ≡ record { number = slice_size; received = s }
+  pub taking-past : size < s.taken + length p → taking s p ≡ Err (reason slice_size)
   unfolding taking fits_in
   taking-past h = rw (lt-leb (s.taken + length p) copy_bytes (let e : copy_bytes ≡ size = copy-size in omega arith))
-
-abbrev number_of : Taking → ℕ
-number_of t = t.number
-
-abbrev pub received_of : Taking → Received
-received_of t = t.received
 
 advanced_further : (s : Received) (p : List ℕ) → (advanced s p).taken ≡ s.taken + length p
 unfolding advanced
@@ -42,20 +38,20 @@ pub passing : (s : Received) (p : List ℕ) → Passing s p
 passing s p =
     elim (dec_le (s.taken + length p) size) [
       | yes h ↦
-          let e : (taking s p).number ≡ 0 = ap number_of (taking-fits s p h) in
+          let e : number_in (taking s p) ≡ 0 = ap number_in (taking-fits s p h) in
           record {
             one = (λ o. absurd (omega arith), λ l. absurd (omega arith));
             zero = (λ z. h, λ l. e);
             kept = λ l. absurd (omega arith);
-            further = λ l. ap (λ (t : Taking). t.received.taken) (taking-fits s p h) ∙ advanced_further s p;
+            further = λ l. ap (λ (t : Result Received Reason). (kept_after s t).taken) (taking-fits s p h) ∙ advanced_further s p;
           }
       | no h ↦
           let l : size < s.taken + length p = omega arith in
-          let e : (taking s p).number ≡ 1 = ap number_of (taking-past s p l) in
+          let e : number_in (taking s p) ≡ 1 = ap number_in (taking-past s p l) in
           record {
             one = (λ o. l, λ m. e);
             zero = (λ z. absurd (omega arith), λ m. absurd (omega arith));
-            kept = λ m. ap received_of (taking-past s p l);
+            kept = λ m. ap (kept_after s) (taking-past s p l);
             further = λ m. absurd (omega arith);
           }
     ]
@@ -64,25 +60,25 @@ passing s p =
 module _ (c p : List ℕ) (ps : List (List ℕ)) where
   module _ (h : length c + length p ≤ size) where
     after_one : after (left c) (p ∷ ps) ≡ after (left (c ++ p)) ps
-    after_one = ap (λ (t : Taking). after t.received ps) (taking-fits (left c) p h) ∙ ap (λ (s : Received). after s ps) (advanced-left c p)
+    after_one = ap (λ (t : Result Received Reason). after (kept_after (left c) t) ps) (taking-fits (left c) p h) ∙ ap (λ (s : Received). after s ps) (advanced-left c p)
 
     bytes_one : bytes_taken (left c) (p ∷ ps) ≡ p ++ bytes_taken (left (c ++ p)) ps
     bytes_one =
-        ap (λ (t : Taking). unless_refused t.number p ++ bytes_taken t.received ps) (taking-fits (left c) p h)
+        ap (λ (t : Result Received Reason). unless_refused t p ++ bytes_taken (kept_after (left c) t) ps) (taking-fits (left c) p h)
         ∙ ap (λ (s : Received). p ++ bytes_taken s ps) (advanced-left c p)
 
     all_one : AllTaken (left (c ++ p)) ps → AllTaken (left c) (p ∷ ps)
     all_one a = (
-      ap number_of (taking-fits (left c) p h),
-      subst (λ (s : Received). AllTaken s ps) (sym (ap received_of (taking-fits (left c) p h) ∙ advanced-left c p)) a,
+      ap number_in (taking-fits (left c) p h),
+      subst (λ (s : Received). AllTaken s ps) (sym (ap (kept_after (left c)) (taking-fits (left c) p h) ∙ advanced-left c p)) a,
     )
 
   module _ (h : size < length c + length p) where
     after_none : after (left c) (p ∷ ps) ≡ after (left c) ps
-    after_none = ap (λ (t : Taking). after t.received ps) (taking-past (left c) p h)
+    after_none = ap (λ (t : Result Received Reason). after (kept_after (left c) t) ps) (taking-past (left c) p h)
 
     bytes-none : bytes_taken (left c) (p ∷ ps) ≡ bytes_taken (left c) ps
-    bytes-none = ap (λ (t : Taking). unless_refused t.number p ++ bytes_taken t.received ps) (taking-past (left c) p h)
+    bytes-none = ap (λ (t : Result Received Reason). unless_refused t p ++ bytes_taken (kept_after (left c) t) ps) (taking-past (left c) p h)
 
 after-left : (ps : List (List ℕ)) (c : List ℕ) → after (left c) ps ≡ left (c ++ bytes_taken (left c) ps)
 after-left [] c = ap left (sym (append-nil c))
@@ -141,12 +137,12 @@ any_state s room =
     record {
       two = λ p q l.
           let e : length (p ++ q) ≡ length p + length q = length-append p q in
-          let f : (taking s p).received ≡ advanced s p = ap received_of (taking-fits s p (omega arith)) in
+          let f : state_after s p ≡ advanced s p = ap (kept_after s) (taking-fits s p (omega arith)) in
           let n : (advanced s p).taken ≡ s.taken + length p = advanced_further s p in
           ap (λ (t : Received). taking t q) f
           ∙ (taking-fits (advanced s p) q (omega arith)
-          ∙ (ap (λ (t : Received). record { number = 0; received = t }) (advanced-joined s room p q) ∙ sym (taking-fits s (p ++ q) l)));
-      nothing = λ l. taking-fits s [] (omega arith) ∙ ap (λ (t : Received). record { number = 0; received = t }) (advanced-nothing s);
+          ∙ (ap (λ (t : Received). Ok t) (advanced-joined s room p q) ∙ sym (taking-fits s (p ++ q) l)));
+      nothing = λ l. taking-fits s [] (omega arith) ∙ ap (λ (t : Received). Ok t) (advanced-nothing s);
     }
 
 pub most : (ps : List (List ℕ)) → length (bytes_taken fresh ps) ≤ size

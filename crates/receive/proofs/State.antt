@@ -7,6 +7,8 @@ use native.Mathlib.Omega.{arith}
 use lib.Dec.{lit<}
 use lib.ListN.{length, take, drop, length-append}
 use lib.Seq.{take_at, drop_at}
+use Rattle.std.proofs.Common.{Result, Ok, Err}
+use Rattle.refusal.specs.declared.Reason.{Reason}
 use Rattle.endian.specs.Bytes.{Bytes, le, to_le, window, splice, zeros}
 use Rattle.endian.proofs.Parts.{bytes_window, bytes_append, bytes_splice}
 use Rattle.endian.proofs.Numbers.{length-to_le, le-to_le, to_le_bytes}
@@ -21,9 +23,9 @@ use Rattle.block.specs.declared.Holding.{Holding}
 use Rattle.block.proofs.RoundTrip.{holding-back}
 use Rattle.receive.specs.declared.Received.{Received}
 use Rattle.receive.specs.Receive.{fresh, part, block_with, length_in, used_in, sum_with, advanced, taking}
-use Rattle.receive.specs.Demand.{after, unless_refused, bytes_taken, size, state_bytes, EachBytes, Kept, Holds, said, UsedBytes, Laying}
+use Rattle.receive.specs.Demand.{kept_after, state_after, after, unless_refused, bytes_taken, size, state_bytes, EachBytes, Kept, Holds, said, UsedBytes, Laying}
 use Rattle.receive.proofs.Joined.{left, block_of, same_state, block_length}
-use Rattle.receive.proofs.Following.{after-fresh, most, received_of, taking-fits}
+use Rattle.receive.proofs.Following.{after-fresh, most, taking-fits}
 
 -- what the state holds
 holds-left : (c : List ℕ) → Holds c (left c)
@@ -81,11 +83,11 @@ state_length c =
 
 taken_bytes : (ps : List (List ℕ)) (s : Received) → EachBytes ps → Bytes (bytes_taken s ps)
 taken_bytes [] s b = λ i. lit< tt
-taken_bytes (p ∷ ps) s b = bytes_append (unless_refused (taking s p).number p) (bytes_taken (taking s p).received ps) (one (taking s p).number) (taken_bytes ps (taking s p).received b.1)
+taken_bytes (p ∷ ps) s b = bytes_append (unless_refused (taking s p) p) (bytes_taken (state_after s p) ps) (one (taking s p)) (taken_bytes ps (state_after s p) b.1)
   where
-    one : (n : ℕ) → Bytes (unless_refused n p)
-    one zero = b.0
-    one (suc n) = λ i. lit< tt
+    one : (a : Result Received Reason) → Bytes (unless_refused a p)
+    one (Ok t) = b.0
+    one (Err e) = λ i. lit< tt
 
 zero_bytes : (n : ℕ) → Bytes (zeros n)
 unfolding zeros
@@ -154,8 +156,8 @@ advanced_laying s p = (refl, refl, refl)
 
 pub laying : (s : Received) (p : List ℕ) (fits : s.taken + length p ≤ size) → Laying s p fits
 laying s p fits =
-    let f : (taking s p).received ≡ advanced s p = ap received_of (taking-fits s p fits) in
-    let g : (advanced s p).block ≡ (taking s p).received.block = ap (λ (t : Received). t.block) (sym f) in
+    let f : (state_after s p) ≡ advanced s p = ap (kept_after s) (taking-fits s p fits) in
+    let g : (advanced s p).block ≡ (state_after s p).block = ap (λ (t : Received). t.block) (sym f) in
     record {
       block = sym g ∙ (advanced_laying s p).0;
       a = ap (λ (t : Received). t.a) f

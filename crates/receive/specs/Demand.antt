@@ -1,46 +1,52 @@
 -- What pieces that follow one another give, without the state between them: the answer of the copy at once. Then what the state is. docs/FORMAT.md, 'A
 -- copy in pieces'. `proofs/Demand.antt` proves it.
-use Rattle.std.specs.Prelude.{ℕ, zero, suc, ◌+◌, ◌-◌, ◌≤◌, ◌<◌, ◌≡◌, ◌↔◌, true, false, length}
+use Rattle.std.specs.Prelude.{ℕ, ◌+◌, ◌-◌, ◌≤◌, ◌<◌, ◌≡◌, ◌↔◌, true, length, Option, Some, None, Result, Ok, Err}
 use mathlib.Core.List.{List, [], ◌∷◌, ◌++◌, flatten}
 use Rattle.endian.specs.Bytes.{Bytes, le, to_le, window, splice, zeros}
 use Rattle.checksum.specs.Crc.{checksum, continued}
+use Rattle.refusal.specs.declared.Reason.{Reason}
+use Rattle.refusal.specs.Reasons.{reason, number_in}
 use Rattle.layout.specs.Limits.{record_limit}
 use Rattle.layout.specs.declared.Area.{Area}
 use Rattle.layout.specs.declared.Area.TheVariants.{A, B}
 use Rattle.block.specs.declared.Holding.{Holding}
-use Rattle.block.specs.declared.Entry.{Entry}
-use Rattle.block.specs.declared.Entry.TheVariants.{Used}
-use Rattle.block.specs.declared.Verdict.TheVariants.{Refused}
-use Rattle.block.specs.Block.{entry_at, reading, refused_reading}
+use Rattle.block.specs.Block.{entry_at, reading}
 use Rattle.block.specs.Accepted.{Accepted}
-use Rattle.copy.specs.declared.Present.TheVariants.{Nothing, At}
 use Rattle.copy.specs.declared.CopyReading.{CopyReading}
-use Rattle.copy.specs.Copy.{copy_reading}
-use Rattle.copy.specs.Demand.{Sized, moment, Reads}
+use Rattle.copy.specs.Copy.{present_at, mapped, copy_reading}
+use Rattle.copy.specs.Demand.{Sized, moment, a_in, b_in, present_in, Reads}
 use Rattle.receive.specs.declared.Received.{Received}
 use Rattle.receive.specs.Receive.{fresh, part, used_in, taking, ending}
+
+-- the state that a caller has after a piece: the one that is answered, or its own where the piece is refused
+abbrev pub kept_after : Received → Result Received Reason → Received
+kept_after s (Ok t) = t
+kept_after s (Err e) = s
+
+abbrev pub state_after : Received → List ℕ → Received
+state_after s p = kept_after s (taking s p)
 
 -- the pieces one after the other, each state handed on as given: the last state
 abbrev pub after : Received → List (List ℕ) → Received
 after s [] = s
-after s (p ∷ ps) = after (taking s p).received ps
+after s (p ∷ ps) = after (state_after s p) ps
 
 -- the bytes that were taken: those of the pieces that were not refused, in order
-abbrev pub unless_refused : ℕ → List ℕ → List ℕ
-unless_refused zero p = p
-unless_refused (suc n) p = []
+abbrev pub unless_refused : Result Received Reason → List ℕ → List ℕ
+unless_refused (Ok t) p = p
+unless_refused (Err e) p = []
 
 abbrev pub bytes_taken : Received → List (List ℕ) → List ℕ
 bytes_taken s [] = []
-bytes_taken s (p ∷ ps) = unless_refused (taking s p).number p ++ bytes_taken (taking s p).received ps
+bytes_taken s (p ∷ ps) = unless_refused (taking s p) p ++ bytes_taken (state_after s p) ps
 
 -- none of the pieces is refused
 abbrev pub AllTaken : Received → List (List ℕ) → Type 0
 AllTaken s [] = Unit {0}
-AllTaken s (p ∷ ps) = ((taking s p).number ≡ 0) × AllTaken (taking s p).received ps
+AllTaken s (p ∷ ps) = (number_in (taking s p) ≡ 0) × AllTaken (state_after s p) ps
 
 -- what the end answers after pieces, from the fresh state
-abbrev pub answered : List (List ℕ) → CopyReading
+abbrev pub answered : List (List ℕ) → Result CopyReading Reason
 answered ps = ending (after fresh ps)
 
 -- the size of a copy, in bytes
@@ -67,20 +73,20 @@ NoTrace = (ps qs : List (List ℕ)) → bytes_taken fresh ps ≡ bytes_taken fre
 -- Nor does it in any other state, made up or not: two pieces with which the copy has not too many bytes are answered as both at once, and a
 -- piece of nothing leaves the state as it is.
 pub record AnyState (s : Received) (room : length s.block ≡ 512) : Type 0 where
-  pub two : (p q : List ℕ) → s.taken + length (p ++ q) ≤ size → taking (taking s p).received q ≡ taking s (p ++ q)
-  pub nothing : s.taken ≤ size → taking s [] ≡ record { number = 0; received = s }
+  pub two : (p q : List ℕ) → s.taken + length (p ++ q) ≤ size → taking (state_after s p) q ≡ taking s (p ++ q)
+  pub nothing : s.taken ≤ size → taking s [] ≡ Ok s
 
 -- A piece that passes the copy's end answers 1, keeps the state and is not taken: exactly such a piece, in every state. Every other answers 0 and
 -- moves the state on by its length.
 pub record Passing (s : Received) (p : List ℕ) : Type 0 where
-  pub one : (taking s p).number ≡ 1 ↔ size < s.taken + length p
-  pub zero : (taking s p).number ≡ 0 ↔ s.taken + length p ≤ size
-  pub kept : size < s.taken + length p → (taking s p).received ≡ s
-  pub further : s.taken + length p ≤ size → (taking s p).received.taken ≡ s.taken + length p
+  pub one : number_in (taking s p) ≡ 1 ↔ size < s.taken + length p
+  pub zero : number_in (taking s p) ≡ 0 ↔ s.taken + length p ≤ size
+  pub kept : size < s.taken + length p → (state_after s p) ≡ s
+  pub further : s.taken + length p ≤ size → (state_after s p).taken ≡ s.taken + length p
 
 -- Fewer bytes at the end answer 1, and nothing beside it; so does every state in which other than a copy's bytes were taken.
-abbrev pub refused_with_one : CopyReading
-refused_with_one = record { block = refused_reading 1; a = false; b = false; present = Nothing }
+abbrev pub refused_with_one : Result CopyReading Reason
+refused_with_one = Err (reason 1)
 
 pub record NoCopy : Type 0 where
   pub fewer : (ps : List (List ℕ)) → length (bytes_taken fresh ps) < size → answered ps ≡ refused_with_one
@@ -129,14 +135,14 @@ Part = (c p : List ℕ) (from n : ℕ) → window (c ++ p) from n ≡ window c f
 -- What a piece that is taken does to any state: its bytes of the block are laid into the block, and of the used bytes of an area, by the entry that is
 -- then in the block, its own are added to those whose checksum was there.
 pub record Laying (s : Received) (p : List ℕ) (fits : s.taken + length p ≤ size) : Type 0 where
-  pub block : (taking s p).received.block ≡ splice s.block (s.taken - 512) (part p s.taken 512 512)
-  pub a : (taking s p).received.a ≡ continued s.a (part p s.taken 4096 (used_in (taking s p).received.block A))
-  pub b : (taking s p).received.b ≡ continued s.b (part p s.taken (4096 + record_limit) (used_in (taking s p).received.block B))
+  pub block : (state_after s p).block ≡ splice s.block (s.taken - 512) (part p s.taken 512 512)
+  pub a : (state_after s p).a ≡ continued s.a (part p s.taken 4096 (used_in (state_after s p).block A))
+  pub b : (state_after s p).b ≡ continued s.b (part p s.taken (4096 + record_limit) (used_in (state_after s p).block B))
 
 -- What the end says of any state in which a copy's bytes were taken: the block's own fields or number, and nothing beside a number; an area is whole
 -- exactly when the block is accepted and the area's entry, at offset 96 or 128, is used and has the checksum that is in the state; the present
 -- record is the whole one with the later time.
-abbrev pub entry_on : List ℕ → Area → Entry
+abbrev pub entry_on : List ℕ → Area → Option Holding
 entry_on block A = entry_at block 96
 entry_on block B = entry_at block 128
 
@@ -146,18 +152,17 @@ sum_on s B = s.b
 
 pub record WholeIn (s : Received) (x : Area) (h : Holding) : Type 0 where
   pub accepted : Accepted s.block
-  pub used : entry_on s.block x ≡ Used h
+  pub used : entry_on s.block x ≡ Some h
   pub checksum : sum_on s x ≡ h.checksum
 
 pub record Ending (s : Received) (full : s.taken ≡ size) : Type 0 where
-  pub block : (ending s).block ≡ reading s.block
-  pub refused : (n : ℕ) → (reading s.block).verdict ≡ Refused n
-      → ending s ≡ record { block = refused_reading n; a = false; b = false; present = Nothing }
-  pub a : (ending s).a ≡ true ↔ ((h : Holding) × WholeIn s A h)
-  pub b : (ending s).b ≡ true ↔ ((h : Holding) × WholeIn s B h)
+  pub block : mapped (λ (r : CopyReading). r.block) (ending s) ≡ reading s.block
+  pub refused : (e : Reason) → reading s.block ≡ Err e → ending s ≡ Err e
+  pub a : a_in (ending s) ≡ true ↔ ((h : Holding) × WholeIn s A h)
+  pub b : b_in (ending s) ≡ true ↔ ((h : Holding) × WholeIn s B h)
   pub present : (x : Area) (h : Holding)
-      → ((ending s).present ≡ At x h ↔ (WholeIn s x h × ((y : Area) (k : Holding) → WholeIn s y k → moment k ≤ moment h)))
-  pub nothing : (ending s).present ≡ Nothing ↔ ((x : Area) (h : Holding) → ¬ WholeIn s x h)
+      → (present_in (ending s) ≡ present_at x h ↔ (WholeIn s x h × ((y : Area) (k : Holding) → WholeIn s y k → moment k ≤ moment h)))
+  pub nothing : present_in (ending s) ≡ None ↔ ((x : Area) (h : Holding) → ¬ WholeIn s x h)
 
 -- What is claimed.
 pub record Pieces : Type 0 where

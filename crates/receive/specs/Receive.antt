@@ -1,24 +1,21 @@
 -- A copy in pieces: the state between two of them, what taking one answers, what the end answers. docs/FORMAT.md, 'A copy in pieces'.
-use Rattle.std.specs.Prelude.{ℕ, ◌+◌, ◌-◌, Bool, false, cond, List, leb, eqb, length}
+use Rattle.std.specs.Prelude.{ℕ, ◌+◌, ◌-◌, Bool, false, cond, List, leb, eqb, length, Option, Some, None, Result, Ok, Err}
 use Rattle.endian.specs.Bytes.{window, splice, zeros}
 use Rattle.checksum.specs.Crc.{continued}
+use Rattle.refusal.specs.declared.Reason.{Reason}
 use Rattle.refusal.specs.Numbers.{slice_size}
+use Rattle.refusal.specs.Reasons.{reason}
 use Rattle.layout.specs.Limits.{sector_bytes, block_offset, length_allowed}
 use Rattle.layout.specs.Places.{area_offset, copy_bytes}
 use Rattle.layout.specs.declared.Area.{Area}
 use Rattle.layout.specs.declared.Area.TheVariants.{A, B}
-use Rattle.block.specs.declared.Entry.{Entry}
-use Rattle.block.specs.declared.Entry.TheVariants.{Unused, Used}
+use Rattle.block.specs.declared.Holding.{Holding}
 use Rattle.block.specs.declared.Reading.{Reading}
-use Rattle.block.specs.declared.Verdict.{Verdict}
-use Rattle.block.specs.declared.Verdict.TheVariants.{Accepted, Refused}
-use Rattle.block.specs.Block.{fields_of, reading, refused_reading}
+use Rattle.block.specs.Block.{fields_of, reading}
 use Rattle.block.specs.Writing.{holding_of}
-use Rattle.copy.specs.declared.Present.TheVariants.{Nothing}
 use Rattle.copy.specs.declared.CopyReading.{CopyReading}
-use Rattle.copy.specs.Copy.{entry_in, present_by}
+use Rattle.copy.specs.Copy.{entry_in, present_by, mapped}
 use Rattle.receive.specs.declared.Received.{Received}
-use Rattle.receive.specs.declared.Taking.{Taking}
 
 -- the fresh state: no byte taken, a block of zeros, the checksums of no bytes
 unfoldable pub fresh : Received
@@ -55,24 +52,28 @@ advanced_with s p block =
 unfoldable pub advanced : Received → List ℕ → Received
 advanced s p = advanced_with s p (block_with s.block s.taken p)
 
--- what a piece is answered with: a piece that passes the copy's end answers 1, keeps the state and is not taken
-unfoldable pub taking : Received → List ℕ → Taking
-taking s p = cond (fits_in s.taken (length p)) (record { number = 0; received = advanced s p }) (record { number = slice_size; received = s })
+-- what a piece is answered with: the state with it, or 1 where it passes the copy's end; then it is not taken
+unfoldable pub taking : Received → List ℕ → Result Received Reason
+taking s p = cond (fits_in s.taken (length p)) (Ok (advanced s p)) (Err (reason slice_size))
 
 -- an area is whole, whose used bytes have this checksum
-abbrev pub sum_right : ℕ → Entry → Bool
-sum_right sum Unused = false
-sum_right sum (Used h) = eqb sum h.checksum
+abbrev pub sum_right : ℕ → Option Holding → Bool
+sum_right sum None = false
+sum_right sum (Some h) = eqb sum h.checksum
 
 -- what the end answers: 1 where other than a copy's bytes were taken; else what reading the block says and, where it is accepted, which
 -- areas are whole by their checksums, and the present record
-abbrev pub ended_for : Received → Reading → Verdict → CopyReading
-ended_for s r (Accepted f) =
-    record { block = r; a = sum_right s.a f.a; b = sum_right s.b f.b; present = present_by f (sum_right s.a f.a) (sum_right s.b f.b) }
-ended_for s r (Refused n) = record { block = r; a = false; b = false; present = Nothing }
+abbrev pub taken_reading : Received → Result Reading Reason
+taken_reading s = cond (eqb s.taken copy_bytes) (reading s.block) (Err (reason slice_size))
 
 abbrev pub ended_with : Received → Reading → CopyReading
-ended_with s r = ended_for s r r.verdict
+ended_with s r =
+    record {
+      block = r;
+      a = sum_right s.a r.fields.a;
+      b = sum_right s.b r.fields.b;
+      present = present_by r.fields (sum_right s.a r.fields.a) (sum_right s.b r.fields.b);
+    }
 
-unfoldable pub ending : Received → CopyReading
-ending s = cond (eqb s.taken copy_bytes) (ended_with s (reading s.block)) (ended_with s (refused_reading slice_size))
+unfoldable pub ending : Received → Result CopyReading Reason
+ending s = mapped (ended_with s) (taken_reading s)

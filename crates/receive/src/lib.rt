@@ -2,12 +2,13 @@
 // not needed again: of the areas nothing is kept but the checksums of what came.
 #![tactic(auto)]
 
-ghost use Rattle.std.specs.Prelude.{◌≡◌, ◌-◌};
-ghost use Rattle.receive.specs.Receive.{part, block_with, used_in, sum_with, fresh, fits_in, taking, sum_right, ending};
+ghost use Rattle.std.specs.Prelude.{◌≡◌};
+ghost use Rattle.receive.specs.Receive.{part, block_with, used_in, sum_with, fresh, fits_in, taking, sum_right, taken_reading, ending};
 
-use block::{Entry, Verdict};
-use copy::{CopyReading, Present};
+use block::{Holding, Reading};
+use copy::CopyReading;
 use layout::Area;
+use refusal::Reason;
 
 // The most used bytes of an area.
 const AREA_BYTES: usize = layout::RECORD_LIMIT as usize;
@@ -25,28 +26,20 @@ pub struct Received {
     pub b: u32,
 }
 
-// What a piece is answered with: 0, or the refusal number, and the state from here on.
-#[derive(Clone, Copy)]
-pub struct Taking {
-    pub number: u8,
-    pub received: Received,
-}
-
-// a - b, or 0 where b is more than a.
-fn past(a: usize, b: usize) -> usize
-    ensures { result ≡ a - b }
-{
-    if a < b { 0 } else { a - b }
-}
-
 // Of a piece that begins at byte `at` of the copy: its bytes that are among the copy's n bytes from `from` on.
+#[tactic(auto, unfolding(crate::specs::Receive::part))]
 fn part(piece: &[u8], at: usize, from: usize, n: usize) -> &[u8]
     ensures { result.now ≡ part piece.now at from n }
 {
-    endian::window(piece, past(from, at), past(n, past(at, from)))
+    endian::window(
+        piece,
+        from.saturating_sub(at),
+        n.saturating_sub(at.saturating_sub(from)),
+    )
 }
 
 // The signature block with what the piece has of it.
+#[tactic(auto, unfolding(crate::specs::Receive::block_with))]
 fn block_with(
     block: [u8; layout::SECTOR_BYTES],
     at: usize,
@@ -57,47 +50,50 @@ fn block_with(
     let mut r = block;
     endian::put(
         &mut r,
-        past(at, layout::BLOCK_OFFSET),
+        at.saturating_sub(layout::BLOCK_OFFSET),
         part(piece, at, layout::BLOCK_OFFSET, layout::SECTOR_BYTES),
     );
     r
 }
 
 // The used bytes of an area, by its entry in the block; 0 where the entry says a length that no record has.
+#[tactic(auto, unfolding(crate::specs::Receive::used_in))]
 fn used_in(block: &[u8], x: Area) -> usize
     ensures { result ≡ used_in block.now x }
 {
     let h = block::holding_of(copy::entry_in(block::fields(block), x));
-    let allowed = layout::length_allowed(h.bytes as u64);
-    if !allowed {
+    if !layout::length_allowed(h.bytes as u64) {
         return 0;
     }
     h.bytes as usize
 }
 
 // The checksum of an area's used bytes, with what the piece has of them. It does not read the entry where the piece has nothing of the area.
+#[tactic(auto, unfolding(crate::specs::Receive::sum_with))]
 fn sum_with(sum: u32, block: &[u8], at: usize, piece: &[u8], x: Area) -> u32
     ensures { result ≡ sum_with sum block.now at piece.now x }
 {
     let from = layout::area_offset(x);
     let all = part(piece, at, from, AREA_BYTES);
-    if all.len() == 0 {
+    if all.is_empty() {
         return sum;
     }
     checksum::continued(sum, part(piece, at, from, used_in(block, x)))
 }
 
 // Whether a piece of n bytes does not pass the copy's end, `at` bytes of which were taken.
+#[tactic(auto, unfolding(crate::specs::Receive::fits_in, layout::specs::Places::copy_bytes, layout::specs::Limits::record_limit))]
 fn fits_in(at: usize, n: usize) -> bool
     ensures { result ≡ fits_in at n }
 {
-    if layout::copy_bytes() < at {
-        return false;
+    match at.checked_add(n) {
+        Some(end) => end <= layout::copy_bytes(),
+        None => false,
     }
-    n <= layout::copy_bytes() - at
 }
 
 // The state before the first piece.
+#[tactic(auto, unfolding(crate::specs::Receive::fresh, endian::specs::Bytes::zeros))]
 pub fn begin() -> Received
     ensures { result ≡ fresh }
 {
@@ -109,68 +105,55 @@ pub fn begin() -> Received
     }
 }
 
-// Takes a piece. One that passes the copy's end is refused with 1 and not taken, and the state stays as it was.
-pub fn piece(s: Received, piece: &[u8]) -> Taking
+// Takes a piece, and answers the state from here on. One that passes the copy's end is refused with 1 and not taken: its caller keeps the
+// state that it has.
+#[tactic(auto, unfolding(crate::specs::Receive::taking, crate::specs::Receive::advanced))]
+pub fn piece(s: Received, piece: &[u8]) -> Result<Received, Reason>
     ensures { result ≡ taking s piece.now }
 {
-    let before = s.block;
     if !fits_in(s.taken, piece.len()) {
-        return Taking {
-            number: refusal::SLICE_SIZE,
-            received: s,
-        };
+        return Err(Reason::SliceSize);
     }
-    let block = block_with(before, s.taken, piece);
+    let block = block_with(s.block, s.taken, piece);
     let a = sum_with(s.a, &block, s.taken, piece, Area::A);
     let b = sum_with(s.b, &block, s.taken, piece, Area::B);
     let taken = s.taken + piece.len();
-    Taking {
-        number: 0,
-        received: Received { taken, block, a, b },
-    }
+    Ok(Received { taken, block, a, b })
 }
 
 // Whether an area is whole, whose used bytes have this checksum.
-fn sum_right(sum: u32, e: Entry) -> bool
+fn sum_right(sum: u32, e: Option<Holding>) -> bool
     ensures { result ≡ sum_right sum e }
 {
     match e {
-        Entry::Unused => false,
-        Entry::Used(h) => sum == h.checksum,
+        None => false,
+        Some(h) => sum == h.checksum,
+    }
+}
+
+// What reading the block says; 1 where other than a copy's bytes were taken.
+fn read_block(s: Received) -> Result<Reading, Reason>
+    ensures { result ≡ taken_reading s }
+{
+    if s.taken == layout::copy_bytes() {
+        block::read(&s.block)
+    } else {
+        Err(Reason::SliceSize)
     }
 }
 
 // What the pieces that were taken say, as `copy::read` says it of them at once: 1 where other than a copy's bytes were taken.
-pub fn end(s: Received) -> CopyReading
+#[tactic(auto, unfolding(crate::specs::Receive::ending))]
+pub fn end(s: Received) -> Result<CopyReading, Reason>
     ensures { result ≡ ending s }
 {
-    let whole = s.taken == layout::copy_bytes();
-    if !whole {
-        return CopyReading {
-            block: block::refused(refusal::SLICE_SIZE),
-            a: false,
-            b: false,
-            present: Present::Nothing,
-        };
-    }
-    let bytes = s.block;
-    let r = block::read(&bytes);
-    let v = r.verdict;
-    let Verdict::Accepted(f) = v else {
-        return CopyReading {
-            block: r,
-            a: false,
-            b: false,
-            present: Present::Nothing,
-        };
-    };
-    let a = sum_right(s.a, copy::entry_in(f, Area::A));
-    let b = sum_right(s.b, copy::entry_in(f, Area::B));
-    let p = copy::present_by(f, a, b);
-    CopyReading {
-        block: r,
+    let block = read_block(s)?;
+    let a = sum_right(s.a, block.fields.a);
+    let b = sum_right(s.b, block.fields.b);
+    Ok(CopyReading {
+        block,
         a,
         b,
-        present: p,
-    }
+        present: copy::present_by(block.fields, a, b),
+    })
 }

@@ -1,24 +1,23 @@
 -- Demand 2's second half and what a record is, proved: the names of specs/Demand.antt.
 use Prim.Native.Nat.{ℕ, zero, suc, ◌+◌, ◌-◌, ◌*◌, ◌/◌, ◌%◌, ◌≤◌, ◌<◌, min}
 use mathlib.Core.Path.{◌≡◌, refl, sym, ap, ap₂, ◌∙◌, subst}
-use mathlib.Core.Bool.{Bool, true, false, cond, ◌&&◌}
+use mathlib.Core.Bool.{Bool, true, false, ◌&&◌, or-true}
 use mathlib.Core.Logic.{◌⊎◌, inl, inr}
 use mathlib.Core.List.{List, [], ◌∷◌, ◌++◌}
 use native.Mathlib.Decide.{dec_le, dec_lt, ℕ_discrete}
 use native.Mathlib.Nat.{le_refl, not-suc-le-zero}
 use native.Mathlib.Numerals.{add-one}
 use native.Mathlib.Omega.{arith}
-use borrow.Author.Tests.{le-leb, leb-true, eqb-true, eq-eqb, ne_eqb}
+use borrow.Author.Tests.{le-leb, lt-leb, leb-true, eqb-true, eq-eqb, ne_eqb}
 use lib.Dec.{leb, eqb, lit<, lit≤}
 use lib.ListN.{length, take, drop, length-take, length-drop}
-use lib.Seq.{take_at, drop_at, get_or-take, get_or-drop}
-use Rattle.endian.specs.Bytes.{window, to_le, zeros}
+use lib.Seq.{drop_at, get_or-take, get_or-drop}
+use Rattle.endian.specs.Bytes.{window, to_le}
 use Rattle.endian.proofs.Tests.{and_left, and_right, and_both}
 use Rattle.refusal.specs.Numbers.{device_size, metadata_size, reserved_size, record_length, record_form, segment_place, segment_clash}
 use Rattle.refusal.specs.declared.Refusal.{Refusal}
-use Rattle.refusal.specs.Refusals.{plain}
 use Rattle.refusal.specs.Tests.{Test, ◌else_refuse◌, first, AllHold, Fails, Ascending}
-use Rattle.refusal.proofs.Order.{first-pass, first_fail, first-lowest, first-zero, first-after, first_all, hold_before}
+use Rattle.refusal.proofs.Order.{first-pass, first_fail, first-lowest, first-zero, first-after, first_all, first_below, hold_before}
 use Rattle.layout.specs.declared.Device.{Device}
 use Rattle.layout.specs.Limits.{size_allowed, metadata_allowed, reserved_allowed, device_tests, length_allowed, record_limit}
 use Rattle.layout.specs.Places.{data_start, data_end}
@@ -29,40 +28,37 @@ use Rattle.segments.specs.declared.Range.{Range}
 use Rattle.segments.specs.Segments.{none, nth, InRange}
 use Rattle.segments.specs.Clash.{later_of, earlier_of, apart}
 use Rattle.segments.specs.Sectors.{held_by, is_free, allocated, free_sectors, Holder}
-use Rattle.segments.specs.Order.{order_of, Placed}
+use Rattle.segments.specs.Order.{Placed}
 use Rattle.segments.specs.Demand.{Share, FirstPair}
 use Rattle.segments.proofs.Segments.{in_range-back}
 use Rattle.segments.proofs.Pairs.{apart_share, share_found, first-pair, one-pair}
 use Rattle.segments.proofs.Clash.{apart_not}
 use Rattle.segments.proofs.Sectors.{Laid}
 use Rattle.segments.proofs.Sectors as Sectors
-use Rattle.segments.proofs.Order.{order-length, in_order}
+use Rattle.segments.proofs.Order.{in_order}
 use Rattle.items.specs.declared.Head.{Head}
 use Rattle.items.specs.declared.Head.TheVariants.{Plain, Marked}
-use Rattle.items.specs.Head.{head_of, head_bytes, head_size, block_size_allowed, head_right, data_range, range_for, most_of_any, head_kind, low_water, item_bytes, block_size}
+use Rattle.items.specs.Head.{head_of, head_bytes, head_size, block_size_allowed, head_right, data_range, range_for, head_kind, low_water, item_bytes, block_size}
 use Rattle.items.specs.Items.{items_of, segments, well_formed}
 use Rattle.items.proofs.Items.{length-segments, nth-segments, Fit, fit_of, Formed, formed}
 use Rattle.items.specs.Making.{segment_bytes, all_bytes, record_of}
 use Rattle.items.proofs.Heads.{kind-small, head_small, right-fits, right-allowed, allowed-right, one_range, plain-right, right-plain, marked_right, right_marked, unknown-wrong, kinds_allowed, allows_kinds, most_room, room_most, most-plain, most_marked, marked_full}
 use Rattle.items.proofs.Making.{formed_record, record_again}
 use Rattle.items.proofs.Building.{one_more}
-use Rattle.order.specs.declared.Order.{Order}
-use Rattle.order.specs.declared.Clash.TheVariants.{Nothing}
-use Rattle.order.specs.Ordering.{no_order, order}
-use Rattle.order.proofs.Ordering.{order-yes}
-use Rattle.record.specs.declared.Found.TheVariants as Found
-use Rattle.record.specs.declared.Counted.TheVariants as Counted
-use Rattle.record.specs.declared.Heading.TheVariants as Heading
-use Rattle.record.specs.Accept.{range_at, all_in_range, content_tests, record_tests, named, checked}
+use Rattle.std.specs.Prelude.{Ok}
+use Rattle.refusal.proofs.Reasons.{told_zero, told_other}
+use Rattle.order.specs.Ordering.{positions}
+use Rattle.order.proofs.Ordering.{positions-taken}
+use Rattle.record.specs.Accept.{range_at, all_in_range, content_tests, record_tests, named, answered, checked}
 use Rattle.record.specs.Sectors.{parts}
-use Rattle.record.specs.Answers.{position_tests, found_refusal, counted_refusal, heading_refusal, handed_on, all_values, some_room}
+use Rattle.record.specs.Answers.{position_tests, handed_on, all_values, some_room, segments_left}
 use Rattle.record.specs.Demand.{Right, Exactly, ReadAfterMake, BlockSize, Heads, HeadSays, four_bytes, two_bytes, eight_bytes, ItemBytes, HeadBytes, Full, Most, printed_segment, printed_device, printed_item, Printed, Means, Meaning, Malformed, Lowest, Partition, Cases, Sums, ClashBy, ClashExactly, EachRight, Clashing, Content, Naming, Ordered, Handed, NotHanded, Handing, Numbered, Valued}
-use Rattle.record.proofs.Testing.{device-ascending, content_ascending, record_ascending, fails_at}
-use Rattle.record.proofs.Naming.{named-number, named_other, named-pair, named_none, refuse-yes}
-use Rattle.record.proofs.Accepted.{Accepted, accepted, ends, laid, ordered, fewer}
+use Rattle.record.proofs.Testing.{device-ascending, content_ascending, record_ascending, more_no, fails_at}
+use Rattle.record.proofs.Naming.{named-number, named_other, named-pair, refusal_named}
+use Rattle.record.proofs.Accepted.{Accepted, accepted, ends, laid, ordered}
 use Rattle.record.proofs.Right.{tests_but_last, segments_each, tests_each, tests_right, read_head, read_segments, accepted_made, accepted-right, right-empty}
 use Rattle.record.proofs.Change.{right-append}
-use Rattle.record.proofs.Handing.{values_length, values_at, Hands, hands-refused, hands_none, hands-short, hands-some}
+use Rattle.record.proofs.Handing.{values_length, values_at}
 
 pub exactly : Exactly
 exactly d s small b = (forth, back)
@@ -167,23 +163,14 @@ content_clash d s e =
     [] (apart (segments s)) 19 (content_ascending d s) e
 
 -- the order that a check gives of an accepted record
-pub order_is : (d : Device) (s : List ℕ) → first (record_tests d s) ≡ 0
-    → (checked (first (record_tests d s)) s).order ≡ record { at = order_of (segments s) ++ zeros (most_of_any - length (segments s)); ordered = true; clash = Nothing }
+pub order_is : (d : Device) (s : List ℕ) → first (record_tests d s) ≡ 0 → checked (first (record_tests d s)) s ≡ Ok (positions (segments s))
 unfolding checked
-order_is d s h =
-    let a : Accepted d s = accepted d s h in
-    rw h (order-yes (segments s) (fewer d s a) (ordered d s a))
-
-pub order-taken : (d : Device) (s : List ℕ) → first (record_tests d s) ≡ 0
-    → take (length (segments s)) (checked (first (record_tests d s)) s).order.at ≡ order_of (segments s)
-order-taken d s h =
-    ap (λ (o : Order). take (length (segments s)) o.at) (order_is d s h)
-    ∙ take_at (order_of (segments s)) (zeros (most_of_any - length (segments s))) (length (segments s)) (order-length (segments s))
+order_is d s h = told_zero (first (record_tests d s)) (named (first (record_tests d s)) s) (positions (segments s)) h
 
 pub ordered_all : Ordered
 ordered_all d s h = (
-  ap (λ (o : Order). o.ordered) (order_is d s h),
-  subst (Placed (segments s)) (sym (order-taken d s h)) (in_order (segments s) (ordered d s (accepted d s h))),
+  positions (segments s),
+  (order_is d s h, subst (Placed (segments s)) (sym (positions-taken (segments s))) (in_order (segments s) (ordered d s (accepted d s h)))),
 )
 
 -- heads and kinds in the format's numbers
@@ -437,26 +424,17 @@ clash_exactly d s small b = (forth, back)
 pub content : Content
 content d s z = sym (first-after (device_tests d) (content_tests d s) (first-zero 0 (device_tests d) (device-ascending d) z))
 
--- the check of an accepted record
-zero-named : (d : Device) (s : List ℕ) → first (record_tests d s) ≡ 0 → plain 0 ≡ named (first (record_tests d s)) s
-zero-named d s a = sym (named_none s) ∙ ap (λ (k : ℕ). named k s) (sym a)
+-- the tests that follow those of an accepted record
+after : (d : Device) (s : List ℕ) (us : List Test) → first (record_tests d s) ≡ 0 → first (record_tests d s ++ us) ≡ first us
+after d s us a = first-after (record_tests d s) us (first-zero 0 (record_tests d s) (record_ascending d s) a)
 
--- n segments handed on, by what the call leaves
+-- segments that are handed on, and segments that are not, by the number of the call's tests
 module _ (d : Device) (s : List ℕ) (p : ℕ) (t : List ℕ) where
-  handed_none : first (record_tests d s) ≡ 0 → length (segments s) ≤ p → Handed d s p t 0
-  handed_none a l =
-      let h : Hands d s p t (Counted.Segments 0) t = hands_none d s p t (plain 0) (zero-named d s a) refl (items_of s) (length (segments s)) refl refl l in
-      record {
-        answer = sym h.0;
-        there = λ i k. absurd (not-suc-le-zero k);
-        room = omega arith;
-        most = inl (omega arith);
-        each = λ i k. absurd (not-suc-le-zero k);
-        past = ap (λ (q : List ℕ). drop 0 q) (sym h.1);
-      }
-
   abbrev n : ℕ
   n = min (length t / 3) (length (segments s) - p)
+
+  abbrev number : ℕ
+  number = first (record_tests d s ++ some_room s p (length t))
 
   all_taken : length (take n (drop p (segments s))) ≡ n
   all_taken =
@@ -464,13 +442,16 @@ module _ (d : Device) (s : List ℕ) (p : ℕ) (t : List ℕ) where
       let y : length (drop p (segments s)) ≡ length (segments s) - p = length-drop p (segments s) in
       omega arith
 
-  handed-some : first (record_tests d s) ≡ 0 → 3 ≤ length t → Handed d s p t n
-  handed-some a l =
-      let h : Hands d s p t (Counted.Segments n) (all_values (take n (drop p (segments s))) ++ drop (3 * n) t)
-      = hands-some d s p t (plain 0) (zero-named d s a) refl (items_of s) (length (segments s)) refl refl l n (all_values (take n (drop p (segments s))) ++ drop (3 * n) t) refl refl in
+  left : number ≡ 0 → segments_left d s p t ≡ all_values (take n (drop p (segments s))) ++ drop (3 * n) t
+  unfolding handed_on
+  left z = rw z
+
+  handed : number ≡ 0 → Handed d s p t n
+  unfolding handed_on
+  handed z =
       let many : length (take n (drop p (segments s))) ≡ n = all_taken in
       record {
-        answer = sym h.0;
+        answer = told_zero number (named number s) n z;
         there = λ i k. omega arith;
         room = omega arith;
         most = elim (dec_le (length (segments s)) (p + n)) [
@@ -478,55 +459,61 @@ module _ (d : Device) (s : List ℕ) (p : ℕ) (t : List ℕ) where
           | no e ↦ inr (omega arith)
         ];
         each = λ i k.
-            ap (λ (q : List ℕ). take 3 (drop (3 * i) q)) (sym h.1)
-            ∙ (values_at (take n (drop p (segments s))) i (drop (3 * n) t) (let z : i < length (take n (drop p (segments s))) = omega arith in z)
+            ap (λ (q : List ℕ). take 3 (drop (3 * i) q)) (left z)
+            ∙ (values_at (take n (drop p (segments s))) i (drop (3 * n) t) (let l : i < length (take n (drop p (segments s))) = omega arith in l)
             ∙ ap (λ (g : Segment). g.kind ∷ g.start ∷ g.sectors ∷ []) (get_or-take n (drop p (segments s)) i none k ∙ get_or-drop p (segments s) i none));
-        past = ap (λ (q : List ℕ). drop (3 * n) q) (sym h.1) ∙ drop_at (all_values (take n (drop p (segments s)))) (drop (3 * n) t) (3 * n) (values_length (take n (drop p (segments s))) ∙ omega arith);
+        past = ap (λ (q : List ℕ). drop (3 * n) q) (left z) ∙ drop_at (all_values (take n (drop p (segments s)))) (drop (3 * n) t) (3 * n) (values_length (take n (drop p (segments s))) ∙ omega arith);
       }
 
+  not_handed : (m : ℕ) → 0 < m → number ≡ m → NotHanded d s p t m
+  not_handed m l e = (
+    ap (λ (k : ℕ). answered k s (handed_on s p (length t))) e ∙ told_other m (named m s) (handed_on s p (length t)) (λ z. omega arith),
+    rw (e, ne_eqb m 0 (λ z. omega arith)),
+  )
+
+-- the test of the room
+room-enough : (s : List ℕ) (p w : ℕ) → (length (segments s) ≤ p) ⊎ (3 ≤ w) → first (some_room s p w) ≡ 0
+unfolding first
+room-enough s p w (inl l) = rw (le-leb (length (segments s)) p l)
+room-enough s p w (inr l) = rw (le-leb 3 w l, or-true (leb (length (segments s)) p))
+
+room-short : (s : List ℕ) (p w : ℕ) → p < length (segments s) → w < 3 → first (some_room s p w) ≡ 1
+unfolding first
+room-short s p w l k = rw (lt-leb (length (segments s)) p l, lt-leb 3 w k)
+
 pub handing : Handing
-handing d s p t = (some, (short, refused))
-  where
-    some : first (record_tests d s) ≡ 0 → (length (segments s) ≤ p) ⊎ (3 ≤ length t) → (n : ℕ) × Handed d s p t n
-    some a (inl l) = (0, handed_none d s p t a l)
-    some a (inr l) = (min (length t / 3) (length (segments s) - p), handed-some d s p t a l)
+handing d s p t = (
+  λ a h. (min (length t / 3) (length (segments s) - p), handed d s p t (after d s (some_room s p (length t)) a ∙ room-enough s p (length t) h)),
+  (
+    λ a l k. not_handed d s p t 1 (lit< tt) (after d s (some_room s p (length t)) a ∙ room-short s p (length t) l k),
+    λ n l a. not_handed d s p t n l (sym (more_no d s (some_room s p (length t)) n (sym a) (λ z. omega arith))),
+  ),
+)
 
-    short : first (record_tests d s) ≡ 0 → p < length (segments s) → length t < 3 → NotHanded d s p t 1
-    short a l k =
-        let h : Hands d s p t (Counted.Refused (plain 1)) t = hands-short d s p t (plain 0) (zero-named d s a) refl (items_of s) (length (segments s)) refl refl l k (plain 1) refl in
-        (sym h.0 ∙ ap Counted.Refused (sym (named_other 1 s (λ z. omega arith))), sym h.1)
+-- a record's tests, and those that follow them, have numbers that are known
+record-known : (d : Device) (s : List ℕ) → first (record_tests d s) < 25
+record-known d s = first_below 25 (record_tests d s) (lit< tt) (lit< tt, (lit< tt, (lit< tt, (lit< tt, (lit< tt, (lit< tt, (lit< tt, tt)))))))
 
-    refused : (n : ℕ) → 0 < n → first (record_tests d s) ≡ n → NotHanded d s p t n
-    refused n l a =
-        let e : (named n s).number ≡ n = named-number n s in
-        let h : Hands d s p t (Counted.Refused (named n s)) t = hands-refused d s p t (named n s) (ap (λ (k : ℕ). named k s) (sym a)) (λ z. omega arith) in
-        (sym h.0, sym h.1)
-
--- the refusal of an answer that is made of its tests' number
-pub refusal_of : {A : Type 0} (refusal : A → Refusal) (value : A) (refused : Refusal → A) (s : List ℕ) → refusal value ≡ plain 0 → ((r : Refusal) → refusal (refused r) ≡ r)
-    → (n : ℕ) → refusal (cond (eqb n 0) value (refused (named n s))) ≡ named n s
-refusal_of refusal value refused s z r n =
-    elim (ℕ_discrete n 0) [
-      | yes e ↦ rw (eq-eqb n 0 e) (z ∙ (sym (named_none s) ∙ ap (λ (k : ℕ). named k s) (sym e)))
-      | no e ↦ rw (ne_eqb n 0 e) (r (named n s))
-    ]
+one_more-known : (d : Device) (s : List ℕ) (b : Bool) (n : ℕ) → n < 25 → first (record_tests d s ++ ((b else_refuse n) ∷ [])) < 25
+one_more-known d s b n l =
+    first_below 25 (record_tests d s ++ ((b else_refuse n) ∷ [])) (lit< tt) (lit< tt, (lit< tt, (lit< tt, (lit< tt, (lit< tt, (lit< tt, (lit< tt, (l, tt))))))))
 
 pub numbered : Numbered
 unfolding checked
 numbered d s p w =
     record {
-      check = refl;
-      order_none = λ z. ap (λ (b : Bool). cond b (order (segments s)) no_order) (ne_eqb (first (record_tests d s)) 0 z);
-      segment = refusal_of found_refusal (Found.At (nth (segments s) p)) Found.Refused s refl (λ r. refl) (first (record_tests d s ++ position_tests s p));
-      many = refusal_of counted_refusal (Counted.Segments (length (segments s))) Counted.Refused s refl (λ r. refl) (first (record_tests d s));
-      head = refusal_of heading_refusal (Heading.Of (head_of s)) Heading.Refused s refl (λ r. refl) (first (record_tests d s));
-      handed = refusal_of counted_refusal (Counted.Segments (handed_on s p w)) Counted.Refused s refl (λ r. refl) (first (record_tests d s ++ some_room s p w));
+      check = refusal_named (first (record_tests d s)) s (positions (segments s)) (record-known d s);
+      order_none = told_other (first (record_tests d s)) (named (first (record_tests d s)) s) (positions (segments s));
+      segment = refusal_named (first (record_tests d s ++ position_tests s p)) s (nth (segments s) p) (one_more-known d s _ 22 (lit< tt));
+      many = refusal_named (first (record_tests d s)) s (length (segments s)) (record-known d s);
+      head = refusal_named (first (record_tests d s)) s (head_of s) (record-known d s);
+      handed = refusal_named (first (record_tests d s ++ some_room s p w)) s (handed_on s p w) (one_more-known d s _ 1 (lit< tt));
     }
 
 pub valued : Valued
 valued d s p =
     record {
-      segment = λ z. sym (refuse-yes (Found.At (nth (segments s) p)) Found.Refused s (first (record_tests d s ++ position_tests s p)) (first (record_tests d s ++ position_tests s p)) refl z);
-      many = λ z. sym (refuse-yes (Counted.Segments (length (segments s))) Counted.Refused s (first (record_tests d s)) (first (record_tests d s)) refl z);
-      head = λ z. sym (refuse-yes (Heading.Of (head_of s)) Heading.Refused s (first (record_tests d s)) (first (record_tests d s)) refl z);
+      segment = told_zero (first (record_tests d s ++ position_tests s p)) (named (first (record_tests d s ++ position_tests s p)) s) (nth (segments s) p);
+      many = told_zero (first (record_tests d s)) (named (first (record_tests d s)) s) (length (segments s));
+      head = told_zero (first (record_tests d s)) (named (first (record_tests d s)) s) (head_of s);
     }

@@ -10,13 +10,15 @@ use Rattle.refusal.specs.declared.Refusal.{Refusal}
 use Rattle.refusal.specs.Numbers.{segment_clash}
 use Rattle.refusal.specs.Refusals.{plain}
 use Rattle.refusal.proofs.Order.{answer_no, answer-yes}
+use Rattle.refusal.specs.Reasons.{reason_of, refusal_in}
+use Rattle.refusal.proofs.Reasons.{named_back}
 use Rattle.refusal.proofs.Refusals.{but_number, but_there, but_other}
 use Rattle.segments.specs.Clash.{later_of, earlier_of, apart}
 use Rattle.segments.proofs.Clash.{apart_not}
 use Rattle.items.specs.Items.{segments}
 use Rattle.order.specs.Ordering.{first_clash}
 use Rattle.order.proofs.Ordering.{clash_pair}
-use Rattle.record.specs.Accept.{named, clash_refusal}
+use Rattle.record.specs.Accept.{named, answered, clash_reason}
 
 -- the number, a number with nothing beside it, and the pair beside 19
 pub named-number : (n : ℕ) (s : List ℕ) → (named n s).number ≡ n
@@ -35,11 +37,17 @@ named-pair s = but_there segment_clash _ _
 pub named_none : (s : List ℕ) → named 0 s ≡ plain 0
 named_none s = named_other 0 s (λ z. omega arith)
 
--- the refusal of segments of which two share a sector, as the code finds it
-pub clash_named : (s : List ℕ) → apart (segments s) ≡ false → clash_refusal (first_clash (segments s)) ≡ named segment_clash s
+-- why segments are refused of which two share a sector, as the code finds it
+pub clash_named : (s : List ℕ) → apart (segments s) ≡ false → clash_reason (first_clash (segments s)) ≡ reason_of (named segment_clash s)
 clash_named s h =
     let l : earlier_of (segments s) < length (segments s) = apart_not (segments s) h in
-    ap clash_refusal (clash_pair (segments s) (earlier_of (segments s)) (later_of (segments s) (earlier_of (segments s))) l refl refl) ∙ sym (named-pair s)
+    ap clash_reason (clash_pair (segments s) (earlier_of (segments s)) (later_of (segments s) (earlier_of (segments s))) l refl refl)
+    ∙ ap reason_of (sym (named-pair s))
+
+-- the refusal in an answer of a call whose tests have numbers that are known
+pub refusal_named : {A : Type 0} (n : ℕ) (s : List ℕ) (v : A) → n < 25 → refusal_in (answered n s v) ≡ named n s
+unfolding named
+refusal_named n s v l = named_back _ _ n v l
 
 -- the refusal r of a check whose number is m: its number, and the same by its own number
 pub number_is : (r : Refusal) (m : ℕ) (s : List ℕ) → r ≡ named m s → r.number ≡ m

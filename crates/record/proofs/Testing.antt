@@ -19,36 +19,15 @@ use Rattle.record.specs.Answers.{position_tests}
 pub device-ascending : (d : Device) → Ascending 0 (device_tests d)
 device-ascending d = (lit< tt, (lit< tt, (lit< tt, tt)))
 
--- none of them is 19
-pub device-below : (d : Device) → first (device_tests d) < segment_clash
-device-below d = first_below segment_clash (device_tests d) (lit< tt) (lit< tt, (lit< tt, (lit< tt, tt)))
-
 pub content_ascending : (d : Device) (s : List ℕ) → Ascending 0 (content_tests d s)
 content_ascending d s = (lit< tt, (lit< tt, (lit< tt, (lit< tt, tt))))
 
 pub record_ascending : (d : Device) (s : List ℕ) → Ascending 0 (record_tests d s)
 record_ascending d s = (lit< tt, (lit< tt, (lit< tt, (lit< tt, (lit< tt, (lit< tt, (lit< tt, tt)))))))
 
--- the number r of the device numbers' tests, not 0, or that of the record's after them
-pub check_no : (d : Device) (us : List Test) (r : ℕ) → r ≡ first (device_tests d) → (r ≡ 0 → ⊥) → r ≡ first (device_tests d ++ us)
-check_no d us r e h = e ∙ sym (first-before 0 (device_tests d) us (device-ascending d) (λ z. h (e ∙ z)))
-
-pub check-yes : (d : Device) (us : List Test) (r q : ℕ) → r ≡ first (device_tests d) → r ≡ 0 → q ≡ first us → q ≡ first (device_tests d ++ us)
-check-yes d us r q e h k = k ∙ sym (first-after (device_tests d) us (first-zero 0 (device_tests d) (device-ascending d) (sym e ∙ h)))
-
 -- the same of tests that follow those of a record
 pub more_no : (d : Device) (s : List ℕ) (us : List Test) (r : ℕ) → r ≡ first (record_tests d s) → (r ≡ 0 → ⊥) → r ≡ first (record_tests d s ++ us)
 more_no d s us r e h = e ∙ sym (first-before 0 (record_tests d s) us (record_ascending d s) (λ z. h (e ∙ z)))
-
-pub more_yes : (d : Device) (s : List ℕ) (us : List Test) (r q : ℕ) → r ≡ first (record_tests d s) → r ≡ 0 → q ≡ first us → q ≡ first (record_tests d s ++ us)
-more_yes d s us r q e h k = k ∙ sym (first-after (record_tests d s) us (first-zero 0 (record_tests d s) (record_ascending d s) (sym e ∙ h)))
-
--- the test of a position
-pub position_past : (s : List ℕ) (p : ℕ) → length (segments s) ≤ p → no_segment ≡ first (position_tests s p)
-position_past s p h = sym (first_fail (ltb p (length (segments s))) no_segment [] (le-ltb p (length (segments s)) h))
-
-pub position_there : (s : List ℕ) (p : ℕ) → p < length (segments s) → 0 ≡ first (position_tests s p)
-position_there s p h = sym (first-pass (ltb p (length (segments s))) no_segment [] (lt-ltb p (length (segments s)) h) ∙ first-nil)
 
 pub record_numbered : (d : Device) (s : List ℕ) → Numbered (record_tests d s)
 record_numbered d s = ascending-numbered 0 (record_tests d s) (record_ascending d s)

@@ -1,8 +1,10 @@
 -- When a segment record is accepted on a device: the tests in the format's order, and what a check answers of one that is not.
-use Rattle.std.specs.Prelude.{ℕ, Bool, cond, List, [], ◌∷◌, ◌++◌, eqb, length}
+use Rattle.std.specs.Prelude.{ℕ, Bool, List, [], ◌∷◌, ◌++◌, length, Option, Some, None, Result}
 use Rattle.refusal.specs.Numbers.{record_length, record_form, segment_place, segment_clash}
 use Rattle.refusal.specs.declared.Refusal.{Refusal}
-use Rattle.refusal.specs.Refusals.{plain, plain_but}
+use Rattle.refusal.specs.Refusals.{plain_but}
+use Rattle.refusal.specs.declared.Reason.{Reason}
+use Rattle.refusal.specs.Reasons.{told}
 use Rattle.refusal.specs.Tests.{Test, ◌else_refuse◌}
 use Rattle.layout.specs.declared.Device.{Device}
 use Rattle.layout.specs.Limits.{device_tests, length_allowed}
@@ -14,9 +16,7 @@ use Rattle.items.specs.declared.Head.{Head}
 use Rattle.items.specs.Head.{head_of, range_for}
 use Rattle.items.specs.Items.{segments, well_formed}
 use Rattle.order.specs.declared.Clash.{Clash}
-use Rattle.order.specs.declared.Clash.TheVariants.{Pair, Nothing}
-use Rattle.order.specs.Ordering.{no_order, order}
-use Rattle.record.specs.declared.Checked.{Checked}
+use Rattle.order.specs.Ordering.{positions}
 
 -- the segment at position i is not empty and lies wholly in the range that its kind may lie in
 abbrev pub range_at : Device → Head → List Segment → ℕ → Bool
@@ -43,11 +43,15 @@ record_tests d s = device_tests d ++ content_tests d s
 unfoldable pub named : ℕ → List ℕ → Refusal
 named n s = plain_but segment_clash (earlier_of (segments s)) (later_of (segments s) (earlier_of (segments s))) n
 
--- what a check with an order answers, whose number is n: of an accepted record the order of its segments; no order of a refused one
-unfoldable pub checked : ℕ → List ℕ → Checked
-checked n s = record { refusal = named n s; order = cond (eqb n 0) (order (segments s)) no_order }
+-- what such a call answers: v where its number is 0
+abbrev pub answered : {A : Type 0} → ℕ → List ℕ → A → Result A Reason
+answered n s v = told n (named n s) v
 
--- the refusal of a record by what the search for a clash answers; nothing public cites this
-abbrev pub clash_refusal : Clash → Refusal
-clash_refusal (Pair i j) = record { number = segment_clash; first = i; second = j }
-clash_refusal Nothing = plain 0
+-- what a check with an order answers: of an accepted record the positions of its segments in their order
+unfoldable pub checked : ℕ → List ℕ → Result (List ℕ) Reason
+checked n s = answered n s (positions (segments s))
+
+-- why a record is refused, by what the search for a clash answers; nothing public cites this
+abbrev pub clash_reason : Option Clash → Reason
+clash_reason (Some c) = Reason.SegmentClash c.first c.second
+clash_reason None = Reason.SegmentPlace

@@ -1,7 +1,8 @@
 -- Demand 2, second half, and what a record is, in other words than the tests. A device's size below 2^64 and elements below 256
 -- (`Bytes`) are what the machine's types have. `proofs/Demand.antt` proves all of it.
-use Rattle.std.specs.Prelude.{ℕ, ◌+◌, ◌*◌, ◌/◌, ◌%◌, ◌^◌, ◌≤◌, ◌<◌, ◌≡◌, true, false, ◌⊎◌, List, [], ◌∷◌, ◌++◌, length, take, drop}
+use Rattle.std.specs.Prelude.{ℕ, ◌+◌, ◌*◌, ◌/◌, ◌%◌, ◌^◌, ◌≤◌, ◌<◌, ◌≡◌, true, false, ◌⊎◌, List, [], ◌∷◌, ◌++◌, length, take, drop, Ok, Err}
 use Rattle.endian.specs.Bytes.{Bytes}
+use Rattle.refusal.specs.Reasons.{reason_of, refusal_in}
 use Rattle.refusal.specs.Tests.{Test, first, Fails}
 use Rattle.layout.specs.declared.Device.{Device}
 use Rattle.layout.specs.Limits.{size_allowed, metadata_allowed, reserved_allowed, device_tests, record_limit}
@@ -16,13 +17,9 @@ use Rattle.items.specs.declared.Head.TheVariants.{Plain, Marked, Unknown}
 use Rattle.items.specs.Head.{head_of, head_kind, head_size, block_size, low_water, head_allowed, head_right, allows, data_range, range_for, item_bytes, most_segments}
 use Rattle.items.specs.Items.{segments}
 use Rattle.items.specs.Making.{record_of}
-use Rattle.order.specs.Ordering.{no_order}
-use Rattle.record.specs.declared.Found.TheVariants as Found
-use Rattle.record.specs.declared.Counted.TheVariants as Counted
-use Rattle.record.specs.declared.Heading.TheVariants as Heading
 use Rattle.record.specs.Accept.{content_tests, record_tests, named, checked}
 use Rattle.record.specs.Sectors.{parts}
-use Rattle.record.specs.Answers.{position_tests, segment_answer, found_refusal, count_answer, counted_refusal, head_answer, heading_refusal, some_room, segments_answer, segments_left}
+use Rattle.record.specs.Answers.{position_tests, segment_answer, count_answer, head_answer, some_room, segments_answer, segments_left}
 
 -- A head and segments that are each right on a device, whether any share a sector or not: all of this, in no order.
 pub record EachRight (d : Device) (h : Head) (gs : List Segment) : Type 0 where
@@ -240,12 +237,11 @@ Naming = (s : List ℕ) → Beside s
 abbrev pub Ordered : Type 0
 Ordered =
     (d : Device) (s : List ℕ) → first (record_tests d s) ≡ 0
-    → ((checked (first (record_tests d s)) s).order.ordered ≡ true)
-    × Placed (segments s) (take (length (segments s)) (checked (first (record_tests d s)) s).order.at)
+    → (p : List ℕ) × ((checked (first (record_tests d s)) s ≡ Ok p) × Placed (segments s) (take (length (segments s)) p))
 
 -- The n segments from position p on that are handed on to the table t.
 pub record Handed (d : Device) (s : List ℕ) (p : ℕ) (t : List ℕ) (n : ℕ) : Type 0 where
-  pub answer : segments_answer d s p (length t) ≡ Counted.Segments n
+  pub answer : segments_answer d s p (length t) ≡ Ok n
   -- they are there and have room, and none is left or the table has no room for one more
   pub there : (i : ℕ) → i < n → p + i < length (segments s)
   pub room : 3 * n ≤ length t
@@ -258,7 +254,7 @@ pub record Handed (d : Device) (s : List ℕ) (p : ℕ) (t : List ℕ) (n : ℕ)
 
 -- a refusal: the number with what stands beside it, and the table as it was
 abbrev pub NotHanded : Device → List ℕ → ℕ → List ℕ → ℕ → Type 0
-NotHanded d s p t n = (segments_answer d s p (length t) ≡ Counted.Refused (named n s)) × (segments_left d s p t ≡ t)
+NotHanded d s p t n = (segments_answer d s p (length t) ≡ Err (reason_of (named n s))) × (segments_left d s p t ≡ t)
 
 -- Segments of an accepted record are handed on, but where some are left and the table has no room for one: 1.
 abbrev pub Handing : Type 0
@@ -270,21 +266,21 @@ Handing =
 
 -- What a call answers has the number that its tests give, with what stands beside it, for every input; and a check that refuses has no order.
 pub record Numbers (d : Device) (s : List ℕ) (p w : ℕ) : Type 0 where
-  pub check : (checked (first (record_tests d s)) s).refusal ≡ named (first (record_tests d s)) s
-  pub order_none : (first (record_tests d s) ≡ 0 → ⊥) → (checked (first (record_tests d s)) s).order ≡ no_order
-  pub segment : found_refusal (segment_answer d s p) ≡ named (first (record_tests d s ++ position_tests s p)) s
-  pub many : counted_refusal (count_answer d s) ≡ named (first (record_tests d s)) s
-  pub head : heading_refusal (head_answer d s) ≡ named (first (record_tests d s)) s
-  pub handed : counted_refusal (segments_answer d s p w) ≡ named (first (record_tests d s ++ some_room s p w)) s
+  pub check : refusal_in (checked (first (record_tests d s)) s) ≡ named (first (record_tests d s)) s
+  pub order_none : (first (record_tests d s) ≡ 0 → ⊥) → checked (first (record_tests d s)) s ≡ Err (reason_of (named (first (record_tests d s)) s))
+  pub segment : refusal_in (segment_answer d s p) ≡ named (first (record_tests d s ++ position_tests s p)) s
+  pub many : refusal_in (count_answer d s) ≡ named (first (record_tests d s)) s
+  pub head : refusal_in (head_answer d s) ≡ named (first (record_tests d s)) s
+  pub handed : refusal_in (segments_answer d s p w) ≡ named (first (record_tests d s ++ some_room s p w)) s
 
 abbrev pub Numbered : Type 0
 Numbered = (d : Device) (s : List ℕ) (p w : ℕ) → Numbers d s p w
 
 -- What a call answers that is not refused; for segments in a table it is `Handing`.
 pub record Values (d : Device) (s : List ℕ) (p : ℕ) : Type 0 where
-  pub segment : first (record_tests d s ++ position_tests s p) ≡ 0 → segment_answer d s p ≡ Found.At (nth (segments s) p)
-  pub many : first (record_tests d s) ≡ 0 → count_answer d s ≡ Counted.Segments (length (segments s))
-  pub head : first (record_tests d s) ≡ 0 → head_answer d s ≡ Heading.Of (head_of s)
+  pub segment : first (record_tests d s ++ position_tests s p) ≡ 0 → segment_answer d s p ≡ Ok (nth (segments s) p)
+  pub many : first (record_tests d s) ≡ 0 → count_answer d s ≡ Ok (length (segments s))
+  pub head : first (record_tests d s) ≡ 0 → head_answer d s ≡ Ok (head_of s)
 
 abbrev pub Valued : Type 0
 Valued = (d : Device) (s : List ℕ) (p : ℕ) → Values d s p

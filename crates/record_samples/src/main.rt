@@ -5,12 +5,11 @@
 
 ghost use Rattle.std.specs.Prelude.{◌≤◌};
 
-use allocation::{Allocation, FreeTotal, Released, RunCount, RunFound};
 use items::Head;
 use layout::Device;
-use record::{Counted, Found, Heading};
-use refusal::Refusal;
-use sampling::{beside, number, one, print, put_segment, say, two};
+use refusal::{Reason, Refusal};
+use runs::Run;
+use sampling::{beside, number, one, print, put_segment, refusal, say, two};
 
 // The bytes of a record with as many segments as it can have.
 const FULL: usize = items::HEAD_BYTES + items::ITEM_BYTES * items::MOST_SEGMENTS;
@@ -30,16 +29,36 @@ fn hex(n: u64) {
     print(sampling::long_hex(n));
 }
 
+// Prints numbers.
+fn numbers(all: &[u64]) {
+    for n in all {
+        print(number(*n));
+    }
+}
+
 // Ends a line.
 fn end() {
     say(b"\n");
 }
 
-// Prints a refusal and ends the line.
-fn refused(r: Refusal) {
-    say(b" ");
-    print(sampling::refusal(r));
+// Prints what a call answers, its value or why it refuses, and ends the line.
+// Not shared by the sample programs: a public function over a closure would have a `requires`.
+fn answer<T, F: FnOnce(T)>(a: Result<T, Reason>, show: F)
+    requires { F.IsAlwaysCallable show }
+{
+    match a {
+        Ok(value) => show(value),
+        Err(r) => {
+            say(b" ");
+            print(refusal(Refusal::from(r)));
+        }
+    }
     end();
+}
+
+// The refusal in an answer, with the number 0 where there is none.
+fn refusal_in(a: Result<(), Reason>) -> Refusal {
+    a.map_or_else(Refusal::from, |_| refusal::plain(0))
 }
 
 // The example device.
@@ -54,9 +73,8 @@ fn device() -> Device {
 // Prints the number that a record gives on a device, and what stands beside it.
 fn check_on(what: &[u8], d: Device, s: &[u8]) {
     name(what);
-    let r = record::check(d, s);
-    let n = r.number;
-    print(number(n as u64));
+    let r = refusal_in(record::check(d, s));
+    print(number(r.number as u64));
     print(beside(r));
     end();
 }
@@ -69,54 +87,30 @@ fn check(what: &[u8], s: &[u8]) {
 // Prints the head's block size.
 fn head(s: &[u8]) {
     name(b"block size");
-    match record::read_head(device(), s) {
-        Heading::Of(h) => {
-            let size = items::block_size(h);
-            print(number(size as u64));
-            end();
-        }
-        Heading::Refused(n) => refused(n),
-    }
+    answer(
+        record::read_head(device(), s),
+        |h| numbers(&[items::block_size(h) as u64]),
+    );
 }
 
 // Prints the number of segments.
 fn count(s: &[u8]) {
     name(b"segments");
-    match record::read_count(device(), s) {
-        Counted::Segments(n) => {
-            print(number(n as u64));
-            end();
-        }
-        Counted::Refused(n) => refused(n),
-    }
+    answer(record::read_count(device(), s), |n| numbers(&[n as u64]));
 }
 
 // Prints the segment at a position: kind, start, sectors.
 fn segment(s: &[u8], position: usize) {
     name(b"segment");
     print(number(position as u64));
-    match record::read_segment(device(), s, position) {
-        Found::At(g) => {
-            let kind = g.kind;
-            print(number(kind as u64));
-            print(number(g.start));
-            print(number(g.sectors));
-            end();
-        }
-        Found::Refused(n) => refused(n),
-    }
+    answer(record::read_segment(device(), s, position), |g| {
+        numbers(&[g.kind as u64, g.start, g.sectors]);
+    });
 }
 
 // Prints a run's start and sectors.
-fn run(r: RunFound) {
-    match r {
-        RunFound::At(x) => {
-            print(number(x.start));
-            print(number(x.sectors));
-            end();
-        }
-        RunFound::Refused(n) => refused(n),
-    }
+fn run(a: Result<Run, Reason>) {
+    answer(a, |r| numbers(&[r.start, r.sectors]));
 }
 
 // Prints run number k.
@@ -129,21 +123,9 @@ fn run_at(s: &[u8], k: u64) {
 // Prints the number of free runs, and the free total.
 fn free(s: &[u8]) {
     name(b"free runs");
-    match allocation::count_runs(device(), s) {
-        RunCount::Runs(n) => {
-            print(number(n));
-            end();
-        }
-        RunCount::Refused(n) => refused(n),
-    }
+    answer(allocation::count_runs(device(), s), |n| numbers(&[n]));
     name(b"free total");
-    match allocation::free_total(device(), s) {
-        FreeTotal::Sectors(n) => {
-            print(number(n));
-            end();
-        }
-        FreeTotal::Refused(n) => refused(n),
-    }
+    answer(allocation::free_total(device(), s), |n| numbers(&[n]));
 }
 
 // Prints the first run for m sectors.
@@ -153,29 +135,21 @@ fn fit(s: &[u8], m: u64) {
     run(allocation::first_fit(device(), s, m));
 }
 
-// Prints what an allocation answers.
-fn allocated(a: Allocation) {
+// Prints what an allocation of m sectors into out answers.
+fn allocate(s: &[u8], kind: u16, m: u64, out: &mut [u8]) {
     name(b"allocated");
-    match a {
-        Allocation::Placed(start, len) => {
-            print(number(start));
-            print(number(len as u64));
-            end();
-        }
-        Allocation::Refused(n) => refused(n),
-    }
+    answer(allocation::allocate(device(), s, kind, m, out), |a| {
+        numbers(&[a.start, a.length as u64]);
+    });
 }
 
-// Prints what a release answers.
-fn released(a: Released) {
+// Prints what a release into out answers.
+fn release(s: &[u8], position: usize, out: &mut [u8]) {
     name(b"released");
-    match a {
-        Released::Length(len) => {
-            print(number(len as u64));
-            end();
-        }
-        Released::Refused(n) => refused(n),
-    }
+    answer(
+        allocation::release(device(), s, position, out),
+        |n| numbers(&[n as u64]),
+    );
 }
 
 // The printed record, and the same bytes made.
@@ -189,10 +163,9 @@ fn printed() {
     segment(s, 1);
     let made = one(2, 2048, 100);
     name(b"made");
-    hex(endian::read_u64(&made, 0));
-    hex(endian::read_u64(&made, 8));
-    hex(endian::read_u64(&made, 16));
-    hex(endian::read_u32(&made, 24) as u64);
+    for at in [0, 8, 16, 24] {
+        hex(endian::read_u64(&made, at));
+    }
     end();
 }
 
@@ -201,15 +174,12 @@ fn example() {
     let s = two(2048, 100, 3000, 50);
     check(b"example 9", &s);
     free(&s);
-    run_at(&s, 0);
-    run_at(&s, 1);
-    run_at(&s, 2);
-    run_at(&s, 0xFFFF_FFFF_FFFF_FFFF);
-    fit(&s, 852);
-    fit(&s, 853);
-    fit(&s, 2092054);
-    fit(&s, 2092055);
-    fit(&s, 0);
+    for k in [0, 1, 2, u64::MAX] {
+        run_at(&s, k);
+    }
+    for m in [852, 853, 2092054, 2092055, 0] {
+        fit(&s, m);
+    }
 }
 
 // Prints a new record of n bytes at the start of s: its number, two segments, its free room.
@@ -224,32 +194,32 @@ fn shown(s: &[u8], n: usize, first: usize, second: usize) {
 }
 
 // An allocation of m sectors, into 70 bytes.
-fn allocate(s: &[u8], kind: u16, m: u64) {
+fn allocate_and_show(s: &[u8], kind: u16, m: u64) {
     let mut out = [0u8; 70];
-    allocated(allocation::allocate(device(), s, kind, m, &mut out));
+    allocate(s, kind, m, &mut out);
     shown(&out, 68, 1, 2);
 }
 
 // A release, into 48 bytes.
-fn release(s: &[u8], position: usize) {
+fn release_and_show(s: &[u8], position: usize) {
     let mut out = [0u8; 48];
-    released(allocation::release(device(), s, position, &mut out));
+    release(s, position, &mut out);
     shown(&out, 28, 0, 1);
 }
 
 // An allocation and a release on example 9's record.
 fn changes() {
     let s = two(2048, 100, 3000, 50);
-    allocate(&s, 4, 853);
-    allocate(&s, 1, 852);
-    release(&s, 0);
-    release(&s, 1);
+    allocate_and_show(&s, 4, 853);
+    allocate_and_show(&s, 1, 852);
+    release_and_show(&s, 0);
+    release_and_show(&s, 1);
 }
 
 // An allocation that is refused, into 70 bytes.
 fn refuse(s: &[u8], kind: u16, m: u64) {
     let mut out = [7u8; 70];
-    allocated(allocation::allocate(device(), s, kind, m, &mut out));
+    allocate(s, kind, m, &mut out);
     name(b"two bytes left");
     print(number(endian::read_u16(&out, 0) as u64));
     end();
@@ -257,32 +227,28 @@ fn refuse(s: &[u8], kind: u16, m: u64) {
 
 // The same into 67 bytes, and a release into 27.
 fn refuse_small(s: &[u8]) {
-    let mut out = [7u8; 67];
-    allocated(allocation::allocate(device(), s, 1, 1, &mut out));
-    let mut less = [7u8; 27];
-    released(allocation::release(device(), s, 0, &mut less));
+    allocate(s, 1, 1, &mut [7; 67]);
+    release(s, 0, &mut [7; 27]);
 }
 
 // A release of a segment that is not there.
 fn refuse_release(s: &[u8]) {
-    let mut out = [0u8; 70];
-    released(allocation::release(device(), s, 2, &mut out));
+    release(s, 2, &mut [0; 70]);
+}
+
+// Prints the number that the begin of a record in out gives.
+fn begin(what: &[u8], size: u32, out: &mut [u8]) {
+    name(what);
+    let r = refusal_in(items::begin(out, Head::Plain(size)));
+    print(number(r.number as u64));
+    end();
 }
 
 // Heads that are refused.
 fn heads() {
-    let mut out = [0u8; 8];
-    name(b"begin with 64");
-    print(number(items::begin(&mut out, Head::Plain(64)) as u64));
-    end();
-    let mut more = [0u8; 8];
-    name(b"begin with 2097280");
-    print(number(items::begin(&mut more, Head::Plain(2097280)) as u64));
-    end();
-    let mut small = [0u8; 7];
-    name(b"begin in 7 bytes");
-    print(number(items::begin(&mut small, Head::Plain(128)) as u64));
-    end();
+    begin(b"begin with 64", 64, &mut [0; 8]);
+    begin(b"begin with 2097280", 2097280, &mut [0; 8]);
+    begin(b"begin in 7 bytes", 128, &mut [0; 7]);
 }
 
 // Requests that are refused.
@@ -293,35 +259,30 @@ fn requests() {
     refuse(&s, 16, 1);
     refuse(&s, 1, 0);
     refuse(&s, 1, 2092055);
-    refuse(&s, 1, 0xFFFF_FFFF_FFFF_FFFF);
+    refuse(&s, 1, u64::MAX);
     refuse_small(&s);
     refuse_release(&s);
     heads();
 }
 
-// Writes n segments of one sector each after the head in out.
-fn fill(out: &mut [u8], n: usize)
+// Begins a record in out, and writes n segments of one sector each.
+fn ones(out: &mut [u8], n: usize)
     requires { n ≤ 1000 }
 {
-    let mut i: usize = 0;
-    let mut start: u64 = 2048;
-    while i < n {
-        put_segment(out, i, 3, start, 1);
-        start += 1;
-        i += 1;
+    let _ = items::begin(out, Head::Plain(128));
+    for i in 0..n {
+        put_segment(out, i, 3, 2048 + i as u64, 1);
     }
 }
 
 // A record of 409 segments takes none more; one of 410 is too long.
 fn full() {
     let mut s = io::large_buffer();
-    items::begin(&mut s, Head::Plain(128));
-    fill(&mut s, items::MOST_SEGMENTS + 1);
+    ones(&mut s, items::MOST_SEGMENTS + 1);
     let most = endian::window(&s, 0, FULL);
     check(b"409 segments", most);
     count(most);
-    let mut out = [0u8; 70];
-    allocated(allocation::allocate(device(), most, 1, 1, &mut out));
+    allocate(most, 1, 1, &mut [0; 70]);
     check(
         b"410 segments",
         endian::window(&s, 0, FULL + items::ITEM_BYTES),
@@ -329,22 +290,16 @@ fn full() {
 }
 
 // 409 segments that fill the data range to its last sector: no free room, and no place for one more.
-fn filled() {
+fn full_range() {
     let mut s = io::large_buffer();
-    items::begin(&mut s, Head::Plain(128));
     let last = items::MOST_SEGMENTS - 1;
-    fill(&mut s, last);
+    ones(&mut s, last);
     put_segment(&mut s, last, 3, 2456, 2092648);
     let r = endian::window(&s, 0, FULL);
     check(b"409 segments to the last sector", r);
     free(r);
     fit(r, 1);
     run_at(r, 0);
-}
-
-// A segment of a record in the making.
-fn put(s: &mut [u8], i: usize, start: u64, sectors: u64) {
-    put_segment(s, i, 2, start, sectors);
 }
 
 // Prints what every call answers on a record.
@@ -361,53 +316,61 @@ fn every_call(what: &[u8], s: &[u8]) {
     refuse(s, 1, 1);
     refuse(s, 5, 0);
     refuse_release(s);
-    handed(s, 0);
+    handed_some(s, 0);
     handed_none(s, 1);
+}
+
+// A record with four data segments, each a start and its sectors.
+fn four(places: [(u64, u64); 4]) -> [u8; FOUR] {
+    let mut s = [0u8; FOUR];
+    let _ = items::begin(&mut s, Head::Plain(128));
+    for (i, (start, sectors)) in places.iter().enumerate() {
+        put_segment(&mut s, i, 2, *start, *sectors);
+    }
+    s
 }
 
 // Two pairs that clash: 0 and 2, 1 and 3.
 fn two_pairs() {
-    let mut s = [0u8; FOUR];
-    items::begin(&mut s, Head::Plain(128));
-    put(&mut s, 0, 2048, 100);
-    put(&mut s, 1, 3000, 50);
-    put(&mut s, 2, 2147, 1);
-    put(&mut s, 3, 3049, 10);
-    every_call(b"0 and 2, 1 and 3", &s);
+    every_call(
+        b"0 and 2, 1 and 3",
+        &four([(2048, 100), (3000, 50), (2147, 1), (3049, 10)]),
+    );
 }
 
 // Pairs that clash in other places.
 fn clashes() {
-    let mut s = [0u8; FOUR];
-    items::begin(&mut s, Head::Plain(128));
-    put(&mut s, 0, 5000, 10);
-    put(&mut s, 1, 3000, 50);
-    put(&mut s, 2, 3049, 10);
-    put(&mut s, 3, 3010, 1);
-    check(b"1 and 2, 1 and 3", &s);
-    put(&mut s, 1, 3049, 10);
-    put(&mut s, 2, 3010, 1);
-    put(&mut s, 3, 3000, 50);
-    check(b"1 and 3, 2 and 3", &s);
-    put(&mut s, 0, 3058, 2);
-    check(b"0 and 1, 1 and 3, 2 and 3", &s);
-    put(&mut s, 0, 3059, 2);
-    put(&mut s, 1, 3049, 9);
-    check(b"1 and 3, 2 and 3 beside one that touches", &s);
-    put(&mut s, 2, 3010, 0);
-    check(b"1 and 3 beside an empty one", &s);
+    check(
+        b"1 and 2, 1 and 3",
+        &four([(5000, 10), (3000, 50), (3049, 10), (3010, 1)]),
+    );
+    check(
+        b"1 and 3, 2 and 3",
+        &four([(5000, 10), (3049, 10), (3010, 1), (3000, 50)]),
+    );
+    check(
+        b"0 and 1, 1 and 3, 2 and 3",
+        &four([(3058, 2), (3049, 10), (3010, 1), (3000, 50)]),
+    );
+    check(
+        b"1 and 3, 2 and 3 beside one that touches",
+        &four([(3059, 2), (3049, 9), (3010, 1), (3000, 50)]),
+    );
+    check(
+        b"1 and 3 beside an empty one",
+        &four([(3059, 2), (3049, 9), (3010, 0), (3000, 50)]),
+    );
     check(b"the same twice", &two(2048, 100, 2048, 100));
 }
 
 // Of 409 segments the last two clash.
 fn last_two() {
     let mut s = io::large_buffer();
-    items::begin(&mut s, Head::Plain(128));
     let last = items::MOST_SEGMENTS - 1;
-    fill(&mut s, last);
-    put(&mut s, last, 2455, 2);
+    ones(&mut s, last);
+    put_segment(&mut s, last, 2, 2455, 2);
     check(b"the last two of 409", endian::window(&s, 0, FULL));
-    put(&mut s, last, 2048, 1);
+    put_segment(&mut s, last, 2, 2048, 1);
     check(
         b"the first and the last of 409",
         endian::window(&s, 0, FULL),
@@ -415,56 +378,45 @@ fn last_two() {
 }
 
 // Prints how many segments a table took; 100 and the number, with what stands beside it, where that is refused.
-fn taken(a: Counted) {
+fn taken(a: Result<usize, Reason>) {
     match a {
-        Counted::Segments(n) => {
+        Ok(n) => {
             print(number(n as u64));
         }
-        Counted::Refused(r) => {
-            let k = r.number;
-            print(number(k as u64 + 100));
+        Err(reason) => {
+            let r = Refusal::from(reason);
+            print(number(r.number as u64 + 100));
             print(beside(r));
         }
     }
 }
 
-// Prints how many segments from a position on a table of seven numbers takes, and the table.
-fn handed(s: &[u8], position: usize) {
-    let mut t = [9u64; 7];
-    let a = record::read_segments(device(), s, position, &mut t);
-    name(b"segments from");
+// Prints how many segments from a position on a table takes, and the table.
+fn handed(what: &[u8], s: &[u8], position: usize, table: &mut [u64]) {
+    let a = record::read_segments(device(), s, position, table);
+    name(what);
     print(number(position as u64));
     taken(a);
-    print(number(t[0]));
-    print(number(t[1]));
-    print(number(t[2]));
-    print(number(t[3]));
-    print(number(t[4]));
-    print(number(t[5]));
-    print(number(t[6]));
+    numbers(table);
     end();
 }
 
-// The same for a table with room for none.
+// The same for a table of seven numbers, and for one with room for no segment.
+fn handed_some(s: &[u8], position: usize) {
+    handed(b"segments from", s, position, &mut [9; 7]);
+}
+
 fn handed_none(s: &[u8], position: usize) {
-    let mut t = [9u64; 2];
-    let a = record::read_segments(device(), s, position, &mut t);
-    name(b"no room from");
-    print(number(position as u64));
-    taken(a);
-    print(number(t[0]));
-    print(number(t[1]));
-    end();
+    handed(b"no room from", s, position, &mut [9; 2]);
 }
 
 // Segments from a position on.
 fn handing() {
     let s = two(2048, 100, 3000, 50);
-    handed(&s, 0);
-    handed(&s, 1);
-    handed(&s, 2);
-    handed(&s, 0xFFFF_FFFF_FFFF_FFFF);
-    handed(&two(2048, 100, 2147, 1), 0);
+    for position in [0, 1, 2, usize::MAX] {
+        handed_some(&s, position);
+    }
+    handed_some(&two(2048, 100, 2147, 1), 0);
     handed_none(&s, 1);
     handed_none(&s, 2);
 }
@@ -524,9 +476,8 @@ fn ranges() {
     single(b"one past it", 2, 2095103, 2);
     single(b"past the data range", 2, 2095104, 1);
     single(b"the whole data range", 3, 2048, 2093056);
-    let most: u64 = 0xFFFF_FFFF_FFFF_FFFF;
-    single(b"a sum that wraps", 2, most, most);
-    single(b"a sum that wraps into the range", 2, 4096, most);
+    single(b"a sum that wraps", 2, u64::MAX, u64::MAX);
+    single(b"a sum that wraps into the range", 2, 4096, u64::MAX);
 }
 
 // Records that are cut short.
@@ -564,7 +515,7 @@ fn main() {
     changes();
     requests();
     full();
-    filled();
+    full_range();
     forms();
     records();
     ranges();

@@ -2,4 +2,5 @@
 pub mod Arms
 pub mod Order
 pub mod Refusals
+pub mod Reasons
 pub mod Demand

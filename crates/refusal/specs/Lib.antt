@@ -2,5 +2,6 @@
 pub mod Numbers
 pub mod Words
 pub mod Refusals
+pub mod Reasons
 pub mod Tests
 pub mod Demand

@@ -1,72 +1,53 @@
-// The refusal numbers (docs/FORMAT.md, 'Refusal numbers'), in one place, and the words of each. A number that a later paper adds gets its
-// constant, its name in specs/Numbers.antt, its line in specs/Words.antt and its arm below.
+// Why a call refuses, in one place: the refusal numbers (docs/FORMAT.md, 'Refusal numbers') and the words of each. A number that a later
+// paper adds gets its reason and its arms below, its name in specs/Numbers.antt, its place in specs/Reasons.antt and its line in
+// specs/Words.antt.
 #![tactic(auto)]
 
 ghost use Rattle.std.specs.Prelude.{◌≡◌};
 ghost use Rattle.refusal.specs.Words.{laid, words_of};
 ghost use Rattle.refusal.specs.Refusals.{plain};
+ghost use Rattle.refusal.specs.Reasons.{refusal_of};
 
-pub const NONE: u8 = 0;
+// Why a call refuses. Two segments that clash come with their positions, counted from 0.
+#[derive(Clone, Copy, PartialEq, Eq)]
+pub enum Reason {
+    SliceSize,
+    Signature,
+    BlockChecksum,
+    DeviceSize,
+    NotZero,
+    UuidByte,
+    MetadataSize,
+    ReservedSize,
+    AreaEntry,
+    NoBlock,
+    Identity,
+    NoRecord,
+    TwoRecords,
+    NotLater,
+    RecordLength,
+    NotInStep,
+    RecordForm,
+    SegmentPlace,
+    SegmentClash(u64, u64),
+    NoRoom,
+    RecordFull,
+    NoSegment,
+    NoStore,
+    HeadMove,
+}
 
-pub const SLICE_SIZE: u8 = 1;
-
-pub const SIGNATURE: u8 = 2;
-
-pub const BLOCK_CHECKSUM: u8 = 3;
-
-pub const DEVICE_SIZE: u8 = 4;
-
-pub const NOT_ZERO: u8 = 5;
-
-pub const UUID_BYTE: u8 = 6;
-
-pub const METADATA_SIZE: u8 = 7;
-
-pub const RESERVED_SIZE: u8 = 8;
-
-pub const AREA_ENTRY: u8 = 9;
-
-pub const NO_BLOCK: u8 = 10;
-
-pub const IDENTITY: u8 = 11;
-
-pub const NO_RECORD: u8 = 12;
-
-pub const TWO_RECORDS: u8 = 13;
-
-pub const NOT_LATER: u8 = 14;
-
-pub const RECORD_LENGTH: u8 = 15;
-
-pub const NOT_IN_STEP: u8 = 16;
-
-pub const RECORD_FORM: u8 = 17;
-
-pub const SEGMENT_PLACE: u8 = 18;
-
-pub const SEGMENT_CLASH: u8 = 19;
-
-pub const NO_ROOM: u8 = 20;
-
-pub const RECORD_FULL: u8 = 21;
-
-pub const NO_SEGMENT: u8 = 22;
-
-pub const NO_STORE: u8 = 23;
-
-pub const HEAD_MOVE: u8 = 24;
-
-// A refusal: its number, 0 for none, and what stands beside it. Beside 19 these are the positions, counted from 0, of the two segments that clash;
-// beside every other number both are zero.
+// A refusal as C reads it: its number, 0 for none, and what stands beside it. Beside 19 these are the positions of the two segments that
+// clash; beside every other number both are zero.
 #[repr(C)]
-#[derive(Clone, Copy)]
+#[derive(Clone, Copy, PartialEq, Eq)]
 pub struct Refusal {
     pub number: u8,
     pub first: u64,
     pub second: u64,
 }
 
-// A number with nothing beside it. Not for 19, which has something (`record`, `named`).
+// A number with nothing beside it. Not for 19, which has something.
 pub fn plain(number: u8) -> Refusal
     ensures { result ≡ plain number }
 {
@@ -77,10 +58,47 @@ pub fn plain(number: u8) -> Refusal
     }
 }
 
+impl From<Reason> for Refusal {
+    ghost from_gives = { λ r y. y ≡ refusal_of r };
+
+    fn from(r: Reason) -> Refusal {
+        match r {
+            Reason::SegmentClash(first, second) => Refusal {
+                number: 19,
+                first,
+                second,
+            },
+            Reason::SliceSize => plain(1),
+            Reason::Signature => plain(2),
+            Reason::BlockChecksum => plain(3),
+            Reason::DeviceSize => plain(4),
+            Reason::NotZero => plain(5),
+            Reason::UuidByte => plain(6),
+            Reason::MetadataSize => plain(7),
+            Reason::ReservedSize => plain(8),
+            Reason::AreaEntry => plain(9),
+            Reason::NoBlock => plain(10),
+            Reason::Identity => plain(11),
+            Reason::NoRecord => plain(12),
+            Reason::TwoRecords => plain(13),
+            Reason::NotLater => plain(14),
+            Reason::RecordLength => plain(15),
+            Reason::NotInStep => plain(16),
+            Reason::RecordForm => plain(17),
+            Reason::SegmentPlace => plain(18),
+            Reason::NoRoom => plain(20),
+            Reason::RecordFull => plain(21),
+            Reason::NoSegment => plain(22),
+            Reason::NoStore => plain(23),
+            Reason::HeadMove => plain(24),
+        }
+    }
+}
+
 // The most bytes that the words of a number have.
 pub const WORDS_BYTES: usize = 80;
 
-// Words in ASCII: the first `used` of the bytes; the rest are zero.
+// Words in ASCII: the first `used` of the bytes; the rest are zero. C reads this struct, by value and with no heap.
 #[repr(C)]
 #[derive(Clone, Copy)]
 pub struct Words {
@@ -89,6 +107,7 @@ pub struct Words {
 }
 
 // Words with the bytes of w, of which there are no more than fit.
+#[tactic(auto, unfolding(endian::specs::Bytes::zeros))]
 fn lay(w: &[u8]) -> Words
     ensures { result ≡ laid w.now }
 {

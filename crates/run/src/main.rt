@@ -14,7 +14,7 @@ use std::random::RandomSource;
 use std::rt::{Env, Files};
 
 // The status of a command that could not do what it is to do.
-const FAILED: u32 = 3;
+const FAILED: u8 = 3;
 
 // In place of an argument that is longer than any that is looked at.
 const LONG: [u8; 4097] = [1u8; 4097];
@@ -22,6 +22,7 @@ const LONG: [u8; 4097] = [1u8; 4097];
 // All arguments one after the other, each ended by a zero byte.
 fn arguments<R: Env>(rt: &R, alloc: Global) -> Result<Vec<u8>, AllocError> {
     let mut all = Vec::new(alloc);
+    // by their numbers: an iterator of them takes text alone
     for i in 0..usize::MAX {
         let mut buffer = io::buffer();
         match rt.arg(i, &mut buffer) {
@@ -51,7 +52,7 @@ fn main(rt: HostRuntime) -> ExitCode {
         Ok(line) => ExitCode::from(amseokbin_run(&rt, streams, line.as_slice()) as u8),
         Err(_) => {
             io::write_all(2, b"amseokbin: no memory for the arguments\n");
-            ExitCode::from(FAILED as u8)
+            ExitCode::from(FAILED)
         }
     }
 }

@@ -3,32 +3,15 @@
 // samples/runs.py makes it and shares nothing with the library. Assumes what `io` and `libc` do.
 #![tactic(auto)]
 
-ghost use Rattle.std.specs.Prelude.{◌≡◌, length};
-ghost use Rattle.allocation.specs.Answers.{table_answer, table_left};
-
-use allocation::RunCount;
 use items::Head;
+use refusal::{Reason, Refusal};
 use runs::Run;
 use sampling::{number, one, print, put_segment, refusal, say, two};
 
-// What was answered, and the table afterwards.
-#[derive(Clone, Copy)]
-struct Filled {
-    answer: RunCount,
-    table: [Run; 3],
-}
+// The bytes of records with three and with four segments.
+const THREE_BYTES: usize = items::HEAD_BYTES + 3 * items::ITEM_BYTES;
 
-// Lends the table.
-fn fill(sectors: u64, metadata: u32, reserved: u32, s: &[u8], table: [Run; 3]) -> Filled
-    ensures { (result.answer ≡ table_answer (record { sectors = sectors; metadata = metadata; reserved = reserved }) s.now (length table)) × (result.table ≡ table_left (record { sectors = sectors; metadata = metadata; reserved = reserved }) s.now table) }
-{
-    let mut t = table;
-    let a = allocation::free_runs_of(sectors, metadata, reserved, s, &mut t);
-    Filled {
-        answer: a,
-        table: t,
-    }
-}
+const FOUR_BYTES: usize = THREE_BYTES + items::ITEM_BYTES;
 
 // Prints a run's start and sectors.
 fn run(r: Run) {
@@ -37,14 +20,14 @@ fn run(r: Run) {
 }
 
 // Prints what was answered.
-fn answer(a: RunCount) {
+fn answer(a: Result<u64, Reason>) {
     match a {
-        RunCount::Runs(n) => {
+        Ok(n) => {
             print(number(n));
         }
-        RunCount::Refused(n) => {
+        Err(r) => {
             say(b" ");
-            print(refusal(n));
+            print(refusal(Refusal::from(r)));
         }
     }
 }
@@ -59,17 +42,15 @@ fn entry(k: u64) -> Run {
 
 // Prints a name, what is answered for a record on a device, and the table afterwards.
 fn on(what: &[u8], sectors: u64, metadata: u32, reserved: u32, s: &[u8]) {
-    let before = [entry(0), entry(1), entry(2)];
-    let f = fill(sectors, metadata, reserved, s, before);
+    let mut table = [entry(0), entry(1), entry(2)];
+    let a = allocation::free_runs_of(sectors, metadata, reserved, s, &mut table);
     say(what);
     say(b":");
-    let a = f.answer;
     answer(a);
     say(b";");
-    let t = f.table;
-    run(t[0]);
-    run(t[1]);
-    run(t[2]);
+    for r in table {
+        run(r);
+    }
     say(b"\n");
 }
 
@@ -83,31 +64,30 @@ fn cut(what: &[u8], s: &[u8], n: usize) {
     show(what, endian::window(s, 0, n));
 }
 
-// A record with three segments of ten sectors.
-fn three(start: u64, start2: u64, start3: u64) -> [u8; 68] {
-    let mut s = [0u8; 68];
-    items::begin(&mut s, Head::Plain(128));
-    put_segment(&mut s, 0, 2, start, 10);
-    put_segment(&mut s, 1, 2, start2, 10);
-    put_segment(&mut s, 2, 2, start3, 10);
+// A record with data segments, each a start and its sectors.
+fn record<const BYTES: usize>(places: &[(u64, u64)]) -> [u8; BYTES] {
+    let mut s = [0u8; BYTES];
+    let _ = items::begin(&mut s, Head::Plain(128));
+    for (i, (start, sectors)) in places.iter().enumerate() {
+        put_segment(&mut s, i, 2, *start, *sectors);
+    }
     s
 }
 
+// A record with three segments of ten sectors.
+fn three(start: u64, start2: u64, start3: u64) -> [u8; THREE_BYTES] {
+    record(&[(start, 10), (start2, 10), (start3, 10)])
+}
+
 // A record with three segments that leave four runs, and a fourth one.
-fn four(start: u64, sectors: u64) -> [u8; 88] {
-    let mut s = [0u8; 88];
-    items::begin(&mut s, Head::Plain(128));
-    put_segment(&mut s, 0, 2, 3000, 10);
-    put_segment(&mut s, 1, 2, 4000, 10);
-    put_segment(&mut s, 2, 2, 5000, 10);
-    put_segment(&mut s, 3, 2, start, sectors);
-    s
+fn four(start: u64, sectors: u64) -> [u8; FOUR_BYTES] {
+    record(&[(3000, 10), (4000, 10), (5000, 10), (start, sectors)])
 }
 
 // Tables with more room than runs, and with exactly enough.
 fn enough() {
     let mut head = [0u8; 8];
-    items::begin(&mut head, Head::Plain(128));
+    let _ = items::begin(&mut head, Head::Plain(128));
     show(b"no segments", &head);
     show(b"no free sector", &one(2, 2048, 2093056));
     show(b"the first sector free", &one(2, 2049, 2093055));
@@ -147,7 +127,7 @@ fn records() {
     show(b"no sectors", &two(3000, 50, 4000, 0));
     show(b"below the data range", &one(2, 2047, 100));
     show(b"past the data range", &one(2, 2095103, 2));
-    show(b"a sum that wraps", &one(2, 18446744073709551615, 2));
+    show(b"a sum that wraps", &one(2, u64::MAX, 2));
     show(b"example 11", &two(2048, 100, 2147, 1));
     show(
         b"three, of which the last two clash",

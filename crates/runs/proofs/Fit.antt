@@ -28,17 +28,6 @@ pub fit-short : (m : ℕ) (r : Run) (rs : List Run) → r.sectors < m → fit_of
 unfolding fit_of
 fit-short m r rs h = rw (lt-leb m r.sectors h)
 
--- a gap that is long enough, and one that is not, empty or not
-pub fit-gap_long : (m a b : ℕ) (rs : List Run) → 1 ≤ m → m ≤ b - a → fit_of m (gap a b rs) ≡ run_to a b
-fit-gap_long m a b rs o h = ap (fit_of m) (gap-some a b rs (omega arith)) ∙ fit_long m (run_to a b) rs h
-
-pub fit-gap-short : (m a b : ℕ) (rs : List Run) → b - a < m → fit_of m (gap a b rs) ≡ fit_of m rs
-fit-gap-short m a b rs h =
-    elim (dec_lt a b) [
-      | yes l ↦ ap (fit_of m) (gap-some a b rs l) ∙ fit-short m (run_to a b) rs h
-      | no l ↦ ap (fit_of m) (gap-none a b rs (omega arith))
-    ]
-
 -- The first that is long enough is so, or stands for no run.
 fit_cases : (m : ℕ) (rs : List Run) → (m ≤ (fit_of m rs).sectors) ⊎ (fit_of m rs ≡ no_run)
 fit_cases m [] = inr (fit-nil m)
@@ -48,12 +37,7 @@ fit_cases m (r ∷ rs) =
       | no l ↦ rw (fit-short m r rs (omega arith)) (fit_cases m rs)
     ]
 
--- there is one exactly where it has sectors; else it is no run
-pub fitting-yes : (m : ℕ) (rs : List Run) → ((fit_of m rs).sectors ≡ 0 → ⊥) → fitting m rs ≡ true
-fitting-yes m rs h =
-    ⊎_elim (λ (l : m ≤ (fit_of m rs).sectors). le-leb m (fit_of m rs).sectors l) (λ (e : fit_of m rs ≡ no_run). absurd (h (ap (λ (r : Run). r.sectors) e)))
-    (fit_cases m rs)
-
+-- none where it has no sectors
 pub fitting_no : (m : ℕ) (rs : List Run) → 1 ≤ m → (fit_of m rs).sectors ≡ 0 → fitting m rs ≡ false
 fitting_no m rs o h = lt-leb m (fit_of m rs).sectors (omega arith)
 

@@ -20,7 +20,7 @@ const IN: i32 = 0;
 // The most bytes of input.
 pub const INPUT_BYTES: usize = 131072;
 
-// Standard input: the first `used` of the bytes.
+// Standard input: the first `used` of the bytes. An array and a length, since there is no heap.
 #[derive(Clone, Copy)]
 pub struct Input {
     pub bytes: [u8; INPUT_BYTES],
@@ -44,16 +44,11 @@ pub fn fetch() -> Input
 }
 
 // The place n bytes after `at` in s, or the end of s where it has fewer; a place past the end stays.
+#[tactic(auto, unfolding(crate::specs::Laying::past))]
 fn past(s: &[u8], at: usize, n: usize) -> usize
     ensures { result ≡ past s.now at n }
 {
-    if s.len() <= at {
-        return at;
-    }
-    if s.len() - at <= n {
-        return s.len();
-    }
-    at + n
+    at.max(at.saturating_add(n).min(s.len()))
 }
 
 // Lays `count` patches, the first at `from` of s, over d, and answers where they end. A patch is its offset in d and its length, two
@@ -64,14 +59,12 @@ pub fn patch(s: &[u8], from: usize, count: u16, d: &mut [u8]) -> usize
     ensures d_after { d.new ≡ patched s.now from count d.old }
 {
     let mut at = from;
-    let mut left = count;
-    while 0 < left {
+    for _ in 0..count {
         let p = endian::window(s, at, s.len());
         let n = endian::read_u16(p, 2) as usize;
         let offset = endian::read_u16(p, 0) as usize;
         endian::put(d, offset, endian::window(p, 4, n));
         at = past(s, at, 4 + n);
-        left -= 1;
     }
     at
 }
@@ -86,7 +79,7 @@ pub fn put_segment(s: &mut [u8], position: usize, kind: u16, start: u64, sectors
         sectors,
     };
     let at = items::place_in(s, position);
-    items::put_segment(s, at, g);
+    let _ = items::put_segment(s, at, g);
 }
 
 // The bytes of a record with one segment, and with two.
@@ -94,12 +87,13 @@ pub const ONE_BYTES: usize = items::HEAD_BYTES + items::ITEM_BYTES;
 
 pub const TWO_BYTES: usize = ONE_BYTES + items::ITEM_BYTES;
 
+// `one` and `two` are not one function over how many: the array's size would be a computed const argument, which the language has not.
 // A record with one segment and the block size 128.
 pub fn one(kind: u16, start: u64, sectors: u64) -> [u8; ONE_BYTES]
     ensures { result ≡ record_of (Plain 128) (record { kind = kind; start = start; sectors = sectors } ∷ []) }
 {
     let mut s = [0u8; ONE_BYTES];
-    items::begin(&mut s, Head::Plain(128));
+    let _ = items::begin(&mut s, Head::Plain(128));
     put_segment(&mut s, 0, kind, start, sectors);
     s
 }
@@ -109,7 +103,7 @@ pub fn two(start: u64, sectors: u64, start2: u64, sectors2: u64) -> [u8; TWO_BYT
     ensures { result ≡ record_of (Plain 128) (record { kind = 2; start = start; sectors = sectors } ∷ record { kind = 2; start = start2; sectors = sectors2 } ∷ []) }
 {
     let mut s = [0u8; TWO_BYTES];
-    items::begin(&mut s, Head::Plain(128));
+    let _ = items::begin(&mut s, Head::Plain(128));
     put_segment(&mut s, 0, 2, start, sectors);
     put_segment(&mut s, 1, 2, start2, sectors2);
     s

@@ -11,6 +11,7 @@ use text::Text;
 const OUT: i32 = 1;
 
 // The text with a space and a number.
+#[tactic(auto, unfolding(crate::specs::Pieces::added_number))]
 fn add_number(t: Text, n: u64) -> Text
     ensures { text result ≡ added_number (text t) n }
 {
@@ -18,6 +19,7 @@ fn add_number(t: Text, n: u64) -> Text
 }
 
 // The text with what stands beside a refusal's number, where that is not zero.
+#[tactic(auto, unfolding(crate::specs::Pieces::added_beside))]
 fn add_beside(t: Text, r: Refusal) -> Text
     ensures { text result ≡ added_beside (text t) r }
 {
@@ -38,6 +40,7 @@ fn add_hex(t: Text, n: u64, w: usize) -> Text
 }
 
 // A space and a number.
+#[tactic(auto, using(crate::proofs::Pieces::number_fits))]
 pub fn number(n: u64) -> Text
     ensures { text result ≡ spaced_number n }
 {
@@ -82,6 +85,7 @@ pub fn refusal(r: Refusal) -> Text
 }
 
 // Prints s, and answers its length, or 0 where not all of it could be written.
+#[tactic(auto, unfolding(crate::specs::Pieces::Printed))]
 pub fn say(s: &[u8]) -> usize
     ensures { Printed s.now result }
 {
@@ -92,6 +96,5 @@ pub fn say(s: &[u8]) -> usize
 pub fn print(t: Text) -> usize
     ensures { Printed (text t) result }
 {
-    let bytes = t.bytes;
-    say(endian::window(&bytes, 0, t.used))
+    say(t.as_bytes())
 }

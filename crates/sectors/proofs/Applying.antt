@@ -31,7 +31,7 @@ use Rattle.sectors.specs.Sectors.{copy_sectors, area_start, place_of, sector_at}
 use Rattle.sectors.specs.Apply.{among, offset_of, applied_to, apply_tests, applied, applied_first}
 use Rattle.sectors.specs.Demand.{nth_sector, PlacedOn, Applying, Following, Refusing}
 use Rattle.sectors.proofs.Calls.{in_header, in_a, in_b}
-use Rattle.sectors.proofs.Offsets.{among_there, among_facts, offset_header, offset-a, offset-b, offset-none}
+use Rattle.sectors.proofs.Offsets.{among_there, among_facts, offset_header, offset_a, offset_b, offset_none}
 use Rattle.sectors.proofs.Parts.{header_sectors_lem, a_before_b, b_last, start_bytes, copy_bytes_lem, area_there}
 use Rattle.sectors.proofs.Placed.{by_place, at_place, placed}
 use Rattle.sectors.proofs.Demand.{all_read, sizes}
@@ -78,35 +78,21 @@ module _ (v : Device) (ok : first (device_tests v) ≡ 0) where
 
   -- where the sectors of each part lie in a copy
   header_offset : (w : Side) (i : ℕ) → i < area_start A → offset_of w v (header_sector w v + i) ≡ 512 * i
-  unfolding offset_of
   header_offset w i l =
       let e : area_start A ≡ 8 = header_sectors_lem in
-      sym
-      (offset_header _ _ _ _ _ _ _ _ (header_sector w v + i) (header_sector w v) (512 * i) refl
-      (among_there (header_sector w v) 8 (header_sector w v + i) (omega arith) (omega arith)) (omega arith))
+      offset_header w v (header_sector w v + i) (among_there (header_sector w v) 8 (header_sector w v + i) (omega arith) (omega arith)) ∙ omega arith
 
-  area_bytes_lem : (x : Area) (a j : ℕ) → 512 * (area_start x + j) ≡ area_offset x + 512 * (a + j - a)
+  area_bytes_lem : (x : Area) (a j : ℕ) → area_offset x + 512 * (a + j - a) ≡ 512 * (area_start x + j)
   area_bytes_lem x a j = let o : 512 * area_start x ≡ area_offset x = start_bytes x in omega arith
 
   its_own : (w : Side) (x : Area) (j : ℕ) → j < area_sectors → among (area_sector w x v) area_sectors (area_sector w x v + j) ≡ true
   its_own w x j l = among_there (area_sector w x v) area_sectors (area_sector w x v + j) (omega arith) (omega arith)
 
   area_offset_lem : (w : Side) (x : Area) (j : ℕ) → j < area_sectors → offset_of w v (area_sector w x v + j) ≡ 512 * (area_start x + j)
-  unfolding offset_of
   area_offset_lem w A j l =
-      sym
-      (offset-a _ _ _ _ _ _ _ _ (area_sector w A v + j) (header_sector w v) (512 * (area_start A + j)) refl area_sectors refl (not_header w A j l) (area_sector w A v) refl
-      (its_own w A j l) (area_offset A) refl (area_bytes_lem A (area_sector w A v) j))
+      offset_a w v (area_sector w A v + j) (not_header w A j l) (its_own w A j l) ∙ area_bytes_lem A (area_sector w A v) j
   area_offset_lem w B j l =
-      sym
-      (offset-b _ _ _ _ _ _ _ _ (area_sector w B v + j) (header_sector w v) (512 * (area_start B + j)) refl area_sectors refl (not_header w B j l) (area_sector w A v) refl (not_a w j l)
-      (area_sector w B v) refl (its_own w B j l) (area_offset B) refl (area_bytes_lem B (area_sector w B v) j))
-
-  -- and one of none of them
-  no_offset : (w : Side) (n : ℕ) → among (header_sector w v) 8 n ≡ false → among (area_sector w A v) area_sectors n ≡ false → among (area_sector w B v) area_sectors n ≡ false
-      → offset_of w v n ≡ copy_bytes
-  unfolding offset_of
-  no_offset w n p q r = sym (offset-none _ _ _ _ _ _ _ _ n (header_sector w v) copy_bytes refl area_sectors refl p (area_sector w A v) refl q (area_sector w B v) refl r refl)
+      offset_b w v (area_sector w B v + j) (not_header w B j l) (not_a w j l) (its_own w B j l) ∙ area_bytes_lem B (area_sector w B v) j
 
   -- sector i of a copy lies at byte 512 i of it
   pub place-offset : (w : Side) (i : ℕ) → i < copy_sectors → offset_of w v (place_of w v i) ≡ 512 * i
@@ -161,7 +147,7 @@ module _ (v : Device) (ok : first (device_tests v) ≡ 0) where
           one_of w n (n - header_sector w v) (header_sector w v + (n - header_sector w v)) (omega arith) (header_place w (n - header_sector w v) (omega arith)) (omega arith)
       header false p true q b r = area A q
       header false p false q true r = area B r
-      header false p false q false r = inl (no_offset w n p q r)
+      header false p false q false r = inl (offset_none w v n p q r)
 
 module _ (v : Device) (ok : first (device_tests v) ≡ 0) (d : Sectors) (h : Sound d) (n : ℕ) (c : List ℕ) (long : length c ≡ 512) where
   abbrev after : Sectors

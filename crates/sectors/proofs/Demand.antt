@@ -6,26 +6,26 @@ use mathlib.Core.List.{List}
 use borrow.Author.Tests.{eq-eqb}
 use lib.Dec.{eqb}
 use lib.ListN.{length, get_or-replicate}
+use Rattle.std.specs.Prelude.{Option, Some, None, Result, Ok, Err}
 use Rattle.endian.specs.Bytes.{same, zeros}
 use Rattle.endian.proofs.Tests.{and_left, and_right, and_both}
+use Rattle.refusal.specs.declared.Reason.{Reason}
 use Rattle.refusal.specs.Numbers.{identity, two_records}
+use Rattle.refusal.specs.Reasons.{reason}
+use Rattle.layout.specs.declared.Area.{Area}
 use Rattle.layout.specs.declared.Side.{Side}
 use Rattle.layout.specs.declared.Side.TheVariants.{Front, Back}
 use Rattle.layout.specs.Places.{copy_bytes}
+use Rattle.block.specs.declared.Holding.{Holding}
 use Rattle.block.specs.declared.BlockFields.{BlockFields}
 use Rattle.block.specs.declared.Reading.{Reading}
-use Rattle.block.specs.declared.Verdict.{Verdict}
 use Rattle.block.specs.Entry.{later_than, same_time, time_of}
 use Rattle.block.specs.Writing.{holding_of}
 use Rattle.copy.specs.declared.Present.{Present}
-use Rattle.copy.specs.declared.Present.TheVariants.{Nothing, At}
 use Rattle.discovery.specs.declared.Finding.{Finding}
-use Rattle.discovery.specs.declared.Other.{Other}
-use Rattle.discovery.specs.declared.Other.TheVariants.{Both}
-use Rattle.discovery.specs.declared.Answer.{Answer}
-use Rattle.discovery.specs.declared.Answer.TheVariants.{Found, Refused}
-use Rattle.copy.specs.Copy.{is_copy, area_bytes, entry_in, newest, present, reading_in}
-use Rattle.discovery.specs.Discovery.{finding_of, alone_of, together_of, same_device, same_uuids, sized, discovery, stepped, in_step_of, is_in_step, copy_on, record_bytes}
+use Rattle.discovery.specs.declared.Found.{Found}
+use Rattle.copy.specs.Copy.{is_copy, area_bytes, entry_in, newest, mapped, present_at, present, reading_in}
+use Rattle.discovery.specs.Discovery.{finding_of, found_with, alone_of, together_of, same_device, same_uuids, sized, discovery, stepped, in_step_of, is_in_step, copy_on, record_bytes}
 use Rattle.discovery.specs.Newest.{Newest}
 use Rattle.discovery.proofs.Deciding.{decide_at, discovery-sized}
 use Rattle.discovery.proofs.Latest.{newest-found}
@@ -35,65 +35,79 @@ use Rattle.sectors.specs.Demand.{SameCopy, SameBoth, Settled, NoneMarked, AllRea
 use Rattle.sectors.proofs.Alone.{whole_same, alone, none_marked, block_none}
 use Rattle.sectors.proofs.Placed.{placed}
 
+-- the fields of an accepted block, and of its present record the same bytes
+present_bytes : {c e : List ℕ} → SameCopy c e → (v : Result Reading Reason) → reading_in c ≡ v → (x : BlockFields) → mapped (λ (r : Reading). r.fields) v ≡ Ok x
+    → (y : Area) (h : Holding) → present c x ≡ present_at y h → area_bytes e y h.bytes ≡ area_bytes c y h.bytes
+present_bytes {c} {e} s (Ok r) a x p y h q =
+    let z : r.fields ≡ x = cc in
+    s.bytes r y h a (ap (present c) z ∙ q)
+present_bytes {c} {e} s (Err n) a x p y h q = cc
+
 module _ {f b g k : List ℕ} (sf : SameCopy f g) (sb : SameCopy b k) where
   on : (s : Side) → SameCopy (copy_on s f b) (copy_on s g k)
   on Front = sf
   on Back = sb
 
-  -- both blocks accepted, with fields x and y
-  module _ (x y : BlockFields) (ax : (reading_in f).verdict ≡ Verdict.Accepted x) (ay : (reading_in b).verdict ≡ Verdict.Accepted y) where
-    together : (p q : Present) → present f x ≡ p → present b y ≡ q → together_of g k x y p q ≡ together_of f b x y p q
-    together Nothing Nothing p q = refl
-    together Nothing (At v l) p q = refl
-    together (At u h) Nothing p q = refl
-    together (At u h) (At v l) p q =
+  -- both blocks accepted
+  module _ (r q : Reading) (ar : reading_in f ≡ Ok r) (aq : reading_in b ≡ Ok q) where
+    abbrev x : BlockFields
+    x = r.fields
+
+    abbrev y : BlockFields
+    y = q.fields
+
+    together : (p s : Option Present) → present f x ≡ p → present b y ≡ s → together_of g k x y p s ≡ together_of f b x y p s
+    together None None c e = refl
+    together None (Some s) c e = refl
+    together (Some p) None c e = refl
+    together (Some p) (Some s) c e =
         ap₂
-        (λ (s t : List ℕ). cond (same_time (time_of h) (time_of l))
-        (cond (same s t) (Found (finding_of Front x u h) (Both y)) (Refused two_records))
-        (cond (later_than (time_of l) (time_of h)) (Found (finding_of Back y v l) (Both x)) (Found (finding_of Front x u h) (Both y))))
-        (sf.bytes x u h ax p) (sb.bytes y v l ay q)
+        (λ (u v : List ℕ). cond (same_time (time_of p.holding) (time_of s.holding))
+        (cond (same u v) (found_with (finding_of Front x p) (Ok y)) (Err (reason two_records)))
+        (cond (later_than (time_of s.holding) (time_of p.holding)) (found_with (finding_of Back y s) (Ok x)) (found_with (finding_of Front x p) (Ok y))))
+        (sf.bytes r p.area p.holding ar c) (sb.bytes q s.area s.holding aq e)
 
     together-same : together_of g k x y (present g x) (present k y) ≡ together_of f b x y (present f x) (present b y)
-    together-same = ap₂ (together_of g k x y) (sf.its_present x ax) (sb.its_present y ay) ∙ together (present f x) (present b y) refl refl
+    together-same = ap₂ (together_of g k x y) (sf.its_present r ar) (sb.its_present q aq) ∙ together (present f x) (present b y) refl refl
 
     stepped_same : stepped g x k y ≡ stepped f x b y
     stepped_same =
-        ap₂ ◌&&◌ (whole_same f g (newest x) (entry_in x (newest x)) (sf.newest_area x ax))
-        (ap₂ ◌&&◌ (whole_same b k (newest y) (entry_in y (newest y)) (sb.newest_area y ay))
+        ap₂ ◌&&◌ (whole_same f g (newest x) (entry_in x (newest x)) (sf.newest_area r ar))
+        (ap₂ ◌&&◌ (whole_same b k (newest y) (entry_in y (newest y)) (sb.newest_area q aq))
         (ap₂ (λ (s t : List ℕ). same_time (time_of (holding_of (entry_in x (newest x)))) (time_of (holding_of (entry_in y (newest y)))) && same s t)
-        (sf.newest_area x ax) (sb.newest_area y ay)))
+        (sf.newest_area r ar) (sb.newest_area q aq)))
 
-  decided : (v w : Verdict) → (reading_in f).verdict ≡ v → (reading_in b).verdict ≡ w → (u : Bool) → decide_at v w u g k ≡ decide_at v w u f b
-  decided (Verdict.Refused m) (Verdict.Refused n) p q u = refl
-  decided (Verdict.Refused m) (Verdict.Accepted y) p q u = ap (λ (z : Present). alone_of Back y z m) (sb.its_present y q)
-  decided (Verdict.Accepted x) (Verdict.Refused n) p q u = ap (λ (z : Present). alone_of Front x z n) (sf.its_present x p)
-  decided (Verdict.Accepted x) (Verdict.Accepted y) p q u = ap (λ (z : Answer). cond (same_device x y && u) z (Refused identity)) (together-same x y p q)
+  decided : (v w : Result Reading Reason) → reading_in f ≡ v → reading_in b ≡ w → decide_at g k v w ≡ decide_at f b v w
+  decided (Err m) (Err n) p q = refl
+  decided (Err m) (Ok s) p q = ap (λ (z : Option Present). alone_of Back s.fields z m) (sb.its_present s q)
+  decided (Ok r) (Err n) p q = ap (λ (z : Option Present). alone_of Front r.fields z n) (sf.its_present r p)
+  decided (Ok r) (Ok s) p q =
+      ap (λ (z : Result Found Reason). cond (same_device r.fields s.fields && same_uuids r s) z (Err (reason identity))) (together-same r s p q)
 
-  in_step : (v w : Verdict) → (reading_in f).verdict ≡ v → (reading_in b).verdict ≡ w → (u : Bool) → in_step_of v w u g k ≡ in_step_of v w u f b
-  in_step (Verdict.Refused m) w p q u = refl
-  in_step (Verdict.Accepted x) (Verdict.Refused n) p q u = refl
-  in_step (Verdict.Accepted x) (Verdict.Accepted y) p q u = ap (λ (z : Bool). (same_device x y && u) && z) (stepped_same x y p q)
+  in_step : (v w : Result Reading Reason) → reading_in f ≡ v → reading_in b ≡ w → in_step_of v w g k ≡ in_step_of v w f b
+  in_step (Err m) w p q = refl
+  in_step (Ok r) (Err n) p q = refl
+  in_step (Ok r) (Ok s) p q = ap (λ (z : Bool). (same_device r.fields s.fields && same_uuids r s) && z) (stepped_same r s p q)
 
   module _ (zf : sized f b ≡ true) (zg : sized g k ≡ true) where
     answers-same : discovery g k ≡ discovery f b
     answers-same =
-        sym (discovery-sized g k zg)
-        ∙ (ap₂ (λ (r q : Reading). decide_at r.verdict q.verdict (same_uuids r q) g k) sf.reads sb.reads
-        ∙ (decided (reading_in f).verdict (reading_in b).verdict refl refl (same_uuids (reading_in f) (reading_in b)) ∙ discovery-sized f b zf))
+        discovery-sized g k zg
+        ∙ (ap₂ (decide_at g k) sf.reads sb.reads ∙ (decided (reading_in f) (reading_in b) refl refl ∙ sym (discovery-sized f b zf)))
 
     step_same : is_in_step g k ≡ is_in_step f b
     unfolding is_in_step
     step_same =
         ap₂ ◌&&◌ (zg ∙ sym zf)
-        (ap₂ (λ (r q : Reading). in_step_of r.verdict q.verdict (same_uuids r q) g k) sf.reads sb.reads
-        ∙ in_step (reading_in f).verdict (reading_in b).verdict refl refl (same_uuids (reading_in f) (reading_in b)))
+        (ap₂ (λ (v w : Result Reading Reason). in_step_of v w g k) sf.reads sb.reads ∙ in_step (reading_in f) (reading_in b) refl refl)
 
-    found-same : (r : Finding) (o : Other) → discovery f b ≡ Found r o → record_bytes r g k ≡ record_bytes r f b
+    found-same : (r : Finding) (o : Result BlockFields Reason) → discovery f b ≡ found_with r o → record_bytes r g k ≡ record_bytes r f b
     found-same r o e =
         let n : Newest f b r = newest-found f b r o e in
         let l : r.bytes ≡ (holding_of (entry_in r.fields r.area)).bytes = ap (λ (q : Finding). q.bytes) n.is in
         ap (area_bytes (copy_on r.side g k) r.area) l
-        ∙ ((on r.side).bytes r.fields r.area (holding_of (entry_in r.fields r.area)) n.accepted n.its_present ∙ ap (area_bytes (copy_on r.side f b) r.area) (sym l))
+        ∙ (present_bytes (on r.side) (reading_in (copy_on r.side f b)) refl r.fields n.accepted r.area (holding_of (entry_in r.fields r.area)) n.its_present
+        ∙ ap (area_bytes (copy_on r.side f b) r.area) (sym l))
 
     both-same : SameBoth f b g k
     both-same = record { answers = answers-same; step = step_same; bytes = found-same }

@@ -1,8 +1,9 @@
 -- What sectors that could not be read can change, and what a store does to copies in memory. `proofs/Alone.antt` proves `Alone`, `Steady` and
 -- `Meaning`, `proofs/Least.antt` `Bounded`, `proofs/Placed.antt` `Placed`, `proofs/Applying.antt` `Applying`, `Following` and `Refusing`,
 -- `proofs/Demand.antt` the rest. That what is stored is the same too is `claims`' `StoredAlike`.
-use Rattle.std.specs.Prelude.{ℕ, ◌+◌, ◌*◌, ◌≤◌, ◌<◌, ◌≡◌, true, false, List, length}
+use Rattle.std.specs.Prelude.{ℕ, ◌+◌, ◌*◌, ◌≤◌, ◌<◌, ◌≡◌, true, false, List, length, Result, Ok, Err}
 use Rattle.endian.specs.Bytes.{window, zeros}
+use Rattle.refusal.specs.declared.Reason.{Reason}
 use Rattle.refusal.specs.Tests.{first}
 use Rattle.layout.specs.declared.Device.{Device}
 use Rattle.layout.specs.declared.Side.{Side}
@@ -13,14 +14,11 @@ use Rattle.layout.specs.Limits.{device_tests, sector_bytes}
 use Rattle.layout.specs.Places.{copy_bytes}
 use Rattle.block.specs.declared.Holding.{Holding}
 use Rattle.block.specs.declared.BlockFields.{BlockFields}
-use Rattle.block.specs.declared.Verdict.TheVariants as Verdict
+use Rattle.block.specs.declared.Reading.{Reading}
 use Rattle.block.specs.Writing.{holding_of}
-use Rattle.copy.specs.declared.Present.TheVariants.{At}
 use Rattle.discovery.specs.declared.Finding.{Finding}
-use Rattle.discovery.specs.declared.Other.{Other}
-use Rattle.discovery.specs.declared.Answer.TheVariants.{Found}
-use Rattle.copy.specs.Copy.{area_bytes, entry_in, other_area, whole, newest, present, reading_in, sized_reading}
-use Rattle.discovery.specs.Discovery.{discovery, is_in_step, copy_on, record_bytes}
+use Rattle.copy.specs.Copy.{area_bytes, entry_in, other_area, whole, newest, present_at, present, reading_in, sized_reading}
+use Rattle.discovery.specs.Discovery.{found_with, discovery, is_in_step, copy_on, record_bytes}
 use Rattle.crash.specs.Crash.{Sectors, Sound, Store, put, landed, area_sectors, copy_from}
 use Rattle.sectors.specs.Sectors.{copy_sectors, area_start, sector_at, matters, is_read, known, settled}
 use Rattle.sectors.specs.Apply.{applied_to, apply_tests, applied, applied_first}
@@ -44,11 +42,11 @@ SameArea c e x y = area_bytes e y (holding_of (entry_in x y)).bytes ≡ area_byt
 -- same bytes
 pub record SameCopy (c e : List ℕ) : Type 0 where
   pub reads : reading_in e ≡ reading_in c
-  pub newest_area : (x : BlockFields) → (reading_in c).verdict ≡ Verdict.Accepted x → SameArea c e x (newest x)
-  pub other_area_lem : (x : BlockFields) → (reading_in c).verdict ≡ Verdict.Accepted x → whole c x (newest x) ≡ false
-      → SameArea c e x (other_area (newest x))
-  pub its_present : (x : BlockFields) → (reading_in c).verdict ≡ Verdict.Accepted x → present e x ≡ present c x
-  pub bytes : (x : BlockFields) (y : Area) (h : Holding) → (reading_in c).verdict ≡ Verdict.Accepted x → present c x ≡ At y h
+  pub newest_area : (r : Reading) → reading_in c ≡ Ok r → SameArea c e r.fields (newest r.fields)
+  pub other_area_lem : (r : Reading) → reading_in c ≡ Ok r → whole c r.fields (newest r.fields) ≡ false
+      → SameArea c e r.fields (other_area (newest r.fields))
+  pub its_present : (r : Reading) → reading_in c ≡ Ok r → present e r.fields ≡ present c r.fields
+  pub bytes : (r : Reading) (y : Area) (h : Holding) → reading_in c ≡ Ok r → present c r.fields ≡ present_at y h
       → area_bytes e y h.bytes ≡ area_bytes c y h.bytes
 
 -- Whatever the marked sectors of one copy hold, it says the same.
@@ -59,7 +57,7 @@ Alone = (m c e : List ℕ) → Agree m c e → known c m ≡ true → SameCopy c
 pub record SameBoth (f b g k : List ℕ) : Type 0 where
   pub answers : discovery g k ≡ discovery f b
   pub step : is_in_step g k ≡ is_in_step f b
-  pub bytes : (r : Finding) (o : Other) → discovery f b ≡ Found r o → record_bytes r g k ≡ record_bytes r f b
+  pub bytes : (r : Finding) (o : Result BlockFields Reason) → discovery f b ≡ found_with r o → record_bytes r g k ≡ record_bytes r f b
 
 -- Whatever the marked sectors of two copies hold, discovery says the same.
 abbrev pub Settled : Type 0
@@ -86,11 +84,11 @@ Meaning = (c m : List ℕ) → Known c m
 pub record Least (c : List ℕ) : Type 0 where
   pub header : (i : ℕ) → i < area_start A → (i ≡ 1 → ⊥) → matters c i ≡ false
   pub past : (i : ℕ) → copy_sectors ≤ i → matters c i ≡ false
-  pub refused : (n : ℕ) → (sized_reading c).verdict ≡ Verdict.Refused n → (i : ℕ) → (i ≡ 1 → ⊥) → matters c i ≡ false
-  pub unnamed : (x : BlockFields) → (sized_reading c).verdict ≡ Verdict.Accepted x → (y : Area) (j : ℕ) → j < area_sectors
-      → (holding_of (entry_in x y)).bytes ≤ sector_bytes * j → matters c (area_start y + j) ≡ false
-  pub older : (x : BlockFields) → (sized_reading c).verdict ≡ Verdict.Accepted x → whole c x (newest x) ≡ true → (j : ℕ) → j < area_sectors
-      → matters c (area_start (other_area (newest x)) + j) ≡ false
+  pub refused : (e : Reason) → sized_reading c ≡ Err e → (i : ℕ) → (i ≡ 1 → ⊥) → matters c i ≡ false
+  pub unnamed : (r : Reading) → sized_reading c ≡ Ok r → (y : Area) (j : ℕ) → j < area_sectors
+      → (holding_of (entry_in r.fields y)).bytes ≤ sector_bytes * j → matters c (area_start y + j) ≡ false
+  pub older : (r : Reading) → sized_reading c ≡ Ok r → whole c r.fields (newest r.fields) ≡ true → (j : ℕ) → j < area_sectors
+      → matters c (area_start (other_area (newest r.fields)) + j) ≡ false
 
 -- Of every copy that holds.
 abbrev pub Bounded : Type 0

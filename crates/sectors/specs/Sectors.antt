@@ -1,18 +1,18 @@
 -- A copy sector by sector: where each lies on the device, which of them discovery looks at, and whether those were read.
-use Rattle.std.specs.Prelude.{ℕ, ◌+◌, ◌-◌, ◌*◌, ◌/◌, Bool, false, not, cond, ◌&&◌, ◌||◌, List, leb, ltb, eqb, get_or}
+use Rattle.std.specs.Prelude.{ℕ, ◌+◌, ◌-◌, ◌*◌, ◌/◌, Bool, false, not, cond, ◌&&◌, ◌||◌, List, leb, ltb, eqb, get_or, Option, Some, None, Result, Ok, Err}
+use Rattle.refusal.specs.declared.Reason.{Reason}
 use Rattle.layout.specs.declared.Device.{Device}
 use Rattle.layout.specs.declared.Side.{Side}
 use Rattle.layout.specs.declared.Area.{Area}
 use Rattle.layout.specs.declared.Area.TheVariants.{A, B}
 use Rattle.layout.specs.Limits.{sector_bytes}
 use Rattle.layout.specs.Places.{header_sector, area_sector, area_offset, copy_bytes}
-use Rattle.block.specs.declared.Entry.{Entry}
-use Rattle.block.specs.declared.Entry.TheVariants.{Unused, Used}
+use Rattle.block.specs.declared.Holding.{Holding}
 use Rattle.block.specs.declared.BlockFields.{BlockFields}
-use Rattle.block.specs.declared.Verdict.{Verdict}
+use Rattle.block.specs.declared.Reading.{Reading}
 use Rattle.search.specs.Search.{every}
-use Rattle.copy.specs.declared.Present.{Present}
-use Rattle.copy.specs.Copy.{entry_in, other_area, whole, newest, sized_reading, current}
+use Rattle.copy.specs.declared.PresentReading.{PresentReading}
+use Rattle.copy.specs.Copy.{entry_in, other_area, whole, newest, mapped, sized_reading, current}
 use Rattle.crash.specs.Crash.{area_sectors}
 
 -- sectors of a copy as it is lent
@@ -40,9 +40,9 @@ unfoldable pub sector_at : Side → Device → ℕ → ℕ
 sector_at s d i = cond (ltb i copy_sectors) (below d.sectors (place_of s d i)) d.sectors
 
 -- an entry names sector j of its area: a used one those that its bytes lie in, the first ceiling(bytes / 512)
-abbrev pub named : Entry → ℕ → Bool
-named Unused j = false
-named (Used h) j = ltb (sector_bytes * j) h.bytes
+abbrev pub named : Option Holding → ℕ → Bool
+named None j = false
+named (Some h) j = ltb (sector_bytes * j) h.bytes
 
 -- sector i of a copy is one of an area's
 abbrev pub in_area : Area → ℕ → Bool
@@ -54,35 +54,39 @@ named_in f x i = in_area x i && named (entry_in f x) (i - area_start x)
 
 -- by what reading the block answered, and whether the area of the entry with the later time is whole: sector 1, the block's own;
 -- where the block is accepted those that this entry names; and, only where its area is not whole, those that the other entry names
-abbrev pub matters_for : Verdict → Bool → ℕ → Bool
-matters_for (Verdict.Accepted f) w i = eqb i 1 || (named_in f (newest f) i || (not w && named_in f (other_area (newest f)) i))
-matters_for (Verdict.Refused n) w i = eqb i 1
+abbrev pub matters_for : Result Reading Reason → Bool → ℕ → Bool
+matters_for (Ok r) w i = eqb i 1 || (named_in r.fields (newest r.fields) i || (not w && named_in r.fields (other_area (newest r.fields)) i))
+matters_for (Err e) w i = eqb i 1
 
 -- by what reading a copy's block answered: it is accepted, and the area of the entry with the later time is whole
-abbrev pub newest_whole : List ℕ → Verdict → Bool
-newest_whole c (Verdict.Accepted f) = whole c f (newest f)
-newest_whole c (Verdict.Refused n) = false
+abbrev pub newest_whole : List ℕ → Result Reading Reason → Bool
+newest_whole c (Ok r) = whole c r.fields (newest r.fields)
+newest_whole c (Err e) = false
 
--- the same by its present record: it is that of the entry with the later time
-abbrev pub current_for : Verdict → Present → Bool
-current_for (Verdict.Accepted f) p = current f p
-current_for (Verdict.Refused n) p = false
+-- what reading the block answered, by what reading the copy answered
+abbrev pub block_read : Result PresentReading Reason → Result Reading Reason
+block_read = mapped (λ (q : PresentReading). q.block)
+
+-- the newest area is whole by the present record: it is that of the entry with the later time
+abbrev pub current_for : Result PresentReading Reason → Bool
+current_for (Ok q) = current q.block.fields q.present
+current_for (Err e) = false
 
 -- sector i of a copy matters to discovery
 unfoldable pub matters : List ℕ → ℕ → Bool
-matters c i = matters_for (sized_reading c).verdict (newest_whole c (sized_reading c).verdict) i
+matters c i = matters_for (sized_reading c) (newest_whole c (sized_reading c)) i
 
 -- sector i was read: it has a mark, and the mark is 0
 unfoldable pub is_read : List ℕ → ℕ → Bool
 is_read m i = eqb (get_or m i 1) 0
 
 -- sector i does not matter, or was read
-abbrev pub passes : Verdict → Bool → List ℕ → ℕ → Bool
+abbrev pub passes : Result Reading Reason → Bool → List ℕ → ℕ → Bool
 passes v w m i = not (matters_for v w i) || is_read m i
 
 -- no sector of a copy that matters is marked
 unfoldable pub known : List ℕ → List ℕ → Bool
-known c m = every (passes (sized_reading c).verdict (newest_whole c (sized_reading c).verdict) m) copy_sectors
+known c m = every (passes (sized_reading c) (newest_whole c (sized_reading c)) m) copy_sectors
 
 -- what discovery answers for two copies is sure
 unfoldable pub settled : List ℕ → List ℕ → List ℕ → List ℕ → Bool

@@ -5,19 +5,28 @@
 
 ghost use Rattle.std.specs.Prelude.{◌≡◌, true, ◌+◌, ◌-◌, ◌*◌, ◌≤◌, ◌<◌};
 ghost use Rattle.refusal.specs.Tests.{first};
+ghost use Rattle.refusal.specs.Reasons.{answer};
 ghost use Rattle.layout.specs.declared.Side.TheVariants.{Front, Back};
 ghost use Rattle.layout.specs.Limits.{sector_bytes};
 ghost use Rattle.layout.specs.Places.{header_sector};
-ghost use Rattle.search.specs.Search.{every};
 ghost use Rattle.crash.specs.Crash.{area_sectors};
-ghost use Rattle.sectors.specs.Sectors.{copy_sectors, area_start, below, sector_at, named, named_in, matters_for, current_for, is_read, passes, known, settled};
+ghost use Rattle.sectors.specs.Sectors.{copy_sectors, area_start, below, sector_at, named, named_in, matters_for, block_read, current_for, is_read, known, settled};
 ghost use Rattle.sectors.specs.Apply.{among, offset_of, apply_tests, applied};
 
-use block::{BlockFields, Entry, Verdict};
-use copy::Present;
+use block::{BlockFields, Holding};
+use copy::PresentReading;
 use layout::{Area, Device, Side};
+use refusal::Reason;
+
+// A copy as it was read, sector by sector: its bytes, and the marks of its sectors.
+#[derive(Clone, Copy)]
+pub struct CopyRead<'a> {
+    pub bytes: &'a [u8],
+    pub marks: &'a [u8],
+}
 
 // How many sectors a copy has as it is lent.
+#[tactic(auto, unfolding(crate::specs::Sectors::copy_sectors))]
 fn copy_sectors() -> usize
     ensures { result ≡ copy_sectors }
 {
@@ -25,6 +34,7 @@ fn copy_sectors() -> usize
 }
 
 // The sector of a copy where an area begins.
+#[tactic(auto, unfolding(crate::specs::Sectors::area_start))]
 fn area_start(x: Area) -> usize
     ensures { result ≡ area_start x }
 {
@@ -32,6 +42,7 @@ fn area_start(x: Area) -> usize
 }
 
 // How many sectors of an area a record can fill.
+#[tactic(auto, unfolding(crash::specs::Crash::area_sectors, layout::specs::Limits::record_limit))]
 fn area_sectors() -> usize
     ensures { result ≡ area_sectors }
 {
@@ -44,38 +55,29 @@ fn header_sector(side: Side, d: Device) -> u64
 {
     match side {
         Side::Front => 0,
-        Side::Back => if d.sectors < layout::HEADER_SECTORS {
-            0
-        } else {
-            d.sectors - layout::HEADER_SECTORS
-        },
+        Side::Back => d.sectors.saturating_sub(layout::HEADER_SECTORS),
     }
 }
 
 // a + j, or s where that is not below s.
+#[tactic(auto, unfolding(crate::specs::Sectors::below))]
 fn sum_below(s: u64, a: u64, j: usize) -> u64
     ensures { result ≡ below s (a + j) }
 {
-    if s <= a {
-        return s;
-    }
-    if s - a <= j as u64 {
-        return s;
-    }
-    a + j as u64
+    a.saturating_add(j as u64).min(s)
 }
 
 // The device sector that is sector i of a side's copy. Of any numbers: differences stop at 0, and sums at S, which stands for
 // every sector that the device does not have; and for those that a copy does not have.
+#[tactic(auto, unfolding(crate::specs::Sectors::sector_at, crate::specs::Sectors::by_part))]
 pub fn sector_at(side: Side, d: Device, i: usize) -> u64
     ensures { result ≡ sector_at side d i }
 {
-    let n = copy_sectors();
-    let a = area_start(Area::A);
-    let b = area_start(Area::B);
-    if n <= i {
+    if copy_sectors() <= i {
         return d.sectors;
     }
+    let a = area_start(Area::A);
+    let b = area_start(Area::B);
     if i < a {
         return sum_below(d.sectors, header_sector(side, d), i);
     }
@@ -90,112 +92,78 @@ fn sectors_for(n: u32) -> usize
     ensures n_bound { n ≤ 512 * result }
     ensures result_bound { 512 * result < n + 512 }
 {
-    (n as usize + layout::ROUND_UP) / layout::SECTOR_BYTES
+    (n as usize).div_ceil(layout::SECTOR_BYTES)
 }
 
 // Whether an entry names sector j of its area.
-fn named(e: Entry, j: usize) -> bool
+fn named(e: Option<Holding>, j: usize) -> bool
     ensures { result ≡ named e j }
 {
     match e {
-        Entry::Unused => false,
-        Entry::Used(h) => j < sectors_for(h.bytes),
+        None => false,
+        Some(h) => j < sectors_for(h.bytes),
     }
 }
 
 // Whether an area's entry names sector i of the copy.
+#[tactic(auto, unfolding(crate::specs::Sectors::named_in))]
 fn named_in(f: BlockFields, x: Area, i: usize) -> bool
     ensures { result ≡ named_in f x i }
 {
     let s = area_start(x);
-    if i < s {
-        return false;
-    }
-    let j = i - s;
-    if area_sectors() <= j {
-        return false;
-    }
-    named(copy::entry_in(f, x), j)
+    s <= i && i - s < area_sectors() && named(copy::entry_in(f, x), i - s)
 }
 
-// Whether sector i of a copy matters, by what reading its block answered and whether the newest area is whole (w).
-fn matters_for(v: Verdict, w: bool, i: usize) -> bool
-    ensures { result ≡ matters_for v w i }
+// Whether sector i of a copy matters, by what reading the copy answered. The newest area is whole (w) where the present record is its.
+fn matters(q: &Result<PresentReading, Reason>, i: usize) -> bool
+    ensures { result ≡ matters_for (block_read q.now) (current_for q.now) i }
 {
-    let Verdict::Accepted(f) = v else {
+    let Ok(q) = q else {
         return i == 1;
     };
+    let f = q.block.fields;
     let x = copy::newest(f);
     let y = copy::other_area(x);
+    let w = copy::current(f, q.present);
     (i == 1) | (named_in(f, x, i) | (!w & named_in(f, y, i)))
 }
 
-// Whether a copy's block is accepted and its present record is that of the entry with the later time, which is then whole.
-fn newest_whole(v: Verdict, p: Present) -> bool
-    ensures { result ≡ current_for v p }
-{
-    let Verdict::Accepted(f) = v else {
-        return false;
-    };
-    copy::current(f, p)
-}
-
 // Whether sector i was read. One without a mark was not.
+#[tactic(auto, unfolding(crate::specs::Sectors::is_read))]
 fn is_read(marks: &[u8], i: usize) -> bool
     ensures { result ≡ is_read marks.now i }
 {
-    if i < marks.len() {
-        return marks[i] == 0;
-    }
-    false
+    marks.get(i) == Some(&0)
 }
 
-// Whether each sector does not matter or was read, by what reading the copy's block answered and whether the newest area is
-// whole (w).
-fn all_pass(v: Verdict, w: bool, marks: &[u8]) -> bool
-    ensures { result ≡ every (passes v w marks.now) copy_sectors }
-{
-    let n = copy_sectors();
-    let mut i = 0;
-    while i < n {
-        let passes = !matters_for(v, w, i) | is_read(marks, i);
-        if !passes {
-            return false;
-        }
-        i += 1;
+impl CopyRead<'_> {
+    // Whether no sector of the copy that matters is marked. A sector without a mark counts as marked.
+    pub fn known(self) -> bool
+        ensures { result ≡ known self.entry.bytes.now self.entry.marks.now }
+    {
+        let q = copy::read_present(self.bytes);
+        (0..copy_sectors()).all(|i| !matters(&q, i) | is_read(self.marks, i))
     }
-    true
-}
-
-// Whether no sector of a copy that matters is marked. A sector without a mark counts as marked.
-pub fn known(c: &[u8], marks: &[u8]) -> bool
-    ensures { result ≡ known c.now marks.now }
-{
-    let q = copy::read_present(c);
-    let r = q.block;
-    let v = r.verdict;
-    let p = q.present;
-    all_pass(v, newest_whole(v, p), marks)
 }
 
 // Whether what discovery answers for two copies is sure: no sector that matters in either is marked.
-pub fn settled(f: &[u8], b: &[u8], fm: &[u8], bm: &[u8]) -> bool
-    ensures { result ≡ settled f.now b.now fm.now bm.now }
+#[tactic(auto, unfolding(crate::specs::Sectors::settled))]
+pub fn settled(front: CopyRead<'_>, back: CopyRead<'_>) -> bool
+    ensures { result ≡ settled front.entry.bytes.now back.entry.bytes.now front.entry.marks.now back.entry.marks.now }
 {
-    known(f, fm) & known(b, bm)
+    front.known() & back.known()
 }
 
 // Whether n is one of the k sectors from a on.
+#[tactic(auto, unfolding(crate::specs::Apply::among))]
 fn among(a: u64, k: u64, n: u64) -> bool
     ensures { result ≡ among a k n }
 {
-    if n < a {
-        return false;
-    }
-    n - a < k
+    a <= n && n - a < k
 }
 
 // The byte of a copy at which sector n lies, one of k sectors from a on that begin at byte `at`.
+#[tactic(auto, unfolding(crate::specs::Apply::among))]
 fn offset_in(a: u64, k: u64, at: usize, n: u64) -> usize
     requires n_value { among a k n ≡ true }
     requires k_bound { k ≤ 65536 }
@@ -206,6 +174,7 @@ fn offset_in(a: u64, k: u64, at: usize, n: u64) -> usize
 }
 
 // The byte of a side's copy at which device sector n lies; the copy's end where it lies in none of its parts.
+#[tactic(auto, unfolding(crate::specs::Apply::offset_of, layout::specs::Places::area_offset, layout::specs::Limits::record_limit), using(crash::proofs::Copies::limit_small))]
 fn offset_of(side: Side, d: Device, n: u64) -> usize
     ensures { result ≡ offset_of side d n }
 {
@@ -227,22 +196,26 @@ fn offset_of(side: Side, d: Device, n: u64) -> usize
 
 // Applies a store to two copies in memory: the bytes of a device sector go to where that sector lies in each; a sector that lies in neither
 // changes nothing. 1 unless both are copies by their size and 512 bytes are stored; 4, 7 or 8 for device numbers that are not allowed. Then
-// nothing changes.
-pub fn apply(d: Device, sector: u64, content: &[u8], f: &mut [u8], b: &mut [u8]) -> u8
-    ensures value { result ≡ first (apply_tests d content.now f.old b.old) }
+// nothing changes. Both are lent to be changed, which `Copies` are not.
+#[tactic(auto, unfolding(refusal::specs::Tests::first, crate::specs::Apply::applied))]
+pub fn apply(
+    d: Device,
+    sector: u64,
+    content: &[u8],
+    f: &mut [u8],
+    b: &mut [u8],
+) -> Result<(), Reason>
+    ensures value { result ≡ answer (first (apply_tests d content.now f.old b.old)) tt }
     ensures f_after { f.new ≡ applied Front d sector content.now f.old b.old }
     ensures b_after { b.new ≡ applied Back d sector content.now f.old b.old }
 {
     let n = layout::copy_bytes();
     let sized = ((f.len() == n) & (b.len() == n)) & (content.len() == layout::SECTOR_BYTES);
     if !sized {
-        return refusal::SLICE_SIZE;
+        return Err(Reason::SliceSize);
     }
-    let r = layout::check(d);
-    if r != 0 {
-        return r;
-    }
+    layout::check(d)?;
     endian::put(f, offset_of(Side::Front, d, sector), content);
     endian::put(b, offset_of(Side::Back, d, sector), content);
-    refusal::NONE
+    Ok(())
 }

@@ -46,10 +46,6 @@ later-none gs i j k l h =
     let e : j ≡ length gs = omega arith in
     ap (least (clashes_at gs i)) (sym e) ∙ (h ∙ e)
 
-pub later-past : (gs : List Segment) (i : ℕ) → length gs ≤ i → later_of gs i ≡ length gs
-unfolding later_of
-later-past gs i h = least-none (clashes_at gs i) (length gs) (λ j l. clash_not_later gs i j (let k : j ≤ i = omega arith in k))
-
 -- the search over the lower position: its start, where none before it clashes; a turn passed, found, its end
 pub earlier_from : (gs : List Segment) (i : ℕ) → i ≤ earlier_of gs → least (clashes_later gs) i ≡ i
 unfolding earlier_of
@@ -68,11 +64,7 @@ earlier_none gs i k l h =
     let e : i ≡ length gs = omega arith in
     ap (least (clashes_later gs)) (sym e) ∙ (h ∙ e)
 
--- the two searches end at the number of segments, or before
-pub later-le : (gs : List Segment) (i : ℕ) → later_of gs i ≤ length gs
-unfolding later_of
-later-le gs i = least-le (clashes_at gs i) (length gs)
-
+-- the search ends at the number of segments, or before
 pub earlier_le : (gs : List Segment) → earlier_of gs ≤ length gs
 unfolding earlier_of
 earlier_le gs = least-le (clashes_later gs) (length gs)

@@ -13,33 +13,6 @@ use Rattle.segments.specs.declared.Segment.{Segment}
 use Rattle.segments.specs.declared.Range.{Range}
 use Rattle.segments.specs.Segments.{end_of, holds, meets, in_range, InRange}
 
--- a sum that the code does not take
-pub leb-shift : (a b e : ℕ) → a ≤ e → leb b (e - a) ≡ leb (a + b) e
-leb-shift a b e h =
-    elim (dec_le (a + b) e) [
-      | yes l ↦ le-leb b (e - a) (omega arith) ∙ sym (le-leb (a + b) e l)
-      | no l ↦ lt-leb b (e - a) (omega arith) ∙ sym (lt-leb (a + b) e (omega arith))
-    ]
-
-pub ltb_shift : (a b x : ℕ) → a ≤ x → ltb (x - a) b ≡ ltb x (a + b)
-ltb_shift a b x h =
-    elim (dec_lt x (a + b)) [
-      | yes l ↦ lt-ltb (x - a) b (omega arith) ∙ sym (lt-ltb x (a + b) l)
-      | no l ↦ le-ltb (x - a) b (omega arith) ∙ sym (le-ltb x (a + b) (omega arith))
-    ]
-
--- a segment that begins past a range, and one that does not
-pub range_past : (r : Range) (g : Segment) → r.end < g.start → in_range r g ≡ false
-unfolding in_range
-range_past r g h =
-    and_false-right (leb r.start g.start) (leb 1 g.sectors && leb (end_of g) r.end)
-    (and_false-right (leb 1 g.sectors) (leb (end_of g) r.end) (lt-leb (end_of g) r.end (omega arith)))
-
-pub range_by : (r : Range) (g : Segment) → g.start ≤ r.end
-    → leb r.start g.start && (leb 1 g.sectors && leb g.sectors (r.end - g.start)) ≡ in_range r g
-unfolding in_range
-range_by r g h = ap (λ (z : Bool). leb r.start g.start && (leb 1 g.sectors && z)) (leb-shift g.start g.sectors r.end h)
-
 -- in words of numbers, both ways
 pub in_range_lem : (r : Range) (g : Segment) → in_range r g ≡ true → InRange r g
 unfolding in_range

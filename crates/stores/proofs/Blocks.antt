@@ -7,6 +7,7 @@ use native.Mathlib.Omega.{arith}
 use borrow.Author.Tests.{eq-eqb}
 use lib.Dec.{eqb}
 use lib.ListN.{length}
+use Rattle.std.specs.Prelude.{Option, Some, None, Ok}
 use Rattle.endian.specs.Bytes.{window}
 use Rattle.endian.proofs.Numbers.{le_bound}
 use Rattle.endian.proofs.Parts.{length-window, length-window-fits}
@@ -17,10 +18,8 @@ use Rattle.layout.specs.declared.Device.{Device}
 use Rattle.layout.specs.declared.Area.{Area}
 use Rattle.layout.specs.declared.Area.TheVariants.{A, B}
 use Rattle.layout.specs.Limits.{size_allowed, metadata_allowed, reserved_allowed}
-use Rattle.block.specs.declared.Entry.{Entry}
-use Rattle.block.specs.declared.Entry.TheVariants.{Unused, Used}
+use Rattle.block.specs.declared.Holding.{Holding}
 use Rattle.block.specs.declared.BlockFields.{BlockFields}
-use Rattle.block.specs.declared.Verdict.TheVariants as Verdict
 use Rattle.block.specs.Entry.{entry_of, entry_allowed, entries_allowed}
 use Rattle.block.specs.Block.{number, device_of, pool_of, blockdev_of, entry_at, fields_of, limit_tests, read_tests, reading}
 use Rattle.block.specs.Writing.{block_of, write_tests, written}
@@ -39,7 +38,7 @@ entry-fits : (s n u c : ℕ) → s < 2 ^ 64 → c < 2 ^ 32 → EntryFits (entry_
 unfolding entry_of
 entry-fits s n u c hs hc = go (eqb s 0 && (eqb n 0 && (eqb u 0 && eqb c 0)))
   where
-    go : (x : Bool) → EntryFits (cond x Unused (Used (record { seconds = s; nanoseconds = n; bytes = u; checksum = c })))
+    go : (x : Bool) → EntryFits (cond x None (Some (record { seconds = s; nanoseconds = n; bytes = u; checksum = c })))
     go true = tt
     go false = (hs, hc)
 
@@ -79,7 +78,7 @@ module _ (b : List ℕ) (ok : first (read_tests b) ≡ 0) (g : BlockFields) (sam
   )
 
   -- it is read back
-  pub again_reads : reading (block_of (pool_of b) (blockdev_of b) g) ≡ record { verdict = Verdict.Accepted g; pool = pool_of b; blockdev = blockdev_of b }
+  pub again_reads : reading (block_of (pool_of b) (blockdev_of b) g) ≡ Ok (record { fields = g; pool = pool_of b; blockdev = blockdev_of b })
   again_reads =
       let n : length b ≡ 512 = accepted-length b ok in
       read_back (pool_of b) (blockdev_of b) g (length-window-fits b 32 32 (omega arith)) (length-window-fits b 64 32 (omega arith))
@@ -102,6 +101,6 @@ module _ (b : List ℕ) (ok : first (read_tests b) ≡ 0) (g : BlockFields) (sam
     again-written = sym (written-accepted out (pool_of b) (blockdev_of b) g again-writes)
 
 -- a changed entry leaves the device numbers
-pub device_kept : (f : BlockFields) (y : Area) (e : Entry) → (with_entry f y e).device ≡ f.device
+pub device_kept : (f : BlockFields) (y : Area) (e : Option Holding) → (with_entry f y e).device ≡ f.device
 device_kept f A e = refl
 device_kept f B e = refl

@@ -3,10 +3,10 @@ use Prim.Native.Nat.{ℕ}
 use mathlib.Core.Path.{◌≡◌, refl, sym, ap, ap₂, ◌∙◌}
 use mathlib.Core.Bool.{Bool, true, ◌&&◌, true≢false}
 use mathlib.Core.List.{List}
-use native.Mathlib.Decide.{ℕ_discrete}
-use native.Mathlib.Omega.{arith}
 use borrow.Author.Tests.{eqb-true, eq-eqb}
 use lib.Dec.{eqb}
+use Rattle.std.specs.Prelude.{Some, Result, Ok, Err, is_ok}
+use Rattle.refusal.specs.declared.Reason.{Reason}
 use Rattle.endian.specs.Bytes.{same}
 use Rattle.endian.proofs.Tests.{and_left, and_right, and_both, same_equal, equal_same, same_refl}
 use Rattle.refusal.specs.Tests.{first}
@@ -16,34 +16,26 @@ use Rattle.layout.specs.declared.Side.TheVariants.{Front, Back}
 use Rattle.layout.specs.declared.Area.{Area}
 use Rattle.block.specs.declared.Time.{Time}
 use Rattle.block.specs.declared.Holding.{Holding}
-use Rattle.block.specs.declared.Entry.TheVariants.{Used}
 use Rattle.block.specs.declared.BlockFields.{BlockFields}
 use Rattle.block.specs.declared.Reading.{Reading}
-use Rattle.block.specs.declared.Verdict.{Verdict}
 use Rattle.block.specs.Entry.{same_time, time_of}
 use Rattle.block.specs.Block.{pool_of, blockdev_of, fields_of, read_tests, reading, accepted_reading}
 use Rattle.block.specs.Writing.{holding_of}
-use Rattle.block.proofs.Readings.{accepted_reading_lem, refused_reading_lem}
+use Rattle.block.proofs.Readings.{accepted_reading_lem, accepted_none}
 use Rattle.block.proofs.Times.{same_facts}
-use Rattle.copy.specs.Copy.{block_in, area_bytes, entry_in, whole, newest, reading_in}
-use Rattle.discovery.specs.Discovery.{same_device, same_uuids, sized, agree, stepped, in_step_of, is_in_step}
+use Rattle.copy.specs.Copy.{block_in, area_bytes, entry_in, whole, newest, record_at, reading_in}
+use Rattle.discovery.specs.Discovery.{same_device, sized, agree, stepped, in_step_of, is_in_step}
 use Rattle.stores.proofs.Holding.{held_in, record_in, Holds, its_whole}
 
-pub refused_differs : (n : ℕ) (f : BlockFields) → Verdict.Refused n ≡ Verdict.Accepted f → ⊥
-refused_differs n f v = let o : ◌≡◌ {A = ℕ} 0 1 = cc in omega arith
+pub refused_differs : (e : Reason) (r : Reading) → Err e ≡ Ok r → ⊥
+refused_differs e r h = true≢false (sym (ap is_ok h))
 
--- a verdict of acceptance says that no test refuses, and gives the block's numbers
-pub verdict_facts : (b : List ℕ) (f : BlockFields) → (reading b).verdict ≡ Verdict.Accepted f → (first (read_tests b) ≡ 0) × (f ≡ fields_of b)
-verdict_facts b f e =
-    elim (ℕ_discrete (first (read_tests b)) 0) [
-      | yes z ↦ (z, same-fields z)
-      | no h ↦ absurd (refused_differs (first (read_tests b)) f (ap (λ (r : Reading). r.verdict) (refused_reading_lem b (first (read_tests b)) refl h) ∙ e))
-    ]
-  where
-    same-fields : first (read_tests b) ≡ 0 → f ≡ fields_of b
-    same-fields z =
-        let v : Verdict.Accepted (fields_of b) ≡ Verdict.Accepted f = ap (λ (r : Reading). r.verdict) (accepted_reading_lem b z) ∙ e in
-        cc
+-- the reading of an accepted block says that no test refuses it, and gives its numbers and its UUIDs
+pub reading_facts : (b : List ℕ) (r : Reading) → reading b ≡ Ok r → (first (read_tests b) ≡ 0) × (r ≡ accepted_reading b)
+reading_facts b r e =
+    let z : first (read_tests b) ≡ 0 = accepted_none b r e in
+    let o : Ok r ≡ Ok (accepted_reading b) = sym e ∙ accepted_reading_lem b z in
+    (z, cc)
 
 -- the sides' copies: each is accepted and whole, with the front's identity, time and record
 pub record Stepped (c : Side → List ℕ) : Type 0 where
@@ -92,33 +84,32 @@ module _ (c : Side → List ℕ) where
   abbrev b : List ℕ
   b = c Back
 
-  by_verdicts : (u : Bool) → u ≡ same_uuids (reading_in f) (reading_in b) → sized f b ≡ true → (v w : Verdict) → (reading_in f).verdict ≡ v → (reading_in b).verdict ≡ w
-      → in_step_of v w u f b ≡ true → Stepped c
-  by_verdicts u k z (Verdict.Refused m) w p q h = absurd (true≢false (sym h))
-  by_verdicts u k z (Verdict.Accepted x) (Verdict.Refused n) p q h = absurd (true≢false (sym h))
-  by_verdicts u k z (Verdict.Accepted x) (Verdict.Accepted y) p q h =
-      let fx : (first (read_tests (block_in f)) ≡ 0) × (x ≡ fields_of (block_in f)) = verdict_facts (block_in f) x p in
-      let fy : (first (read_tests (block_in b)) ≡ 0) × (y ≡ fields_of (block_in b)) = verdict_facts (block_in b) y q in
-      let i : (same_device x y && u) ≡ true = and_left (same_device x y && u) (stepped f x b y) h in
-      let s : stepped f (fields_of (block_in f)) b (fields_of (block_in b)) ≡ true =
-      sym (ap₂ (λ (g j : BlockFields). stepped f g b j) fx.1 fy.1) ∙ and_right (same_device x y && u) (stepped f x b y) h in
-      let wf : Bool = whole f (fields_of (block_in f)) (newest (fields_of (block_in f))) in
-      let wb : Bool = whole b (fields_of (block_in b)) (newest (fields_of (block_in b))) in
-      let st : Bool = same_time (time_of (held_in f)) (time_of (held_in b)) in
-      let sb : Bool = same (record_in f) (record_in b) in
-      let s2 : (wb && (st && sb)) ≡ true = and_right wf (wb && (st && sb)) s in
-      let s3 : (st && sb) ≡ true = and_right wb (st && sb) s2 in
-      let rf : accepted_reading (block_in f) ≡ reading_in f = accepted_reading_lem (block_in f) fx.0 in
-      let rb : accepted_reading (block_in b) ≡ reading_in b = accepted_reading_lem (block_in b) fy.0 in
+  by_readings : sized f b ≡ true → (v w : Result Reading Reason) → reading_in f ≡ v → reading_in b ≡ w → in_step_of v w f b ≡ true → Stepped c
+  by_readings z (Err m) w p q h = absurd (true≢false (sym h))
+  by_readings z (Ok x) (Err n) p q h = absurd (true≢false (sym h))
+  by_readings z (Ok x) (Ok y) p q h =
+      let fx : (first (read_tests (block_in f)) ≡ 0) × (x ≡ accepted_reading (block_in f)) = reading_facts (block_in f) x p in
+      let fy : (first (read_tests (block_in b)) ≡ 0) × (y ≡ accepted_reading (block_in b)) = reading_facts (block_in b) y q in
+      let g : BlockFields = fields_of (block_in f) in
+      let j : BlockFields = fields_of (block_in b) in
       let sp : Bool = same (pool_of (block_in f)) (pool_of (block_in b)) in
       let su : Bool = same (blockdev_of (block_in f)) (blockdev_of (block_in b)) in
-      let uu : (sp && su) ≡ true = ap₂ same_uuids rf rb ∙ (sym k ∙ and_right (same_device x y) u i) in
+      let wf : Bool = whole f g (newest g) in
+      let wb : Bool = whole b j (newest j) in
+      let st : Bool = same_time (time_of (held_in f)) (time_of (held_in b)) in
+      let sb : Bool = same (record_in f) (record_in b) in
+      let a : ((same_device g j && (sp && su)) && (wf && (wb && (st && sb)))) ≡ true = sym (ap₂ (λ (r s : Reading). in_step_of (Ok r) (Ok s) f b) fx.1 fy.1) ∙ h in
+      let i : (same_device g j && (sp && su)) ≡ true = and_left (same_device g j && (sp && su)) (wf && (wb && (st && sb))) a in
+      let uu : (sp && su) ≡ true = and_right (same_device g j) (sp && su) i in
+      let s1 : (wf && (wb && (st && sb))) ≡ true = and_right (same_device g j && (sp && su)) (wf && (wb && (st && sb))) a in
+      let s2 : (wb && (st && sb)) ≡ true = and_right wf (wb && (st && sb)) s1 in
+      let s3 : (st && sb) ≡ true = and_right wb (st && sb) s2 in
       record {
         sizes = z;
-        device = sym (ap (λ (g : BlockFields). g.device) fx.1) ∙ (same_device_facts x y (and_left (same_device x y) u i) ∙ ap (λ (g : BlockFields). g.device) fy.1);
+        device = same_device_facts g j (and_left (same_device g j) (sp && su) i);
         accepted = each (λ (w : Side). first (read_tests (block_in (c w))) ≡ 0) fx.0 fy.0;
         newest-whole =
-            each (λ (w : Side). whole (c w) (fields_of (block_in (c w))) (newest (fields_of (block_in (c w)))) ≡ true) (and_left wf (wb && (st && sb)) s) (and_left wb (st && sb) s2);
+            each (λ (w : Side). whole (c w) (fields_of (block_in (c w))) (newest (fields_of (block_in (c w)))) ≡ true) (and_left wf (wb && (st && sb)) s1) (and_left wb (st && sb) s2);
         pool = each (λ (w : Side). pool_of (block_in (c w)) ≡ pool_of (block_in f)) refl (sym (same_equal (pool_of (block_in f)) (pool_of (block_in b)) (and_left sp su uu)));
         blockdev = each (λ (w : Side). blockdev_of (block_in (c w)) ≡ blockdev_of (block_in f)) refl (sym (same_equal (blockdev_of (block_in f)) (blockdev_of (block_in b)) (and_right sp su uu)));
         times = each (λ (w : Side). time_of (held_in (c w)) ≡ time_of (held_in f)) refl (sym (same_time_is (time_of (held_in f)) (time_of (held_in b)) (and_left st sb s3)));
@@ -128,8 +119,7 @@ module _ (c : Side → List ℕ) where
   pub in_step_facts : is_in_step f b ≡ true → Stepped c
   unfolding is_in_step
   in_step_facts h =
-      by_verdicts (same_uuids (reading_in f) (reading_in b)) refl (and_left (sized f b) _ h) (reading_in f).verdict (reading_in b).verdict refl refl
-      (and_right (sized f b) (in_step_of (reading_in f).verdict (reading_in b).verdict (same_uuids (reading_in f) (reading_in b)) f b) h)
+      by_readings (and_left (sized f b) _ h) (reading_in f) (reading_in b) refl refl (and_right (sized f b) (in_step_of (reading_in f) (reading_in b) f b) h)
 
 -- and back: two copies of one device that hold the same record are in step
 module _ {f b : List ℕ} {g j : BlockFields} {p u : List ℕ} {x y : Area} {h k : Holding} {r : List ℕ} (m : Holds f g p u x h r) (n : Holds b j p u y k r)
@@ -138,18 +128,18 @@ module _ {f b : List ℕ} {g j : BlockFields} {p u : List ℕ} {x y : Area} {h k
   unfolding is_in_step
   held-in_step =
       and_both (sized f b) _ z
-      (ap₂ (λ (a c : Reading). in_step_of a.verdict c.verdict (same_uuids a c) f b) m.reads n.reads
+      (ap₂ (λ (a c : Result Reading Reason). in_step_of a c f b) m.reads n.reads
       ∙ and_both (same_device g j && (same p p && same u u)) (stepped f g b j)
       (and_both (same_device g j) (same p p && same u u) one (and_both (same p p) (same u u) (same_refl p) (same_refl u)))
       (and_both (whole f g (newest g)) _ (ap (whole f g) m.area ∙ its_whole m)
       (and_both (whole b j (newest j)) _ (ap (whole b j) n.area ∙ its_whole n) agreed)))
     where
-      held : (a : BlockFields) (q : Area) (w : Holding) → newest a ≡ q → entry_in a q ≡ Used w → holding_of (entry_in a (newest a)) ≡ w
+      held : (a : BlockFields) (q : Area) (w : Holding) → newest a ≡ q → entry_in a q ≡ Some w → holding_of (entry_in a (newest a)) ≡ w
       held a q w c d = ap (λ (v : Area). holding_of (entry_in a v)) c ∙ ap holding_of d
 
-      agreed : agree f b (newest g) (holding_of (entry_in g (newest g))) (newest j) (holding_of (entry_in j (newest j))) ≡ true
+      agreed : agree f b (record_at (newest g) (holding_of (entry_in g (newest g)))) (record_at (newest j) (holding_of (entry_in j (newest j)))) ≡ true
       agreed =
-          ap₂ (λ (a c : Area). agree f b a (holding_of (entry_in g (newest g))) c (holding_of (entry_in j (newest j)))) m.area n.area
-          ∙ (ap₂ (λ (a c : Holding). agree f b x a y c) (held g x h m.area m.entry) (held j y k n.area n.entry)
+          ap₂ (λ (a c : Area). agree f b (record_at a (holding_of (entry_in g (newest g)))) (record_at c (holding_of (entry_in j (newest j))))) m.area n.area
+          ∙ (ap₂ (λ (a c : Holding). agree f b (record_at x a) (record_at y c)) (held g x h m.area m.entry) (held j y k n.area n.entry)
           ∙ and_both (same_time (time_of h) (time_of k)) _ t
           (equal_same (area_bytes f x h.bytes) (area_bytes b y k.bytes) (m.bytes ∙ sym n.bytes)))

@@ -8,6 +8,9 @@ use native.Mathlib.Omega.{arith}
 use borrow.Author.Tests.{eqb-true, ltb-true}
 use lib.Dec.{eqb, ltb, lit<}
 use Rattle.refusal.specs.Numbers.{slice_size, no_such_store}
+use Rattle.std.specs.Prelude.{Result, Ok, Err}
+use Rattle.refusal.specs.declared.Reason.{Reason}
+use Rattle.refusal.specs.Reasons.{reason}
 use Rattle.refusal.specs.Tests.{first, AllHold}
 use Rattle.refusal.proofs.Order.{first_holds}
 use Rattle.layout.specs.declared.Device.{Device}
@@ -22,7 +25,6 @@ use Rattle.copy.specs.Copy.{is_copy, block_in}
 use Rattle.crash.specs.Crash.{area_sectors}
 use Rattle.crash.proofs.Copies.{limit_small}
 use Rattle.stores.specs.declared.Part.{Part}
-use Rattle.stores.specs.declared.Given.{Given}
 use Rattle.stores.specs.Stores.{sectors_of}
 use Rattle.stores.specs.Given.{within, block_answer, block_given, part_answer, part_tests, part_given, plan_tests}
 use Rattle.stores.specs.States.{Lies}
@@ -31,37 +33,36 @@ use Rattle.stores.proofs.Places.{Sizes, sizes_tested, block_below, area_below}
 use Rattle.stores.proofs.Refusing.{at-refused}
 
 -- a test chooses the answer
-pub by_test : {P : Type 0} (t : Bool) (a b : Given) (n : ℕ) → (t ≡ true → a ≡ Given.At n → P) → (t ≡ false → b ≡ Given.At n → P) → cond t a b ≡ Given.At n → P
+pub by_test : {P : Type 0} (t : Bool) (a b : Result ℕ Reason) (n : ℕ) → (t ≡ true → a ≡ Ok n → P) → (t ≡ false → b ≡ Ok n → P) → cond t a b ≡ Ok n → P
 by_test true a b n f g h = f refl h
 by_test false a b n f g h = g refl h
 
 -- a refusal is no store
-pub no_place : {P : Type 0} (m n : ℕ) → Given.Refused m ≡ Given.At n → P
+pub no_place : {P : Type 0} (m : Reason) (n : ℕ) → Err m ≡ Ok n → P
 no_place m n e = absurd (at-refused n m (sym e))
 
-same_place : (m n : ℕ) → Given.At m ≡ Given.At n → n ≡ m
+same_place : (m n : ℕ) → ◌≡◌ {A = Result ℕ Reason} (Ok m) (Ok n) → n ≡ m
 same_place m n e = cc
 
-block_inner : (s : ℕ) (g : BlockFields) (c out : List ℕ) (n : ℕ) → block_answer s g c out ≡ Given.At n → n ≡ s
+block_inner : (s : ℕ) (g : BlockFields) (c out : List ℕ) (n : ℕ) → block_answer s g c out ≡ Ok n → n ≡ s
 block_inner s g c out n =
-    let m : ℕ = first (write_tests out (pool_of (block_in c)) (blockdev_of (block_in c)) g) in
-    by_test (eqb m 0) (Given.At s) (Given.Refused m) n (λ t e. same_place s n e) (λ t e. no_place m n e)
+    by_test (eqb (first (write_tests out (pool_of (block_in c)) (blockdev_of (block_in c)) g)) 0) (Ok s) (Err _) n (λ t e. same_place s n e) (λ t e. no_place _ n e)
 
-pub block_place_lem : (s : ℕ) (g : BlockFields) (c out : List ℕ) (n : ℕ) → block_given s g c out ≡ Given.At n → n ≡ s
+pub block_place_lem : (s : ℕ) (g : BlockFields) (c out : List ℕ) (n : ℕ) → block_given s g c out ≡ Ok n → n ≡ s
 block_place_lem s g c out n =
-    by_test (is_copy c) (block_answer s g c out) (Given.Refused slice_size) n (λ t e. block_inner s g c out n e) (λ t e. no_place slice_size n e)
+    by_test (is_copy c) (block_answer s g c out) (Err (reason slice_size)) n (λ t e. block_inner s g c out n e) (λ t e. no_place (reason slice_size) n e)
 
 -- a part's sector, or its block
-pub part-place : (p : Part) (k : ℕ) (c r : List ℕ) (j : ℕ) (out : List ℕ) (n : ℕ) → part_given p k c r j out ≡ Given.At n
+pub part-place : (p : Part) (k : ℕ) (c r : List ℕ) (j : ℕ) (out : List ℕ) (n : ℕ) → part_given p k c r j out ≡ Ok n
     → (n ≡ p.block) ⊎ ((j < k) × (n ≡ p.area + j))
 part-place p k c r j out n =
-    by_test (eqb (first (part_tests k c r j out)) 0) (part_answer p k c j out) (Given.Refused (first (part_tests k c r j out))) n
+    by_test (eqb (first (part_tests k c r j out)) 0) (part_answer p k c j out) (Err (reason (first (part_tests k c r j out)))) n
     (λ t.
-    by_test (ltb j k) (cond (within p.area j) (Given.At (p.area + j)) (Given.Refused no_such_store)) (block_answer p.block p.fields c out) n
-    (λ l. by_test (within p.area j) (Given.At (p.area + j)) (Given.Refused no_such_store) n
-    (λ u e. inr (ltb-true j k l, same_place (p.area + j) n e)) (λ u e. no_place no_such_store n e))
+    by_test (ltb j k) (cond (within p.area j) (Ok (p.area + j)) (Err (reason no_such_store))) (block_answer p.block p.fields c out) n
+    (λ l. by_test (within p.area j) (Ok (p.area + j)) (Err (reason no_such_store)) n
+    (λ u e. inr (ltb-true j k l, same_place (p.area + j) n e)) (λ u e. no_place (reason no_such_store) n e))
     (λ l e. inl (block_inner p.block p.fields c out n e)))
-    (λ t e. no_place (first (part_tests k c r j out)) n e)
+    (λ t e. no_place (reason (first (part_tests k c r j out))) n e)
 
 -- the tests of a plan's store, all passed
 module _ (f b : List ℕ) (room m n i k : ℕ) (v : Device) (z : first (plan_tests f b room m n i k v) ≡ 0) where

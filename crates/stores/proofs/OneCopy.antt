@@ -6,6 +6,7 @@ use mathlib.Core.Bool.{true}
 use mathlib.Core.List.{List}
 use native.Mathlib.Omega.{arith}
 use lib.ListN.{length, take}
+use Rattle.std.specs.Prelude.{Some, Ok}
 use Rattle.checksum.specs.Crc as Crc
 use Rattle.refusal.specs.Tests.{first}
 use Rattle.layout.specs.declared.Device.{Device}
@@ -15,9 +16,7 @@ use Rattle.layout.specs.declared.Area.{Area}
 use Rattle.layout.specs.Limits.{record_limit}
 use Rattle.layout.specs.Places.{header_sector, block_sector, area_sector}
 use Rattle.block.specs.declared.Holding.{Holding}
-use Rattle.block.specs.declared.Entry.TheVariants.{Used}
 use Rattle.block.specs.declared.BlockFields.{BlockFields}
-use Rattle.block.specs.declared.Verdict.TheVariants as Verdict
 use Rattle.block.specs.Block.{pool_of, blockdev_of, fields_of, read_tests, reading}
 use Rattle.block.proofs.Readings.{accepted_reading_lem}
 use Rattle.copy.specs.Copy.{block_in, entry_in, whole, newest}
@@ -36,7 +35,7 @@ block_place_lem Back v z = let h : 2097152 ≤ v.sectors = z.sectors in omega ar
 
 -- a copy read from sectors where a block names a record, and its area begins with the record
 pub holds_at : (s : Side) (v : Device) (e : Sectors) → Sound e → Sizes v → {g : BlockFields} {p u : List ℕ} {x : Area} {h : Holding} {r : List ℕ}
-    → reading (e (block_sector s v)) ≡ record { verdict = Verdict.Accepted g; pool = p; blockdev = u } → newest g ≡ x → entry_in g x ≡ Used h
+    → reading (e (block_sector s v)) ≡ Ok (record { fields = g; pool = p; blockdev = u }) → newest g ≡ x → entry_in g x ≡ Some h
     → h.checksum ≡ Crc.checksum r → h.bytes ≡ length r → h.bytes ≤ record_limit → take h.bytes (gather e (area_sector s x v) area_sectors) ≡ r
     → Holds (copy_from s v e) g p u x h r
 holds_at s v e se z {g} {p} {u} {x} {h} {r} rd ar en su lo sm by =
@@ -52,7 +51,7 @@ holds_at s v e se z {g} {p} {u} {x} {h} {r} rd ar en su lo sm by =
 module _ (s : Side) (v : Device) (d : Sectors) (sd : Sound d) (z : Sizes v) (ok : first (read_tests (block_in (copy_from s v d))) ≡ 0)
     (wh : whole (copy_from s v d) (fields_of (block_in (copy_from s v d))) (newest (fields_of (block_in (copy_from s v d)))) ≡ true) where
   -- the newest entry is used, and the copy holds its record
-  pub used : entry_in (fields_of (block_in (copy_from s v d))) (newest (fields_of (block_in (copy_from s v d)))) ≡ Used (held_in (copy_from s v d))
+  pub used : entry_in (fields_of (block_in (copy_from s v d))) (newest (fields_of (block_in (copy_from s v d)))) ≡ Some (held_in (copy_from s v d))
   used = newest-used (copy_from s v d) ok wh
 
   held : Holds (copy_from s v d) (fields_of (block_in (copy_from s v d))) (pool_of (block_in (copy_from s v d))) (blockdev_of (block_in (copy_from s v d)))
@@ -75,7 +74,7 @@ module _ (s : Side) (v : Device) (d : Sectors) (sd : Sound d) (z : Sizes v) (ok 
         let x : Area = newest (fields_of (block_in (copy_from s v d))) in
         let n : ℕ = (held_in (copy_from s v d)).bytes in
         holds_at s v e se z
-        (ap reading (b ∙ sym (copy_block s v d sd ∙ ap d (block_place_lem s v z))) ∙ sym (accepted_reading_lem (block_in (copy_from s v d)) ok)) refl used held.sum held.long
+        (ap reading (b ∙ sym (copy_block s v d sd ∙ ap d (block_place_lem s v z))) ∙ accepted_reading_lem (block_in (copy_from s v d)) ok) refl used held.sum held.long
         held_small (ap (take n) (gather-same e d (area_sector s x v) area_sectors a) ∙ sym (copy_area s v d sd x n held_small))
 
 -- of copies in step, a side whose block and present area still stand holds the front's record

@@ -1,10 +1,13 @@
 -- A record's sectors, one after the other, begin with the record.
-use Prim.Native.Nat.{ℕ, zero, suc, ◌+◌, ◌-◌, ◌*◌, ◌≤◌, ◌<◌}
+use Prim.Native.Nat.{ℕ, zero, suc, ◌+◌, ◌-◌, ◌*◌, ◌/◌, ◌%◌, ◌≤◌, ◌<◌}
 use mathlib.Core.Path.{◌≡◌, refl, sym, ap, ap₂, ◌∙◌}
 use mathlib.Core.List.{List, ◌++◌, append_assoc}
 use native.Mathlib.Decide.{dec_le}
 use native.Mathlib.Nat.{add-zero, add-suc, suc-add}
 use native.Mathlib.Omega.{arith}
+use lib.Dec.{lit<}
+use Rattle.std.specs.Prelude.{min}
+use Rattle.std.proofs.lemmas.Grind.{div_ceil_times}
 use lib.ListN.{length, take, drop, length-append, drop_of_length-le, take-append-drop}
 use lib.Seq.{take_at, take-append-add, drop-drop, drop_at}
 use Rattle.endian.specs.Bytes.{window, zeros, splice}
@@ -41,6 +44,11 @@ sectors_few n h = let a : area_sectors ≤ 1020 = limit_small in let b : sectors
 
 pub padded-within : (n : ℕ) → n ≤ record_limit → sectors_of n * 512 ≤ record_limit
 padded-within n h = let m : area_sectors * 512 ≡ record_limit = limit_sectors in let b : sectors_of n ≤ area_sectors = sectors-within n h in omega arith
+
+-- sectors as the code counts them: the whole ones, and one more for what is left
+pub sectors_rounded : (n : ℕ) → n / 512 + min 1 (n % 512) ≡ sectors_of n
+unfolding sectors_of
+sectors_rounded n = omega (arith, div_ceil_times n 512 (lit< tt))
 
 pub sectors-least : (n : ℕ) → 1 ≤ n → 1 ≤ sectors_of n
 unfolding sectors_of

@@ -3,8 +3,10 @@ use Prim.Native.Nat.{ℕ}
 use mathlib.Core.Path.{◌≡◌, refl, sym, ap, ◌∙◌}
 use mathlib.Core.Bool.{true}
 use mathlib.Core.List.{List}
-use borrow.Author.Tests.{eqb-true, eq-eqb}
+use borrow.Author.Tests.{eqb-true}
 use lib.ListN.{length}
+use Rattle.std.specs.Prelude.{Result, Ok}
+use Rattle.refusal.specs.declared.Reason.{Reason}
 use Rattle.endian.proofs.Tests.{and_left, and_right}
 use Rattle.layout.specs.declared.Device.{Device}
 use Rattle.layout.specs.declared.Side.{Side}
@@ -17,34 +19,26 @@ use Rattle.block.specs.declared.BlockFields.{BlockFields}
 use Rattle.block.specs.declared.Reading.{Reading}
 use Rattle.block.specs.Entry.{time_of}
 use Rattle.block.specs.Block.{pool_of, blockdev_of, fields_of}
-use Rattle.copy.specs.declared.CopyReading.{CopyReading}
-use Rattle.copy.specs.declared.Present.TheVariants.{At}
-use Rattle.copy.specs.Copy.{is_copy, device_in, block_in, area_bytes, newest, present_for, copy_reading}
+use Rattle.copy.specs.Copy.{is_copy, device_in, block_in, area_bytes, newest, record_at, present_at, mapped, copy_reading_of, copy_reading}
+use Rattle.copy.specs.Demand.{present_in}
 use Rattle.copy.proofs.Presence.{present-newest}
 use Rattle.copy.proofs.Readings.{sized-read}
 use Rattle.block.proofs.Readings.{accepted_reading_lem}
 use Rattle.discovery.specs.declared.Finding.{Finding}
-use Rattle.discovery.specs.declared.Other.{Other}
-use Rattle.discovery.specs.declared.Other.TheVariants.{Both}
-use Rattle.discovery.specs.declared.Answer.TheVariants.{Found}
-use Rattle.discovery.specs.Discovery.{finding_of, discovery, copy_on}
+use Rattle.discovery.specs.Discovery.{finding_of, found_with, discovery, copy_on}
 use Rattle.discovery.proofs.Latest.{found-same}
 use Rattle.crash.specs.Crash.{Sectors, Sound, copy_from}
-use Rattle.crash.proofs.Copies.{length-copy}
 use Rattle.stores.specs.States.{Presents, Gives, Ready, Answered}
 use Rattle.stores.proofs.Holding.{held_in, record_in, Holds, holds_presents}
 use Rattle.stores.proofs.Discovering.{gives}
-use Rattle.stores.proofs.InStep.{Stepped, verdict_facts, in_step_facts, same_device_test}
+use Rattle.stores.proofs.InStep.{Stepped, reading_facts, in_step_facts, same_device_test}
 use Rattle.stores.proofs.Facts.{renamed, sized_copies}
 use Rattle.stores.proofs.Whole.{holds-newest, presents_newest}
 use Rattle.stores.proofs.Agreeing.{found_front, agree-in_step}
 
 -- the device numbers that a copy that holds a record says
 pub holds-device : {c : List ℕ} {g : BlockFields} {p u : List ℕ} {x : Area} {h : Holding} {r : List ℕ} → Holds c g p u x h r → device_in c ≡ g.device
-holds-device {c} {g} k = sym (ap (λ (z : BlockFields). z.device) (verdict_facts (block_in c) g (ap (λ (q : Reading). q.verdict) k.reads)).1)
-
-pub is_copy_lem : (w : Side) (v : Device) (e : Sectors) → Sound e → is_copy (copy_from w v e) ≡ true
-is_copy_lem w v e se = eq-eqb (length (copy_from w v e)) copy_bytes (length-copy w v e se)
+holds-device {c} {g} k = sym (ap (λ (z : Reading). z.fields.device) (reading_facts (block_in c) _ k.reads).1)
 
 -- of two copies in step, which record each of them holds
 module _ (c : Side → List ℕ) (k : Stepped c) where
@@ -60,7 +54,7 @@ module _ (c : Side → List ℕ) (k : Stepped c) where
 
   -- discovery names the front's
   pub stepped-found : discovery (c Front) (c Back)
-      ≡ Found (finding_of Front (fields_of (block_in (c Front))) (newest (fields_of (block_in (c Front)))) (held_in (c Front))) (Both (fields_of (block_in (c Back))))
+      ≡ found_with (finding_of Front (fields_of (block_in (c Front))) (record_at (newest (fields_of (block_in (c Front)))) (held_in (c Front)))) (Ok (fields_of (block_in (c Back))))
   stepped-found =
       found_front (holds-at-front Front) (holds-at-front Back) k.sizes
       (same_device_test (fields_of (block_in (c Front))) (fields_of (block_in (c Back))) k.device) _ refl (k.times Back)
@@ -69,10 +63,10 @@ module _ (c : Side → List ℕ) (k : Stepped c) where
   pub stepped_presents : (w : Side) (t : Time) (r : List ℕ) → Presents (c w) t r → (time_of (held_in (c w)) ≡ t) × (record_in (c w) ≡ r)
   stepped_presents w = presents_newest (c w) (sized-at w) (k.accepted w) (k.newest-whole w)
 
-  pub stepped-present : (w : Side) → (copy_reading (c w)).present ≡ At (newest (fields_of (block_in (c w)))) (held_in (c w))
+  pub stepped-present : (w : Side) → present_in (copy_reading (c w)) ≡ present_at (newest (fields_of (block_in (c w)))) (held_in (c w))
   stepped-present w =
-      ap (λ (q : CopyReading). q.present) (sized-read (c w) (sized-at w))
-      ∙ (ap (λ (q : Reading). present_for (c w) q.verdict) (sym (accepted_reading_lem (block_in (c w)) (k.accepted w)))
+      ap present_in (sized-read (c w) (sized-at w))
+      ∙ (ap (λ (q : Result Reading Reason). present_in (mapped (copy_reading_of (c w)) q)) (accepted_reading_lem (block_in (c w)) (k.accepted w))
       ∙ sym (present-newest (c w) (fields_of (block_in (c w))) (newest (fields_of (block_in (c w)))) (held_in (c w)) refl (k.newest-whole w) refl))
 
   pub presents_stepped : (w : Side) → Presents (c w) (time_of (held_in (c Front))) (record_in (c Front))
@@ -95,7 +89,7 @@ made_ready v e se {g} {j} m n eg ej t eh ek =
 
 -- a found record, in a copy that holds it
 pub made_answered : (v : Device) (e : Sectors) → Sound e → (w : Side) {g : BlockFields} {p u : List ℕ} {x : Area} {h : Holding} {r : List ℕ}
-    → Holds (copy_from w v e) g p u x h r → (o : Other) → discovery (copy_from Front v e) (copy_from Back v e) ≡ Found (finding_of w g x h) o → g.device ≡ v
+    → Holds (copy_from w v e) g p u x h r → (o : Result BlockFields Reason) → discovery (copy_from Front v e) (copy_from Back v e) ≡ found_with (finding_of w g (record_at x h)) o → g.device ≡ v
     → (t : Time) → time_of h ≡ t → Answered v e t r
 made_answered v e se w {g} {p} {u} {x} {h} {r} m o found dev t eh =
     record {
@@ -103,7 +97,7 @@ made_answered v e se w {g} {p} {u} {x} {h} {r} m o found dev t eh =
       gives = given;
       says =
           ap (λ (q : Finding). device_in (copy_from q.side v e))
-          (found-same (finding_of w g x h) o given.found given.other (sym given.answers ∙ found))
+          (found-same (finding_of w g (record_at x h)) o given.found given.other (sym given.answers ∙ found))
           ∙ (holds-device m ∙ dev);
     }
   where

@@ -1,12 +1,8 @@
--- The numbers of an answer: the refusal number, 0 for none, and the values of each case.
-use Rattle.std.specs.Prelude.{ℕ, List, [], ◌∷◌}
-use Rattle.stores.specs.declared.Given.{Given}
+-- The values of an answer that gives one number; its refusal is that of `refusal.specs.Reasons`.
+use Rattle.std.specs.Prelude.{ℕ, List, [], ◌∷◌, Result, Ok, Err}
+use Rattle.refusal.specs.declared.Reason.{Reason}
 
 -- a store: its sector
-abbrev pub given_number : Given → ℕ
-given_number (Given.At n) = 0
-given_number (Given.Refused n) = n
-
-abbrev pub given_values : Given → List ℕ
-given_values (Given.At n) = n ∷ []
-given_values (Given.Refused n) = []
+abbrev pub given_values : Result ℕ Reason → List ℕ
+given_values (Ok n) = n ∷ []
+given_values (Err e) = []

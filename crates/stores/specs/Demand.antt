@@ -1,12 +1,12 @@
 -- What stores are made of, in other words, which `proofs/Filling.antt` proves; and a refused call changes no lent byte, which
 -- `proofs/Refusing.antt` proves.
-use Rattle.std.specs.Prelude.{ℕ, ◌+◌, ◌*◌, ◌≤◌, ◌<◌, ◌≡◌, List, length, get_or}
+use Rattle.std.specs.Prelude.{ℕ, ◌+◌, ◌*◌, ◌≤◌, ◌<◌, ◌≡◌, List, length, get_or, Err}
+use Rattle.refusal.specs.declared.Reason.{Reason}
 use Rattle.refusal.specs.Tests.{first}
 use Rattle.layout.specs.declared.Area.{Area}
 use Rattle.layout.specs.Places.{area_offset}
 use Rattle.block.specs.declared.BlockFields.{BlockFields}
 use Rattle.stores.specs.declared.Part.{Part}
-use Rattle.stores.specs.declared.Given.TheVariants as Given
 use Rattle.stores.specs.Stores.{sectors_of, sector_of}
 use Rattle.stores.specs.Given.{block_given, block_left, part_given, part_left, lay_tests, laid}
 
@@ -32,6 +32,6 @@ abbrev pub Laying : Type 0
 Laying = (c : List ℕ) (x : Area) (r : List ℕ) → first (lay_tests c r) ≡ 0 → Lays c x r
 
 pub record Refusing : Type 0 where
-  pub block : (s : ℕ) (g : BlockFields) (c out : List ℕ) (n : ℕ) → block_given s g c out ≡ Given.Refused n → block_left g c out ≡ out
-  pub part : (p : Part) (k : ℕ) (c r : List ℕ) (j : ℕ) (out : List ℕ) (n : ℕ) → part_given p k c r j out ≡ Given.Refused n → part_left p k c r j out ≡ out
+  pub block : (s : ℕ) (g : BlockFields) (c out : List ℕ) (e : Reason) → block_given s g c out ≡ Err e → block_left g c out ≡ out
+  pub part : (p : Part) (k : ℕ) (c r : List ℕ) (j : ℕ) (out : List ℕ) (e : Reason) → part_given p k c r j out ≡ Err e → part_left p k c r j out ≡ out
   pub lay : (c : List ℕ) (x : Area) (r : List ℕ) → (first (lay_tests c r) ≡ 0 → ⊥) → laid c x r ≡ c

@@ -1,7 +1,9 @@
 -- What the calls give: a block or a sector of a record for a device sector, and a record laid into a lent copy.
-use Rattle.std.specs.Prelude.{ℕ, ◌+◌, ◌-◌, ◌*◌, Bool, cond, ◌&&◌, List, [], ◌∷◌, ◌++◌, leb, ltb, eqb, length}
+use Rattle.std.specs.Prelude.{ℕ, ◌+◌, ◌-◌, ◌*◌, Bool, cond, ◌&&◌, List, [], ◌∷◌, ◌++◌, leb, ltb, eqb, length, Result, Ok, Err}
 use Rattle.endian.specs.Bytes.{window, zeros, splice}
 use Rattle.refusal.specs.Numbers.{slice_size, record_length, no_such_store}
+use Rattle.refusal.specs.declared.Reason.{Reason}
+use Rattle.refusal.specs.Reasons.{reason, answer}
 use Rattle.refusal.specs.Tests.{Test, ◌else_refuse◌, first}
 use Rattle.layout.specs.declared.Device.{Device}
 use Rattle.layout.specs.declared.Area.{Area}
@@ -13,7 +15,6 @@ use Rattle.block.specs.Writing.{write_tests, written}
 use Rattle.copy.specs.Copy.{is_copy, block_in}
 use Rattle.discovery.specs.Discovery.{sized}
 use Rattle.stores.specs.declared.Part.{Part}
-use Rattle.stores.specs.declared.Given.{Given}
 use Rattle.stores.specs.Stores.{sectors_of}
 
 -- a sector of the record and zeros after it; zeros alone where it has no room
@@ -24,28 +25,24 @@ sector_in r j out = splice (zeros (length out)) 0 (window r (sector_bytes * j) s
 abbrev pub within : ℕ → ℕ → Bool
 within a j = leb a (18446744073709551615 - j)
 
--- the sector, unless there is a refusal number
-abbrev pub unless_refused : ℕ → ℕ → Given
-unless_refused n s = cond (eqb n 0) (Given.At s) (Given.Refused n)
-
 -- a block with these numbers and the UUIDs of a copy's block, to sector s: the sector and the bytes
-abbrev pub block_answer : ℕ → BlockFields → List ℕ → List ℕ → Given
-block_answer s g c out = unless_refused (first (write_tests out (pool_of (block_in c)) (blockdev_of (block_in c)) g)) s
+abbrev pub block_answer : ℕ → BlockFields → List ℕ → List ℕ → Result ℕ Reason
+block_answer s g c out = answer (first (write_tests out (pool_of (block_in c)) (blockdev_of (block_in c)) g)) s
 
 abbrev pub block_bytes : BlockFields → List ℕ → List ℕ → List ℕ
 block_bytes g c out = written out (pool_of (block_in c)) (blockdev_of (block_in c)) g
 
 -- the same where c may have another size: 1 then
-abbrev pub block_given : ℕ → BlockFields → List ℕ → List ℕ → Given
-block_given s g c out = cond (is_copy c) (block_answer s g c out) (Given.Refused slice_size)
+abbrev pub block_given : ℕ → BlockFields → List ℕ → List ℕ → Result ℕ Reason
+block_given s g c out = cond (is_copy c) (block_answer s g c out) (Err (reason slice_size))
 
 abbrev pub block_left : BlockFields → List ℕ → List ℕ → List ℕ
 block_left g c out = cond (is_copy c) (block_bytes g c out) out
 
 -- store j of one side's k + 1: the sector and the bytes
-abbrev pub part_answer : Part → ℕ → List ℕ → ℕ → List ℕ → Given
+abbrev pub part_answer : Part → ℕ → List ℕ → ℕ → List ℕ → Result ℕ Reason
 part_answer p k c j out =
-    cond (ltb j k) (cond (within p.area j) (Given.At (p.area + j)) (Given.Refused no_such_store))
+    cond (ltb j k) (cond (within p.area j) (Ok (p.area + j)) (Err (reason no_such_store)))
     (block_answer p.block p.fields c out)
 
 abbrev pub part_bytes : Part → ℕ → List ℕ → List ℕ → ℕ → List ℕ → List ℕ
@@ -58,8 +55,8 @@ abbrev pub part_tests : ℕ → List ℕ → List ℕ → ℕ → List ℕ → L
 part_tests k c r j out =
     (is_copy c && eqb (length out) sector_bytes else_refuse slice_size) ∷ (length_allowed (length r) else_refuse record_length) ∷ (leb j k else_refuse no_such_store) ∷ []
 
-abbrev pub part_given : Part → ℕ → List ℕ → List ℕ → ℕ → List ℕ → Given
-part_given p k c r j out = cond (eqb (first (part_tests k c r j out)) 0) (part_answer p k c j out) (Given.Refused (first (part_tests k c r j out)))
+abbrev pub part_given : Part → ℕ → List ℕ → List ℕ → ℕ → List ℕ → Result ℕ Reason
+part_given p k c r j out = cond (eqb (first (part_tests k c r j out)) 0) (part_answer p k c j out) (Err (reason (first (part_tests k c r j out))))
 
 abbrev pub part_left : Part → ℕ → List ℕ → List ℕ → ℕ → List ℕ → List ℕ
 part_left p k c r j out = cond (eqb (first (part_tests k c r j out)) 0) (part_bytes p k c r j out) out

@@ -1,6 +1,7 @@
 -- The states of a device that the claims about updates, cuts, formatting and mending speak of: the conclusion of one claim is the
 -- hypothesis of the next. docs/FORMAT.md, 'Discovery', 'Updates' and 'Cuts'.
-use Rattle.std.specs.Prelude.{ℕ, suc, ◌+◌, ◌≤◌, ◌<◌, ◌≡◌, ◌⊎◌, true, List, length, take}
+use Rattle.std.specs.Prelude.{ℕ, suc, ◌+◌, ◌≤◌, ◌<◌, ◌≡◌, ◌⊎◌, true, List, length, take, Result}
+use Rattle.refusal.specs.declared.Reason.{Reason}
 use Rattle.layout.specs.declared.Device.{Device}
 use Rattle.layout.specs.declared.Side.{Side}
 use Rattle.layout.specs.declared.Side.TheVariants.{Front, Back}
@@ -9,21 +10,20 @@ use Rattle.layout.specs.Limits.{sector_bytes}
 use Rattle.layout.specs.Places.{block_sector, area_sector}
 use Rattle.block.specs.declared.Time.{Time}
 use Rattle.block.specs.declared.Holding.{Holding}
+use Rattle.block.specs.declared.BlockFields.{BlockFields}
 use Rattle.block.specs.Entry.{time_of}
 use Rattle.block.specs.Accepted.{Accepted}
-use Rattle.copy.specs.declared.Present.TheVariants.{At}
-use Rattle.copy.specs.Copy.{device_in, area_bytes, copy_reading}
+use Rattle.copy.specs.Copy.{device_in, area_bytes, present_at, copy_reading}
+use Rattle.copy.specs.Demand.{present_in}
 use Rattle.discovery.specs.declared.Finding.{Finding}
-use Rattle.discovery.specs.declared.Other.{Other}
-use Rattle.discovery.specs.declared.Answer.TheVariants.{Found}
-use Rattle.discovery.specs.Discovery.{discovery, is_in_step, copy_on, record_bytes, read_answer, read_bytes}
+use Rattle.discovery.specs.Discovery.{found_with, discovery, is_in_step, copy_on, record_bytes, read_answer, read_bytes}
 use Rattle.crash.specs.Crash.{Sectors, Sound, Store, Groups, stores, store_in, group_start, landed, area_sectors, copy_from}
 
 -- a copy's present record is r, with time t
 pub record Presents (c : List ℕ) (t : Time) (r : List ℕ) : Type 0 where
   pub area : Area
   pub held : Holding
-  pub is : (copy_reading c).present ≡ At area held
+  pub is : present_in (copy_reading c) ≡ present_at area held
   pub bytes : area_bytes c area held.bytes ≡ r
   pub long : held.bytes ≡ length r
   pub time : time_of held ≡ t
@@ -32,13 +32,13 @@ pub record Presents (c : List ℕ) (t : Time) (r : List ℕ) : Type 0 where
 -- reading what it found into a buffer with room copies them to the buffer's start.
 pub record Gives (f b : List ℕ) (t : Time) (r : List ℕ) : Type 0 where
   pub found : Finding
-  pub other : Other
-  pub answers : discovery f b ≡ Found found other
+  pub other : Result BlockFields Reason
+  pub answers : discovery f b ≡ found_with found other
   pub long : found.bytes ≡ length r
   pub seconds : found.seconds ≡ t.seconds
   pub nanoseconds : found.nanoseconds ≡ t.nanoseconds
   pub starts : record_bytes found f b ≡ r
-  pub reads : (out : List ℕ) → length r ≤ length out → read_answer (discovery f b) (length out) ≡ Found found other
+  pub reads : (out : List ℕ) → length r ≤ length out → read_answer (discovery f b) (length out) ≡ found_with found other
   pub copies : (out : List ℕ) → length r ≤ length out → take (length r) (read_bytes (discovery f b) f b out) ≡ r
 
 -- Document 01's 'in step on a record': in step, and it is the present record of both.

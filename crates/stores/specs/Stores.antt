@@ -1,5 +1,5 @@
 -- What stores are made of: a record's sectors, a block, an entry. docs/FORMAT.md, 'Updates'.
-use Rattle.std.specs.Prelude.{ℕ, ◌+◌, ◌-◌, ◌*◌, ◌/◌, List, [], ◌∷◌, ◌++◌, length}
+use Rattle.std.specs.Prelude.{ℕ, ◌+◌, ◌-◌, ◌*◌, ◌/◌, List, [], ◌∷◌, ◌++◌, length, Option}
 use Rattle.endian.specs.Bytes.{window, zeros}
 use Rattle.checksum.specs.Crc as Crc
 use Rattle.layout.specs.declared.Device.{Device}
@@ -10,7 +10,6 @@ use Rattle.layout.specs.Limits.{sector_bytes}
 use Rattle.layout.specs.Places.{block_sector}
 use Rattle.block.specs.declared.Time.{Time}
 use Rattle.block.specs.declared.Holding.{Holding}
-use Rattle.block.specs.declared.Entry.{Entry}
 use Rattle.block.specs.declared.BlockFields.{BlockFields}
 use Rattle.crash.specs.Crash.{Store, stores_from}
 
@@ -27,7 +26,7 @@ abbrev pub holding_for : Time → List ℕ → Holding
 holding_for t r = record { seconds = t.seconds; nanoseconds = t.nanoseconds; bytes = length r; checksum = Crc.checksum r }
 
 -- a block's numbers with one entry changed
-abbrev pub with_entry : BlockFields → Area → Entry → BlockFields
+abbrev pub with_entry : BlockFields → Area → Option Holding → BlockFields
 with_entry f A e = record { device = f.device; a = e; b = f.b }
 with_entry f B e = record { device = f.device; a = f.a; b = e }
 

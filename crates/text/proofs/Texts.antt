@@ -8,8 +8,8 @@ use native.Mathlib.Omega.{arith}
 use borrow.Author.Tests.{le-leb, lt-leb}
 use lib.ListN.{length, take, drop, replicate, length-append, length-take, length-replicate, length-drop, drop_of_length-le}
 use lib.Seq.{take_at, take_all, length-take-le, drop-append-le}
-use Rattle.endian.specs.Bytes.{splice, write_number}
-use Rattle.endian.proofs.Parts.{splice-fits, length-splice, write-fits, write-short}
+use Rattle.endian.specs.Bytes.{splice}
+use Rattle.endian.proofs.Parts.{splice-fits, length-splice}
 use Rattle.text.specs.Text.{capacity, added, filled}
 
 pub added-fits : (t p : List ℕ) → length t + length p ≤ capacity → added t p ≡ t ++ p
@@ -19,21 +19,6 @@ added-fits t p h = rw (le-leb (length t + length p) capacity h)
 pub added-short : (t p : List ℕ) → capacity < length t + length p → added t p ≡ t
 unfolding added
 added-short t p h = rw (lt-leb (length t + length p) capacity h)
-
--- n elements at place `at` fit where a write of them answers 0, and else do not
-pub fits_of : (s : List ℕ) (at n r : ℕ) → r ≡ write_number s at n → r ≡ 0 → at + n ≤ length s
-fits_of s at n r e z =
-    elim (dec_le (at + n) (length s)) [
-      | yes h ↦ h
-      | no h ↦ let w : write_number s at n ≡ 1 = write-short s at n (omega arith) in omega arith
-    ]
-
-pub short_of : (s : List ℕ) (at n r : ℕ) → r ≡ write_number s at n → (r ≡ 0 → ⊥) → length s < at + n
-short_of s at n r e z =
-    elim (dec_le (at + n) (length s)) [
-      | yes h ↦ absurd (z (e ∙ write-fits s at n h))
-      | no h ↦ omega arith
-    ]
 
 no_piece : (t p : List ℕ) → length p ≡ 0 → t ≡ t ++ p
 no_piece t [] e = sym (append-nil t)

@@ -6,7 +6,7 @@ ghost use Rattle.std.specs.Prelude.{◌≡◌, [], ◌+◌, ◌<◌, length, dro
 ghost use Rattle.text.specs.Decimal.{decimal};
 ghost use Rattle.text.specs.Text.{text, added, filled};
 
-// A text in the making: the first `used` of its bytes.
+// A text in the making: the first `used` of its bytes. An array and a length, since there is no heap.
 #[derive(Clone, Copy)]
 pub struct Text {
     pub bytes: [u8; 256],
@@ -32,6 +32,7 @@ fn digit(d: u64) -> u8
 fn digits(v: u64) -> Row
     ensures { (result.at < 20) × (length result.bytes ≡ 20) × (drop result.at result.bytes ≡ decimal v) }
 {
+    // A `for` over the places would need an answer for a number that has more digits than there are places.
     let mut d = [0u8; 20];
     let mut x = v;
     let mut i = 19;
@@ -46,6 +47,7 @@ fn digits(v: u64) -> Row
 
 impl Text {
     // The empty text.
+    #[tactic(auto, unfolding(crate::specs::Text::text))]
     pub fn new() -> Text
         ensures { text result ≡ [] }
     {
@@ -55,13 +57,21 @@ impl Text {
         }
     }
 
+    // Its bytes.
+    #[tactic(auto, unfolding(crate::specs::Text::text, endian::specs::Bytes::window))]
+    pub fn as_bytes(&self) -> &[u8]
+        ensures { result.now ≡ text self.now }
+    {
+        endian::window(&self.bytes, 0, self.used)
+    }
+
     // The text with one more piece, or as it was where the piece has no room.
     pub fn add(self, piece: &[u8]) -> Text
         ensures { text result ≡ added (text self) piece.now }
     {
         let mut bytes = self.bytes;
         let at = self.used;
-        if endian::put(&mut bytes, at, piece) != 0 {
+        if !endian::put(&mut bytes, at, piece) {
             return self;
         }
         Text {
@@ -90,6 +100,7 @@ impl Text {
     }
 
     // The text with a number in decimal.
+    #[tactic(auto, using(crate::proofs::Texts::filled_long))]
     pub fn decimal(self, v: u64) -> Text
         ensures { text result ≡ added (text self) (decimal v) }
     {

@@ -5,6 +5,8 @@ use mathlib.Core.Bool.{true}
 use mathlib.Core.List.{List}
 use borrow.Author.Tests.{leb-true, le-leb, lt-leb, eqb-true}
 use lib.ListN.{length}
+use Rattle.std.specs.Prelude.{Result, Err}
+use Rattle.refusal.specs.declared.Reason.{Reason}
 use Rattle.endian.specs.Bytes.{Bytes}
 use Rattle.endian.proofs.Tests.{and_left, and_right}
 use Rattle.refusal.specs.Tests.{first, AllHold}
@@ -23,10 +25,10 @@ use Rattle.items.specs.Items.{segments}
 use Rattle.record.specs.Demand.{RightBytes}
 use Rattle.record.proofs.Right.{right_content}
 use Rattle.record.proofs.Demand as Records
-use Rattle.copy.specs.Copy.{is_copy, device_in, block_in, newest}
+use Rattle.copy.specs.Copy.{is_copy, device_in, block_in, record_at, newest}
 use Rattle.discovery.specs.declared.Finding.{Finding}
-use Rattle.discovery.specs.declared.Answer.{Answer}
-use Rattle.discovery.specs.Discovery.{finding_of, discovery, is_in_step, copy_on}
+use Rattle.discovery.specs.declared.Found.{Found}
+use Rattle.discovery.specs.Discovery.{finding_of, found_with, discovery, is_in_step, copy_on}
 use Rattle.discovery.specs.Newest.{time_at}
 use Rattle.discovery.proofs.Latest.{found-same}
 use Rattle.crash.specs.Crash.{copy_from}
@@ -55,7 +57,7 @@ module _ (f b : List ℕ) (t : Time) (r : List ℕ) where
 
     number_is : update_number f b t r ≡ first (tests_after (is_in_step f b) (device_in f) (time_of (held_in f)) t r)
     unfolding update_number
-    number_is = ap (λ (a : Answer). number_after a f b t r) (stepped-found both stepped)
+    number_is = ap (λ (a : Result Found Reason). number_after a f b t r) (stepped-found both stepped)
 
     its_time : (u : Time) (q : List ℕ) → Presents f u q → time_of (held_in f) ≡ u
     its_time u q p = (stepped_presents both stepped Front u q p).0
@@ -77,18 +79,18 @@ module _ (f b : List ℕ) (t : Time) (r : List ℕ) where
   -- a number of 0, and what it says
   module _ (bytes : Bytes r) (z : update_number f b t r ≡ 0) where
     abbrev found : Finding
-    found = (not_refused f b t r z).0
+    found = (not_refused f b t r z).0.finding
 
     holds : AllHold (update_tests f b found t r)
-    holds = (not_refused f b t r z).1.1.1
+    holds = (not_refused f b t r z).1.1
 
-    is_found : discovery f b ≡ Answer.Found found (not_refused f b t r z).1.0
-    is_found = (not_refused f b t r z).1.1.0
+    is_found : discovery f b ≡ found_with found (not_refused f b t r z).0.other
+    is_found = (not_refused f b t r z).1.0
 
     its-stepped : Stepped both
     its-stepped = in_step_facts both holds.0
 
-    same-found : found ≡ finding_of Front (fields_of (block_in f)) (newest (fields_of (block_in f))) (held_in f)
+    same-found : found ≡ finding_of Front (fields_of (block_in f)) (record_at (newest (fields_of (block_in f))) (held_in f))
     same-found = sym (found-same found _ _ _ (sym (stepped-found both its-stepped) ∙ is_found))
 
     at_copy : (w : Side) → Presents (copy_on w f b) (time_of (held_in f)) (record_in f)
@@ -101,7 +103,7 @@ module _ (f b : List ℕ) (t : Time) (r : List ℕ) where
           front-copy = eqb-true (length f) copy_bytes (and_left (is_copy f) (is_copy b) its-stepped.sizes);
           back-copy = eqb-true (length b) copy_bytes (and_right (is_copy f) (is_copy b) its-stepped.sizes);
           found = found;
-          other = (not_refused f b t r z).1.0;
+          other = (not_refused f b t r z).0.other;
           answers = is_found;
           in_step = holds.0;
           nanoseconds = leb-true t.nanoseconds most_nanoseconds holds.1.0;
@@ -125,15 +127,15 @@ module _ (f b : List ℕ) (t : Time) (r : List ℕ) where
           ),
         )
 
-  by_answer : (a : Answer) → discovery f b ≡ a → update_number f b t r ≡ number_after a f b t r
+  by_answer : (a : Result Found Reason) → discovery f b ≡ a → update_number f b t r ≡ number_after a f b t r
   unfolding update_number
-  by_answer a e = ap (λ (z : Answer). number_after z f b t r) e
+  by_answer a e = ap (λ (z : Result Found Reason). number_after z f b t r) e
 
   in_order : InOrder f b t r
   in_order =
       record {
-        refused = λ n e. by_answer (Answer.Refused n) e;
-        apart = λ q o e h. by_answer (Answer.Found q o) e ∙ first_fail (is_in_step f b) 16 _ h;
+        refused = λ n e. by_answer (Err n) e;
+        apart = λ q o e h. by_answer (found_with q o) e ∙ first_fail (is_in_step f b) 16 _ h;
         limit = λ s h. number_is s ∙ (first-pass (is_in_step f b) 16 _ s ∙ first_fail (nanoseconds_allowed t.nanoseconds) 9 _ (lt-leb t.nanoseconds most_nanoseconds h));
         earlier = λ s n u q p h.
             number_is s

@@ -6,6 +6,7 @@ use native.Mathlib.Decide.{dec_le}
 use native.Mathlib.Omega.{arith}
 use lib.ListN.{length, get_or, length-append, get_or-append}
 use lib.Seq.{get_or-append-add}
+use Rattle.std.specs.Prelude.{Option, Some}
 use Rattle.endian.specs.Bytes.{to_le, zeros}
 use Rattle.endian.proofs.Numbers.{length-to_le}
 use Rattle.endian.proofs.Parts.{length-window-fits}
@@ -13,8 +14,7 @@ use Rattle.endian.proofs.Tests.{length-zeros}
 use Rattle.checksum.specs.Crc.{checksum}
 use Rattle.layout.specs.declared.Area.{Area}
 use Rattle.layout.specs.declared.Area.TheVariants.{A, B}
-use Rattle.block.specs.declared.Entry.{Entry}
-use Rattle.block.specs.declared.Entry.TheVariants.{Used}
+use Rattle.block.specs.declared.Holding.{Holding}
 use Rattle.block.specs.declared.BlockFields.{BlockFields}
 use Rattle.block.specs.Block.{signature_bytes, pool_of, blockdev_of, fields_of}
 use Rattle.block.specs.Writing.{holding_of, body_fields, block_of}
@@ -57,10 +57,10 @@ three x m z =
     ∙ ap (◌+◌ (length x)) (length-append m (z ++ []) ∙ ap (◌+◌ (length m)) (length-append z []))
 
 -- the fields before area a's entry, an entry, the zeros between the two, and the fields after area b's
-abbrev entry_fields : Entry → List (List ℕ)
+abbrev entry_fields : Option Holding → List (List ℕ)
 entry_fields e = to_le 8 (holding_of e).seconds ∷ to_le 4 (holding_of e).nanoseconds ∷ to_le 4 (holding_of e).bytes ∷ to_le 4 (holding_of e).checksum ∷ []
 
-length-entry : (e : Entry) → length (flatten (entry_fields e)) ≡ 20
+length-entry : (e : Option Holding) → length (flatten (entry_fields e)) ≡ 20
 unfolding flatten
 length-entry e = simp (length-append, length-to_le)
 
@@ -96,18 +96,18 @@ module _ (p u : List ℕ) (hp : length p ≡ 32) (hu : length u ≡ 32) (f : Blo
       three (flatten before) (flatten (entry_fields f.a)) (zeros 12) in
       omega arith)
 
-  laid : (y : Area) (e : Entry) → body_fields p u (with_entry f y e) ≡ head y ++ (entry_fields e ++ tail y)
+  laid : (y : Area) (e : Option Holding) → body_fields p u (with_entry f y e) ≡ head y ++ (entry_fields e ++ tail y)
   laid A e = refl
   laid B e = refl
 
   -- two blocks that differ in one entry
-  same_outside : (y : Area) (e g : Entry) (i : ℕ) → 4 ≤ i → (entry_place y ≤ i → i < entry_place y + 20 → ⊥)
+  same_outside : (y : Area) (e g : Option Holding) (i : ℕ) → 4 ≤ i → (entry_place y ≤ i → i < entry_place y + 20 → ⊥)
       → get_or (block_of p u (with_entry f y e)) i 0 ≡ get_or (block_of p u (with_entry f y g)) i 0
   unfolding block_of
   same_outside y e g i h out =
       body (checksum (flatten (body_fields p u (with_entry f y e)))) e ∙ (middle ∙ sym (body (checksum (flatten (body_fields p u (with_entry f y g)))) g))
     where
-      body : (c : ℕ) (e : Entry) → get_or (to_le 4 c ++ flatten (body_fields p u (with_entry f y e))) i 0
+      body : (c : ℕ) (e : Option Holding) → get_or (to_le 4 c ++ flatten (body_fields p u (with_entry f y e))) i 0
           ≡ get_or (flatten (head y) ++ (flatten (entry_fields e) ++ flatten (tail y))) (i - 4) 0
       body c e =
           let l : length (to_le 4 c) ≡ 4 = length-to_le 4 c in
@@ -137,6 +137,6 @@ changing c t r i bytes accepted h out =
     written-accepted (block_in c) (pool_of (block_in c)) (blockdev_of (block_in c)) (fields_of (block_in c)) (write-after-read (block_in c) (block_in c) bytes accepted n).0
     ∙ (write-after-read (block_in c) (block_in c) bytes accepted n).1 in
     same_outside (pool_of (block_in c)) (blockdev_of (block_in c)) (length-window-fits (block_in c) 32 32 (omega arith)) (length-window-fits (block_in c) 64 32 (omega arith))
-    (fields_of (block_in c)) (spare c) (Used (holding_for t r)) (entry_in (fields_of (block_in c)) (spare c)) i h out
+    (fields_of (block_in c)) (spare c) (Some (holding_for t r)) (entry_in (fields_of (block_in c)) (spare c)) i h out
     ∙ ap (λ (s : List ℕ). get_or s i 0)
     (ap (block_of (pool_of (block_in c)) (blockdev_of (block_in c))) (put_back (fields_of (block_in c)) (spare c)) ∙ w)

@@ -1,6 +1,6 @@
 -- Demand 3, proved: one claim over every start, update and cut.
 use Prim.Native.Nat.{ℕ, zero, suc, ◌+◌, ◌-◌, ◌*◌, ◌^◌, ◌≤◌, ◌<◌}
-use mathlib.Core.Path.{◌≡◌, refl, sym, ap, subst, ◌∙◌}
+use mathlib.Core.Path.{◌≡◌, refl, sym, ap, ap₂, subst, ◌∙◌}
 use mathlib.Core.Bool.{Bool, true, cond, not, true≢false}
 use mathlib.Core.Logic.{◌⊎◌, inl, inr, ◌↔◌}
 use mathlib.Core.List.{List}
@@ -10,6 +10,10 @@ use native.Mathlib.Omega.{arith}
 use borrow.Author.Tests.{le-leb, lt-leb, lt-ltb, le-ltb, eq-eqb, ne_eqb}
 use lib.Dec.{eqb, ltb}
 use lib.ListN.{length}
+use Rattle.std.specs.Prelude.{Some, Result, Ok, Err}
+use Rattle.refusal.specs.declared.Reason.{Reason}
+use Rattle.refusal.specs.Reasons.{reason}
+use Rattle.refusal.proofs.Reasons.{told_zero}
 use Rattle.endian.specs.Bytes.{same}
 use Rattle.endian.proofs.Tests.{and_left, and_right}
 use Rattle.refusal.specs.Numbers.{no_such_store}
@@ -24,10 +28,8 @@ use Rattle.layout.specs.Places.{block_sector, area_sector}
 use Rattle.layout.proofs.Laws.{length_facts}
 use Rattle.block.specs.declared.Time.{Time}
 use Rattle.block.specs.declared.Holding.{Holding}
-use Rattle.block.specs.declared.Entry.TheVariants.{Used}
 use Rattle.block.specs.declared.BlockFields.{BlockFields}
 use Rattle.block.specs.declared.Reading.{Reading}
-use Rattle.block.specs.declared.Verdict.TheVariants as Verdict
 use Rattle.block.specs.Entry.{later_than, time_of}
 use Rattle.block.specs.Block.{device_of, pool_of, blockdev_of, fields_of, reading}
 use Rattle.block.specs.Writing.{write_tests, written}
@@ -35,20 +37,19 @@ use Rattle.block.specs.Accepted.{Accepted}
 use Rattle.block.proofs.Readings.{accepted-length}
 use Rattle.block.proofs.Exactly.{obeys}
 use Rattle.block.proofs.Times.{same_test, same-not_later}
-use Rattle.record.specs.Accept.{content_tests}
-use Rattle.record.proofs.Naming.{refuse-yes}
+use Rattle.record.specs.Accept.{content_tests, named}
 use Rattle.record.proofs.Right.{right_content}
-use Rattle.copy.specs.declared.Present.TheVariants.{At}
-use Rattle.copy.specs.Copy.{is_copy, device_in, block_in, entry_in, other_area, newest, reading_in}
+use Rattle.copy.specs.declared.Present.{Present}
+use Rattle.copy.proofs.Latest.{some-same}
+use Rattle.copy.specs.Copy.{is_copy, device_in, block_in, entry_in, other_area, newest, record_at, present_at, reading_in}
 use Rattle.discovery.specs.declared.Finding.{Finding}
-use Rattle.discovery.specs.declared.Answer.{Answer}
+use Rattle.discovery.specs.declared.Found.{Found}
 use Rattle.discovery.specs.Discovery.{same_device, sized, is_in_step}
 use Rattle.discovery.proofs.Latest.{found-same}
 use Rattle.crash.specs.Crash.{Sectors, Sound, Store, Cut, Groups, stores, store_in, group_start, landed, CutIn, area_sectors, copy_from}
 use Rattle.crash.proofs.Landing.{landed-size}
 use Rattle.crash.proofs.Copies.{limit_small}
 use Rattle.stores.specs.declared.Part.{Part}
-use Rattle.stores.specs.declared.Given.{Given}
 use Rattle.stores.specs.Stores.{sectors_of, sector_of, holding_for, with_entry}
 use Rattle.stores.specs.Given.{part_given, part_left, lent_right}
 use Rattle.stores.specs.States.{Gives, Ready, Answered, Excused, Fits}
@@ -57,7 +58,7 @@ use Rattle.stores.proofs.Discovering.{alone-found, later-found}
 use Rattle.stores.proofs.Padding.{sectors_few, sectors-least, sectors-within, length_sector}
 use Rattle.stores.proofs.OneSide as OneSide
 use Rattle.stores.proofs.Blocks.{number_fits, device_kept}
-use Rattle.stores.proofs.InStep.{Stepped, refused_differs, verdict_facts, same_device_test}
+use Rattle.stores.proofs.InStep.{Stepped, refused_differs, reading_facts, same_device_test}
 use Rattle.stores.proofs.OneCopy.{used, block_of, stepped-held}
 use Rattle.stores.proofs.Choosing.{lent_right_lem, block_given_lem, area_given, part_given_lem}
 use Rattle.stores.proofs.Facts.{other_differs, renamed, sized_copies, split, stands_as}
@@ -65,14 +66,13 @@ use Rattle.stores.proofs.Agreeing.{found_front}
 use Rattle.stores.proofs.Places.{Sizes, sizes_accepted, device-accepted, near, area_near, area_below, block_below, block_apart, areas_apart}
 use Rattle.stores.proofs.States.{stepped-found, stepped-present, made_ready, made_answered, ready_stepped, ready_time, ready_record}
 use Rattle.update.specs.declared.Plan.{Plan}
-use Rattle.update.specs.declared.Planned.TheVariants as Planned
 use Rattle.update.specs.Update.{tests_after, number_after, update_number, spare, new_block}
-use Rattle.update.specs.Plan.{stores_in, group_of, flush_after, part_of, part_on, copy_of, store_tests, store_answer, store_bytes}
+use Rattle.update.specs.Plan.{stores_in, group_of, flush_after, part_on, copy_of, store_tests, store_answer, store_bytes}
 use Rattle.update.specs.Demand.{Start, Outcome, groups_on, plan_on, copy_after, Demand3, area_group, block_group, Places, Placing, Giving}
 use Rattle.update.proofs.NewBlock.{new_reads, new-writes, new-written}
 use Rattle.update.proofs.NewHeld.{new-held}
 use Rattle.update.proofs.Choosing as Choosing
-use Rattle.update.proofs.Choosing.{in-none, flush-past, flush-at, store-refused, front-store, back-store}
+use Rattle.update.proofs.Choosing.{in_none, flush_past, flush_at, none_store, front_store, back_store}
 use Rattle.update.proofs.Stores.{starting, begin, count, by_side, side, group_starts, grouped, groups_four}
 
 module _ (v : Device) (d : Sectors) (u : Time) (q : List ℕ) (t : Time) (r : List ℕ) (s : Start v d u q t r) where
@@ -88,7 +88,7 @@ module _ (v : Device) (d : Sectors) (u : Time) (q : List ℕ) (t : Time) (r : Li
 
   -- the numbers of its new block
   abbrev newFields : Side → BlockFields
-  newFields w = with_entry (fields w) (spare (copy w)) (Used (holding_for t r))
+  newFields w = with_entry (fields w) (spare (copy w)) (Some (holding_for t r))
 
   -- sectors of the record, the groups, and how many stores they have
   abbrev k : ℕ
@@ -117,7 +117,7 @@ module _ (v : Device) (d : Sectors) (u : Time) (q : List ℕ) (t : Time) (r : Li
   IsNew w e = e (block_sector w v) ≡ new_block (copy w) t r
 
   abbrev IsRefused : Side → Sectors → Type 0
-  IsRefused w e = (n : ℕ) × ((reading (e (block_sector w v))).verdict ≡ Verdict.Refused n)
+  IsRefused w e = (n : Reason) × (reading (e (block_sector w v)) ≡ Err n)
 
   -- what discovery gives
   abbrev GivesOld : Sectors → Type 0
@@ -139,7 +139,7 @@ module _ (v : Device) (d : Sectors) (u : Time) (q : List ℕ) (t : Time) (r : Li
   its_sizes : Sizes v
   its_sizes = subst Sizes says (sizes_accepted (block_in (copy Front)) (stepped.accepted Front))
 
-  its_used : (w : Side) → entry_in (fields w) (present w) ≡ Used (held_in (copy w))
+  its_used : (w : Side) → entry_in (fields w) (present w) ≡ Some (held_in (copy w))
   its_used w = used w v d sd its_sizes (stepped.accepted w) (stepped.newest-whole w)
 
   one-device : same_device (fields Front) (fields Back) ≡ true
@@ -173,7 +173,7 @@ module _ (v : Device) (d : Sectors) (u : Time) (q : List ℕ) (t : Time) (r : Li
       (new-held w v d sd its_sizes (stepped.accepted w) (stepped.newest-whole w) e se t r s.fits its_time its_length (its_later w) b a)
 
   new-device : (w : Side) → (newFields w).device ≡ (fields w).device
-  new-device w = device_kept (fields w) (spare (copy w)) (Used (holding_for t r))
+  new-device w = device_kept (fields w) (spare (copy w)) (Some (holding_for t r))
 
   new_old : same_device (newFields Front) (fields Back) ≡ true
   new_old = same_device_test (newFields Front) (fields Back) (new-device Front ∙ stepped.device)
@@ -189,13 +189,11 @@ module _ (v : Device) (d : Sectors) (u : Time) (q : List ℕ) (t : Time) (r : Li
   stores-count = count copy t r v says
 
   module _ (w : Side) where
-    new-verdict : (reading (new_block (copy w) t r)).verdict ≡ Verdict.Accepted (newFields w)
-    new-verdict =
-        ap (λ (q : Reading). q.verdict)
-        (new_reads (copy w) (stepped.accepted w) (held_in (copy w)) (its_used w) t r s.fits its_time its_length (its_later w))
+    new-reading : reading (new_block (copy w) t r) ≡ Ok (record { fields = newFields w; pool = pool_of (block_in (copy w)); blockdev = blockdev_of (block_in (copy w)) })
+    new-reading = new_reads (copy w) (stepped.accepted w) (held_in (copy w)) (its_used w) t r s.fits its_time its_length (its_later w)
 
     new-size : length (new_block (copy w) t r) ≡ 512
-    new-size = accepted-length (new_block (copy w) t r) (verdict_facts (new_block (copy w) t r) _ new-verdict).0
+    new-size = accepted-length (new_block (copy w) t r) (reading_facts (new_block (copy w) t r) _ new-reading).0
 
     at_block : (e : Sectors) → Sound e → block_in (copy_from w v e) ≡ e (block_sector w v)
     at_block e se = block_of w v d sd its_sizes (stepped.accepted w) (stepped.newest-whole w) e se
@@ -206,13 +204,13 @@ module _ (v : Device) (d : Sectors) (u : Time) (q : List ℕ) (t : Time) (r : Li
     changed-device : (newFields w).device ≡ v
     changed-device = new-device w ∙ old-device
 
-    refused-at : (e : Sectors) → Sound e → (n : ℕ) → (reading (e (block_sector w v))).verdict ≡ Verdict.Refused n → (reading_in (copy_from w v e)).verdict ≡ Verdict.Refused n
-    refused-at e se n h = ap (λ (b : List ℕ). (reading b).verdict) (at_block e se) ∙ h
+    refused-at : (e : Sectors) → Sound e → (n : Reason) → reading (e (block_sector w v)) ≡ Err n → reading_in (copy_from w v e) ≡ Err n
+    refused-at e se n h = ap reading (at_block e se) ∙ h
 
     -- the new block differs from the old one: its newest entry is in the other area
     new-differs : d (block_sector w v) ≡ new_block (copy w) t r → ⊥
     new-differs p =
-        let f : newFields w ≡ fields w = (verdict_facts (block_in (copy w)) _ (ap (λ (b : List ℕ). (reading b).verdict) (at_block d sd ∙ p) ∙ new-verdict)).1 in
+        let f : newFields w ≡ fields w = ap (λ (r : Reading). r.fields) (reading_facts (block_in (copy w)) _ (ap reading (at_block d sd ∙ p) ∙ new-reading)).1 in
         other_differs (present w)
         (sym (newest-changed (fields w) (present w) (held_in (copy w)) (holding_for t r) (its_used w) (its_later w)) ∙ ap newest f)
 
@@ -278,7 +276,7 @@ module _ (v : Device) (d : Sectors) (u : Time) (q : List ℕ) (t : Time) (r : Li
 
     none-stands : IsRefused Front e → GivesOld e → Left e
     none-stands p g =
-        (λ q. absurd (refused_differs p.0 _ (sym p.1 ∙ (ap (λ (b : List ℕ). (reading b).verdict) q ∙ new-verdict Front))), λ h. g)
+        (λ q. absurd (refused_differs p.0 _ (sym p.1 ∙ (ap reading q ∙ new-reading Front))), λ h. g)
 
   module _ (e : Sectors) (i j : ℕ)
       (x : (w : Side) → (e (block_sector w v) ≡ landed (store_in groups) i d (block_sector w v) → ⊥) → (e (block_sector w v) ≡ landed (store_in groups) j d (block_sector w v) → ⊥)
@@ -447,8 +445,8 @@ module _ (v : Device) (d : Sectors) (u : Time) (q : List ℕ) (t : Time) (r : Li
   at-block_group Front = let z : starting k 1 ≡ k + 0 = refl in omega arith
   at-block_group Back = let z : starting k 3 ≡ k + (1 + (k + 0)) = refl in omega arith
 
-  area_same : (x y : Area) (h i : Holding) → At x h ≡ At y i → x ≡ y
-  area_same x y h i e = cc
+  area_same : (x y : Area) (h i : Holding) → present_at x h ≡ present_at y i → x ≡ y
+  area_same x y h i e = ap (λ (q : Present). q.area) (some-same (record_at x h) (record_at y i) e)
 
   places : Places v d t r
   places =
@@ -480,11 +478,11 @@ module _ (v : Device) (d : Sectors) (u : Time) (q : List ℕ) (t : Time) (r : Li
             record {
               area = area_sector w (spare (copy w)) (device_of b);
               block = block_sector w (device_of b);
-              fields = with_entry (fields_of b) (spare (copy w)) (Used (holding_for t r));
+              fields = with_entry (fields_of b) (spare (copy w)) (Some (holding_for t r));
             }
 
     given-area : (j : ℕ) → j < k
-        → (part_given (part w) k c r j out ≡ Given.At (area_sector w (spare (copy w)) v + j)) × (part_left (part w) k c r j out ≡ sector_of r j)
+        → (part_given (part w) k c r j out ≡ Ok (area_sector w (spare (copy w)) v + j)) × (part_left (part w) k c r j out ≡ sector_of r j)
     given-area j l =
         let m : k ≤ 1020 = tiny in
         let a : area_sector w (spare (copy w)) v + j < v.sectors = area_below v its_sizes w (spare (copy w)) j (omega arith) in
@@ -492,7 +490,7 @@ module _ (v : Device) (d : Sectors) (u : Time) (q : List ℕ) (t : Time) (r : Li
         let h : area_sector w (spare (copy w)) v ≤ 18446744073709551615 - j = omega arith in
         area_given (part w) k c r j out right-size room its_length (omega arith) l h
 
-    given-block : (part_given (part w) k c r k out ≡ Given.At (block_sector w v)) × (part_left (part w) k c r k out ≡ new_block (copy w) t r)
+    given-block : (part_given (part w) k c r k out ≡ Ok (block_sector w v)) × (part_left (part w) k c r k out ≡ new_block (copy w) t r)
     given-block =
         part_given_lem (part w) k c r k out right-size room its_length (le_refl k) (le_refl k) (block_sector w v) (new_block (copy w) t r)
         (block_given_lem (block_sector w v) (newFields w) c out (new_block (copy w) t r) right-size
@@ -503,15 +501,15 @@ module _ (v : Device) (d : Sectors) (u : Time) (q : List ℕ) (t : Time) (r : Li
 
     -- store j of a side is the store that the update has at its number
     given-store : (j : ℕ) → j ≤ k
-        → (part_given (part w) k c r j out ≡ Given.At (store_in groups (begin k w + j)).sector)
+        → (part_given (part w) k c r j out ≡ Ok (store_in groups (begin k w + j)).sector)
         × (part_left (part w) k c r j out ≡ (store_in groups (begin k w + j)).content)
     given-store j l =
         elim (ℕ_discrete j k) [
           | yes e ↦
               rw e
-              (given-block.0 ∙ ap (λ (q : Store). Given.At q.sector) (sym (laid w).block), given-block.1 ∙ ap (λ (q : Store). q.content) (sym (laid w).block))
+              (given-block.0 ∙ ap (λ (q : Store). Ok q.sector) (sym (laid w).block), given-block.1 ∙ ap (λ (q : Store). q.content) (sym (laid w).block))
           | no e ↦ (
-            (given-area j (omega arith)).0 ∙ ap (λ (q : Store). Given.At q.sector) (sym ((laid w).area j (omega arith))),
+            (given-area j (omega arith)).0 ∙ ap (λ (q : Store). Ok q.sector) (sym ((laid w).area j (omega arith))),
             (given-area j (omega arith)).1 ∙ ap (λ (q : Store). q.content) (sym ((laid w).area j (omega arith))),
           )
         ]
@@ -519,9 +517,9 @@ module _ (v : Device) (d : Sectors) (u : Time) (q : List ℕ) (t : Time) (r : Li
   -- what the plan's stores give with two copies, where that of the store's side has its block as it was
   module _ (f b : List ℕ) (lent : sized f b ≡ true) (out : List ℕ) (room : length out ≡ 512) where
     -- no test refuses a store that is there
-    passes : (i : ℕ) → i < stores_in plan → (w : Side) → block_in (copy_of plan i f b) ≡ block_in (copy w) → 0 ≡ first (store_tests plan f b r i out)
+    passes : (i : ℕ) → i < stores_in plan → (w : Side) → block_in (copy_of plan i f b) ≡ block_in (copy w) → first (store_tests plan f b r i out) ≡ 0
     passes i l w e =
-        sym (first_all (store_tests plan f b r i out) (
+        first_all (store_tests plan f b r i out) (
           lent_right_lem f b out lent room,
           (
             its_length,
@@ -530,48 +528,44 @@ module _ (v : Device) (d : Sectors) (u : Time) (q : List ℕ) (t : Time) (r : Li
               (lt-ltb i (stores_in plan) l, subst (λ (c : List ℕ). AllHold (device_tests (device_of c))) (sym e) (device-accepted (block_in (copy w)) (stepped.accepted w))),
             ),
           ),
-        ))
+        )
 
     abbrev GivenAt : ℕ → Type 0
-    GivenAt i = (store_answer plan f b r i out ≡ Given.At (store_in groups i).sector) × (store_bytes plan f b r i out ≡ (store_in groups i).content)
+    GivenAt i = (store_answer plan f b r i out ≡ Ok (store_in groups i).sector) × (store_bytes plan f b r i out ≡ (store_in groups i).content)
 
     front-given : block_in f ≡ block_in (copy Front) → (j : ℕ) → j ≤ k → GivenAt (begin k Front + j)
     front-given e j l =
         let its : block_in (copy_of plan (0 + j) f b) ≡ block_in f = ap (λ (a : Bool). block_in (cond a f b)) (le-leb (0 + j) k (omega arith)) in
         let n : j ≡ 0 + j = omega arith in
-        let g : (part_given (part Front) k f r j out ≡ Given.At (store_in groups (0 + j)).sector) × (part_left (part Front) k f r j out ≡ (store_in groups (0 + j)).content) =
+        let g : (part_given (part Front) k f r j out ≡ Ok (store_in groups (0 + j)).sector) × (part_left (part Front) k f r j out ≡ (store_in groups (0 + j)).content) =
         given-store Front f (and_left (is_copy f) (is_copy b) lent) e out room j l in
-        let x : (part_given (part Front) k f r j out ≡ store_answer plan f b r (0 + j) out) × (part_left (part Front) k f r j out ≡ store_bytes plan f b r (0 + j) out) =
-        front-store plan f b r (0 + j) out k refl (fields_of (block_in (copy_of plan (0 + j) f b))) refl (stores_in plan) refl 0
-        (passes (0 + j) (omega arith) Front (its ∙ e)) refl _ _ (omega arith)
-        (part Front) (sym (ap (λ (c : List ℕ). part_of Front (spare (copy Front)) (holding_for t r) (fields_of c)) its ∙ its-part Front f (and_left (is_copy f) (is_copy b) lent) e out room))
-        (ap (λ (i : ℕ). part_given (part Front) k f r i out) n) (ap (λ (i : ℕ). part_left (part Front) k f r i out) n) in
-        (sym x.0 ∙ g.0, sym x.1 ∙ g.1)
+        let p : part_on Front (spare (copy Front)) (holding_for t r) f ≡ part Front = its-part Front f (and_left (is_copy f) (is_copy b) lent) e out room in
+        let x = front_store plan f b r (0 + j) out (passes (0 + j) (omega arith) Front (its ∙ e)) (omega arith) in (
+          x.0 ∙ (ap₂ (λ (a : Part) (i : ℕ). part_given a k f r i out) p (sym n) ∙ g.0),
+          x.1 ∙ (ap₂ (λ (a : Part) (i : ℕ). part_left a k f r i out) p (sym n) ∙ g.1),
+        )
 
     back-given : block_in b ≡ block_in (copy Back) → (j : ℕ) → j ≤ k → GivenAt (begin k Back + j)
     back-given e j l =
         let its : block_in (copy_of plan (k + 1 + j) f b) ≡ block_in b = ap (λ (a : Bool). block_in (cond a f b)) (lt-leb (k + 1 + j) k (omega arith)) in
         let n : j ≡ k + 1 + j - (k + 1) = omega arith in
-        let g : (part_given (part Back) k b r j out ≡ Given.At (store_in groups (k + 1 + j)).sector) × (part_left (part Back) k b r j out ≡ (store_in groups (k + 1 + j)).content) =
+        let g : (part_given (part Back) k b r j out ≡ Ok (store_in groups (k + 1 + j)).sector) × (part_left (part Back) k b r j out ≡ (store_in groups (k + 1 + j)).content) =
         given-store Back b (and_right (is_copy f) (is_copy b) lent) e out room j l in
-        let x : (part_given (part Back) k b r j out ≡ store_answer plan f b r (k + 1 + j) out) × (part_left (part Back) k b r j out ≡ store_bytes plan f b r (k + 1 + j) out) =
-        back-store plan f b r (k + 1 + j) out k refl (fields_of (block_in (copy_of plan (k + 1 + j) f b))) refl (stores_in plan) refl 0
-        (passes (k + 1 + j) (omega arith) Back (its ∙ e)) refl _ _ (omega arith)
-        (part Back) (sym (ap (λ (c : List ℕ). part_of Back (spare (copy Back)) (holding_for t r) (fields_of c)) its ∙ its-part Back b (and_right (is_copy f) (is_copy b) lent) e out room))
-        (ap (λ (i : ℕ). part_given (part Back) k b r i out) n) (ap (λ (i : ℕ). part_left (part Back) k b r i out) n) in
-        (sym x.0 ∙ g.0, sym x.1 ∙ g.1)
+        let p : part_on Back (spare (copy Back)) (holding_for t r) b ≡ part Back = its-part Back b (and_right (is_copy f) (is_copy b) lent) e out room in
+        let x = back_store plan f b r (k + 1 + j) out (passes (k + 1 + j) (omega arith) Back (its ∙ e)) (omega arith) in (
+          x.0 ∙ (ap₂ (λ (a : Part) (i : ℕ). part_given a k b r i out) p (sym n) ∙ g.0),
+          x.1 ∙ (ap₂ (λ (a : Part) (i : ℕ). part_left a k b r i out) p (sym n) ∙ g.1),
+        )
 
     -- past the last
-    none-given : (i : ℕ) → all ≤ i → (store_answer plan f b r i out ≡ Given.Refused no_such_store) × (store_bytes plan f b r i out ≡ out)
+    none-given : (i : ℕ) → all ≤ i → (store_answer plan f b r i out ≡ Err (reason no_such_store)) × (store_bytes plan f b r i out ≡ out)
     none-given i l =
         let n : 2 * k + 2 ≤ i = omega arith in
-        let x : (Given.Refused no_such_store ≡ store_answer plan f b r i out) × (out ≡ store_bytes plan f b r i out) =
-        store-refused plan f b r i out k refl (fields_of (block_in (copy_of plan i f b))) refl (stores_in plan) refl no_such_store
-        (sym (first-pass (lent_right f b out) 1 _ (lent_right_lem f b out lent room)
+        none_store plan f b r i out no_such_store
+        (first-pass (lent_right f b out) 1 _ (lent_right_lem f b out lent room)
         ∙ (first-pass (length_allowed (length r)) 15 _ its_length
-        ∙ (first-pass (eqb (length r) (length r)) 1 _ (eq-eqb (length r) (length r) refl) ∙ first_fail (ltb i (stores_in plan)) 23 _ (le-ltb i (stores_in plan) n)))))
-        (λ z. omega arith) in
-        (sym x.0, sym x.1)
+        ∙ (first-pass (eqb (length r) (length r)) 1 _ (eq-eqb (length r) (length r) refl) ∙ first_fail (ltb i (stores_in plan)) 23 _ (le-ltb i (stores_in plan) n))))
+        (λ z. omega arith)
 
   -- the device after the first j stores, and its copies: a side's block stands as it was until its own store, the last of the side
   module _ (j : ℕ) (most : j ≤ all) where
@@ -595,7 +589,7 @@ module _ (v : Device) (d : Sectors) (u : Time) (q : List ℕ) (t : Time) (r : Li
         on Back i h l = back-given (copy_from Front v after) (copy_from Back v after) after-sized out room (after_block Back (omega arith)) i h
 
   no_group : (i : ℕ) → all ≤ i → group_of plan i ≡ 4
-  no_group i l = sym (in-none plan i k refl (omega arith) (omega arith) (omega arith) _ refl (omega arith))
+  no_group i l = in_none plan i (omega arith) (omega arith)
 
   -- where a flush belongs
   some : 1 ≤ k
@@ -609,23 +603,19 @@ module _ (v : Device) (d : Sectors) (u : Time) (q : List ℕ) (t : Time) (r : Li
   ends-within (suc (suc (suc (suc g)))) h = absurd (let o : ◌≡◌ {A = ℕ} 0 1 = omega arith in omega arith)
 
   -- the store after a group's last is in another
-  next_group : (g i : ℕ) → g < 4 → i ≡ starting k (suc g) → suc g ≡ group_of plan i
-  next_group zero i h e = Choosing.in-front-block plan i k refl (omega arith) (omega arith)
-  next_group (suc zero) i h e = let o : 1 ≤ k = some in Choosing.in-back-area plan i k refl (omega arith) (omega arith) (omega arith)
-  next_group (suc (suc zero)) i h e = Choosing.in-back-block plan i k refl (omega arith) (omega arith) (omega arith) _ refl (omega arith)
-  next_group (suc (suc (suc zero))) i h e = in-none plan i k refl (omega arith) (omega arith) (omega arith) _ refl (omega arith)
+  next_group : (g i : ℕ) → g < 4 → i ≡ starting k (suc g) → group_of plan i ≡ suc g
+  next_group zero i h e = Choosing.in_front_block plan i (omega arith)
+  next_group (suc zero) i h e = let o : 1 ≤ k = some in Choosing.in_back_area plan i (omega arith) (omega arith)
+  next_group (suc (suc zero)) i h e = Choosing.in_back_block plan i (omega arith) (omega arith)
+  next_group (suc (suc (suc zero))) i h e = in_none plan i (omega arith) (omega arith)
   next_group (suc (suc (suc (suc g)))) i h e = absurd (let o : ◌≡◌ {A = ℕ} 0 1 = omega arith in omega arith)
 
   module _ (g i : ℕ) (h : g < 4) (a : group_start groups g ≤ i) (b : i < group_start groups (suc g)) where
-    here : g ≡ group_of plan i
-    here = grouped (copy Front) (copy Back) t r plan refl g i h a b
-
-    flush_by : (m : ℕ) → m ≡ group_of plan (suc i) → not (eqb g m) ≡ flush_after plan i
+    flush_by : (m : ℕ) → group_of plan (suc i) ≡ m → flush_after plan i ≡ not (eqb g m)
     flush_by m e =
         let p : group_start groups (suc g) ≡ starting k (suc g) = starts_at (suc g) in
         let q : starting k (suc g) ≤ all = ends-within g h in
-        let l : i < stores_in plan = omega arith in
-        flush-at plan i (stores_in plan) refl l g m here (e ∙ ap (group_of plan) (let o : suc i ≡ i + 1 = omega arith in o))
+        flush_at plan i (omega arith) g m (grouped (copy Front) (copy Back) t r plan refl g i h a b) e
 
     flushes : flush_after plan i ≡ true ↔ suc i ≡ group_start groups (suc g)
     flushes = (
@@ -634,17 +624,16 @@ module _ (v : Device) (d : Sectors) (u : Time) (q : List ℕ) (t : Time) (r : Li
         | no e ↦
             absurd
             (true≢false
-            (sym f
-            ∙ (sym (flush_by g (grouped (copy Front) (copy Back) t r plan refl g (suc i) h (omega arith) (omega arith))) ∙ ap not (eq-eqb g g refl))))
+            (sym f ∙ (flush_by g (grouped (copy Front) (copy Back) t r plan refl g (suc i) h (omega arith) (omega arith)) ∙ ap not (eq-eqb g g refl))))
       ],
-      λ e. sym (flush_by (suc g) (next_group g (suc i) h (e ∙ starts_at (suc g)))) ∙ ap not (ne_eqb g (suc g) (λ z. omega arith)),
+      λ e. flush_by (suc g) (next_group g (suc i) h (e ∙ starts_at (suc g))) ∙ ap not (ne_eqb g (suc g) (λ z. omega arith)),
     )
 
   -- its number is 0
   number : update_number (copy Front) (copy Back) t r ≡ 0
   unfolding update_number
   number =
-      ap (λ (a : Answer). number_after a (copy Front) (copy Back) t r) (stepped-found copy stepped)
+      ap (λ (a : Result Found Reason). number_after a (copy Front) (copy Back) t r) (stepped-found copy stepped)
       ∙ first_all (tests_after (is_in_step (copy Front) (copy Back)) (fields Front).device (time_of (held_in (copy Front))) t r) (
         s.ready.in_step.0,
         (its_time, (its_later Front, subst (λ (z : Device). AllHold (content_tests z r)) (sym says) its_content)),
@@ -668,15 +657,14 @@ pub giving : Giving
 giving v d u q t r s =
     record {
       number = number v d u q t r s;
-      plan =
-          sym (refuse-yes (Planned.Plan (plan_on v d t r)) Planned.Refused r 0 (update_number (copy_from Front v d) (copy_from Back v d) t r) (sym (number v d u q t r s)) refl);
+      plan = told_zero (update_number (copy_from Front v d) (copy_from Back v d) t r) (named (update_number (copy_from Front v d) (copy_from Back v d) t r) r) (plan_on v d t r) (number v d u q t r s);
       count =
           (let e : 2 * sectors_of (length r) + 2 ≡ sectors_of (length r) + 1 + sectors_of (length r) + 1 = omega arith in e) ∙ sym (stores-count v d u q t r s);
       two_k_two = refl;
-      grouped = λ g i h a b. sym (grouped (copy_from Front v d) (copy_from Back v d) t r (plan_on v d t r) refl g i h a b);
+      grouped = λ g i h a b. grouped (copy_from Front v d) (copy_from Back v d) t r (plan_on v d t r) refl g i h a b;
       no_group = λ i l. no_group v d u q t r s i (subst (λ (n : ℕ). n ≤ i) (stores-count v d u q t r s) l);
       flush = λ g i h a b. flushes v d u q t r s g i h a b;
-      no_flush = λ i l. sym (flush-past (plan_on v d t r) i (stores_in (plan_on v d t r)) refl (let c : length (stores (groups_on v d t r)) ≡ sectors_of (length r) + 1 + sectors_of (length r) + 1 = stores-count v d u q t r s in omega arith));
+      no_flush = λ i l. flush_past (plan_on v d t r) i (let c : length (stores (groups_on v d t r)) ≡ sectors_of (length r) + 1 + sectors_of (length r) + 1 = stores-count v d u q t r s in omega arith);
       store = λ j i out h l room.
           let n : i < sectors_of (length r) + 1 + sectors_of (length r) + 1 = subst (λ (n : ℕ). i < n) (stores-count v d u q t r s) l in
           all-given v d u q t r s j (omega arith) out room i n h;

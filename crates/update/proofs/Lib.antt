@@ -4,7 +4,6 @@ pub mod NewHeld
 pub mod Stores
 pub mod Demand
 pub mod Allowing
-pub mod Number
 pub mod Choosing
 pub mod Planning
 pub mod Changing

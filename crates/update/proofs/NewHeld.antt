@@ -4,6 +4,7 @@ use mathlib.Core.Path.{◌≡◌, refl, ap, ◌∙◌}
 use mathlib.Core.Bool.{true}
 use mathlib.Core.List.{List}
 use lib.ListN.{length}
+use Rattle.std.specs.Prelude.{Some}
 use Rattle.refusal.specs.Tests.{first}
 use Rattle.layout.specs.declared.Device.{Device}
 use Rattle.layout.specs.declared.Side.{Side}
@@ -12,7 +13,6 @@ use Rattle.layout.specs.Limits.{record_limit, length_allowed, nanoseconds_allowe
 use Rattle.layout.specs.Places.{block_sector, area_sector}
 use Rattle.layout.proofs.Laws.{length_facts}
 use Rattle.block.specs.declared.Time.{Time}
-use Rattle.block.specs.declared.Entry.TheVariants.{Used}
 use Rattle.block.specs.Entry.{later_than, time_of}
 use Rattle.block.specs.Block.{pool_of, blockdev_of, fields_of, read_tests, reading}
 use Rattle.copy.specs.Copy.{block_in, entry_in, whole, newest}
@@ -27,7 +27,7 @@ use Rattle.stores.proofs.OneCopy.{used, holds_at}
 
 module _ (s : Side) (v : Device) (d : Sectors) (sd : Sound d) (z : Sizes v) (ok : first (read_tests (block_in (copy_from s v d))) ≡ 0)
     (wh : whole (copy_from s v d) (fields_of (block_in (copy_from s v d))) (newest (fields_of (block_in (copy_from s v d)))) ≡ true) where
-  held-used : entry_in (fields_of (block_in (copy_from s v d))) (newest (fields_of (block_in (copy_from s v d)))) ≡ Used (held_in (copy_from s v d))
+  held-used : entry_in (fields_of (block_in (copy_from s v d))) (newest (fields_of (block_in (copy_from s v d)))) ≡ Some (held_in (copy_from s v d))
   held-used = used s v d sd z ok wh
 
   module _ (e : Sectors) (se : Sound e) where
@@ -36,7 +36,7 @@ module _ (s : Side) (v : Device) (d : Sectors) (sd : Sound d) (z : Sizes v) (ok 
         → later_than t (time_of (held_in (copy_from s v d))) ≡ true
         → e (block_sector s v) ≡ new_block (copy_from s v d) t r
         → ((i : ℕ) → i < sectors_of (length r) → e (area_sector s (spare (copy_from s v d)) v + i) ≡ sector_of r i)
-        → Holds (copy_from s v e) (with_entry (fields_of (block_in (copy_from s v d))) (spare (copy_from s v d)) (Used (holding_for t r)))
+        → Holds (copy_from s v e) (with_entry (fields_of (block_in (copy_from s v d))) (spare (copy_from s v d)) (Some (holding_for t r)))
         (pool_of (block_in (copy_from s v d))) (blockdev_of (block_in (copy_from s v d))) (spare (copy_from s v d)) (holding_for t r) r
     new-held t r fits ns len later b a =
         let y : Area = spare (copy_from s v d) in
@@ -44,5 +44,5 @@ module _ (s : Side) (v : Device) (d : Sectors) (sd : Sound d) (z : Sizes v) (ok 
         holds_at s v e se z
         (ap reading b ∙ new_reads (copy_from s v d) ok (held_in (copy_from s v d)) held-used t r fits ns len later)
         (newest-changed (fields_of (block_in (copy_from s v d))) (newest (fields_of (block_in (copy_from s v d)))) (held_in (copy_from s v d)) (holding_for t r) held-used later)
-        (entry-changed (fields_of (block_in (copy_from s v d))) y (Used (holding_for t r))) refl refl l
+        (entry-changed (fields_of (block_in (copy_from s v d))) y (Some (holding_for t r))) refl refl l
         (gather_record e r (area_sector s y v) area_sectors (sectors-within (length r) l) a)

@@ -1,5 +1,5 @@
 -- The stores of an update, by side: which number goes to which sector.
-use Prim.Native.Nat.{ℕ, zero, suc, ◌+◌, ◌-◌, ◌*◌, ◌≤◌, ◌<◌}
+use Prim.Native.Nat.{ℕ, zero, suc, ◌+◌, ◌-◌, ◌≤◌, ◌<◌}
 use mathlib.Core.Path.{◌≡◌, refl, sym, ap, ap₂, subst, ◌∙◌}
 use mathlib.Core.List.{List, [], ◌∷◌, ◌++◌, append_assoc, map, flatten}
 use native.Mathlib.Decide.{dec_le, ℕ_discrete}
@@ -18,7 +18,7 @@ use Rattle.stores.specs.Stores.{sectors_of, sector_of, record_stores, block_stor
 use Rattle.update.specs.Update.{spare, new_block, side_groups, update_groups}
 use Rattle.update.specs.declared.Plan.{Plan}
 use Rattle.update.specs.Plan.{sectors_in, group_of}
-use Rattle.update.proofs.Choosing.{in_front_area, in-front-block, in-back-area, in-back-block}
+use Rattle.update.proofs.Choosing.{in_front_area, in_front_block, in_back_area, in_back_block}
 use Rattle.stores.proofs.Padding.{length_sector}
 use Rattle.stores.proofs.Records.{length_record, at_record}
 use Rattle.stores.proofs.Places.{Sizes, near, area_near, block_near, block_apart, same_side}
@@ -60,15 +60,14 @@ module _ (f b : List ℕ) (t : Time) (r : List ℕ) where
 
   -- what a plan of as many sectors says of a group's stores
   pub grouped : (p : Plan) → sectors_of (length r) ≡ sectors_in p → (g i : ℕ) → g < 4 → group_start (update_groups f b t r) g ≤ i
-      → i < group_start (update_groups f b t r) (suc g) → g ≡ group_of p i
+      → i < group_start (update_groups f b t r) (suc g) → group_of p i ≡ g
   grouped p e g i h a b = go g h (subst (λ (n : ℕ). n ≤ i) (group_starts g) a) (subst (λ (n : ℕ). i < n) (group_starts (suc g)) b)
     where
-      go : (g : ℕ) → g < 4 → starting (sectors_of (length r)) g ≤ i → i < starting (sectors_of (length r)) (suc g) → g ≡ group_of p i
-      go zero h a b = in_front_area p i (sectors_of (length r)) e (omega arith)
-      go (suc zero) h a b = in-front-block p i (sectors_of (length r)) e (omega arith) (omega arith)
-      go (suc (suc zero)) h a b = in-back-area p i (sectors_of (length r)) e (omega arith) (omega arith) (omega arith)
-      go (suc (suc (suc zero))) h a b =
-          in-back-block p i (sectors_of (length r)) e (omega arith) (omega arith) (omega arith) (2 * sectors_of (length r) + 2) (ap (λ (n : ℕ). 2 * n + 2) e) (omega arith)
+      go : (g : ℕ) → g < 4 → starting (sectors_of (length r)) g ≤ i → i < starting (sectors_of (length r)) (suc g) → group_of p i ≡ g
+      go zero h a b = in_front_area p i (omega arith)
+      go (suc zero) h a b = in_front_block p i (omega arith)
+      go (suc (suc zero)) h a b = in_back_area p i (omega arith) (omega arith)
+      go (suc (suc (suc zero))) h a b = in_back_block p i (omega arith) (omega arith)
       go (suc (suc (suc (suc g)))) h a b = absurd (let o : ◌≡◌ {A = ℕ} 0 1 = omega arith in omega arith)
 
 -- the copies of the two sides, on the device that the front one is of

@@ -1,8 +1,10 @@
 -- What an update promises. `proofs/Allowing.antt` proves `Exactly`, `Ordered` and `Started`, `proofs/Demand.antt` `Demand3`, `Placing` and
 -- `Giving`, `proofs/Refusing.antt` `Naming` and `Refusing`, `proofs/Lying.antt` `Within`, `proofs/Changing.antt` `Changing`. That there are copies in step on every allowed device is `format`'s `Possible`.
-use Rattle.std.specs.Prelude.{ℕ, suc, ◌+◌, ◌*◌, ◌^◌, ◌≤◌, ◌<◌, ◌≡◌, ◌↔◌, true, false, List, [], ◌∷◌, length, get_or}
+use Rattle.std.specs.Prelude.{ℕ, suc, ◌+◌, ◌*◌, ◌^◌, ◌≤◌, ◌<◌, ◌≡◌, ◌↔◌, true, false, List, [], ◌∷◌, length, get_or, Result, Ok, Err}
 use Rattle.endian.specs.Bytes.{Bytes}
+use Rattle.refusal.specs.declared.Reason.{Reason}
 use Rattle.refusal.specs.Numbers.{no_such_store}
+use Rattle.refusal.specs.Reasons.{reason, refusal_of, refusal_in}
 use Rattle.refusal.specs.Tests.{first}
 use Rattle.layout.specs.declared.Device.{Device}
 use Rattle.layout.specs.declared.Side.{Side}
@@ -13,26 +15,23 @@ use Rattle.layout.specs.Limits.{most_nanoseconds}
 use Rattle.layout.specs.Places.{block_sector, area_sector, copy_bytes}
 use Rattle.block.specs.declared.Time.{Time}
 use Rattle.block.specs.declared.Holding.{Holding}
+use Rattle.block.specs.declared.BlockFields.{BlockFields}
 use Rattle.block.specs.Entry.{later_than}
 use Rattle.block.specs.Accepted.{Accepted}
 use Rattle.items.specs.Items.{segments}
 use Rattle.record.specs.Accept.{content_tests, named}
 use Rattle.segments.specs.Demand.{FirstPair}
 use Rattle.record.specs.Demand.{RightBytes}
-use Rattle.copy.specs.declared.Present.TheVariants as Present
-use Rattle.copy.specs.Copy.{device_in, block_in, other_area, copy_reading}
+use Rattle.copy.specs.Copy.{device_in, block_in, other_area, present_at, copy_reading}
+use Rattle.copy.specs.Demand.{present_in}
 use Rattle.discovery.specs.declared.Finding.{Finding}
-use Rattle.discovery.specs.declared.Other.{Other}
-use Rattle.discovery.specs.declared.Answer.TheVariants as Answer
-use Rattle.discovery.specs.Discovery.{discovery, is_in_step, copy_on}
+use Rattle.discovery.specs.Discovery.{found_with, discovery, is_in_step, copy_on}
 use Rattle.crash.specs.Crash.{Sectors, Sound, Groups, stores, store_in, group_start, landed, CutIn, copy_from}
-use Rattle.stores.specs.declared.Given.TheVariants.{At, Refused}
 use Rattle.stores.specs.Stores.{sectors_of, sector_of}
 use Rattle.stores.specs.States.{Presents, Gives, Ready, Answered, Excused, Lies, AllFit}
 use Rattle.update.specs.declared.Plan.{Plan}
-use Rattle.update.specs.declared.Planned.TheVariants as Planned
 use Rattle.update.specs.Update.{update_number, spare, new_block, update_groups}
-use Rattle.update.specs.Answers.{planned_refusal, planned_values}
+use Rattle.update.specs.Answers.{planned_values}
 use Rattle.update.specs.Plan.{plan_of, planned, sectors_in, stores_in, group_of, flush_after, store_answer, store_bytes}
 
 -- An update that the format does not refuse, in plain words: two copies, which discovery answers and which are in step; a time within
@@ -41,8 +40,8 @@ pub record Allowed (f b : List ℕ) (t : Time) (r : List ℕ) : Type 0 where
   pub front-copy : length f ≡ copy_bytes
   pub back-copy : length b ≡ copy_bytes
   pub found : Finding
-  pub other : Other
-  pub answers : discovery f b ≡ Answer.Found found other
+  pub other : Result BlockFields Reason
+  pub answers : discovery f b ≡ found_with found other
   pub in_step : is_in_step f b ≡ true
   pub nanoseconds : t.nanoseconds ≤ most_nanoseconds
   pub old : Time
@@ -60,8 +59,8 @@ Exactly =
 -- Otherwise it is the first that applies in the format's order: discovery's, then 16, then 9 for the nanoseconds of its time, then 14,
 -- then the record's own.
 pub record InOrder (f b : List ℕ) (t : Time) (r : List ℕ) : Type 0 where
-  pub refused : (n : ℕ) → discovery f b ≡ Answer.Refused n → update_number f b t r ≡ n
-  pub apart : (q : Finding) (o : Other) → discovery f b ≡ Answer.Found q o → is_in_step f b ≡ false → update_number f b t r ≡ 16
+  pub refused : (e : Reason) → discovery f b ≡ Err e → update_number f b t r ≡ (refusal_of e).number
+  pub apart : (q : Finding) (o : Result BlockFields Reason) → discovery f b ≡ found_with q o → is_in_step f b ≡ false → update_number f b t r ≡ 16
   pub limit : is_in_step f b ≡ true → most_nanoseconds < t.nanoseconds → update_number f b t r ≡ 9
   pub earlier : is_in_step f b ≡ true → t.nanoseconds ≤ most_nanoseconds → (old : Time) (q : List ℕ) → Presents f old q → later_than t old ≡ false
       → update_number f b t r ≡ 14
@@ -75,7 +74,7 @@ Ordered = (f b : List ℕ) (t : Time) (r : List ℕ) → InOrder f b t r
 abbrev pub Naming : Type 0
 Naming =
     (f b : List ℕ) (t : Time) (r : List ℕ) → update_number f b t r ≡ 19
-    → FirstPair (segments r) (planned_refusal (planned f b t r)).first (planned_refusal (planned f b t r)).second
+    → FirstPair (segments r) (refusal_in (planned f b t r)).first (refusal_in (planned f b t r)).second
 
 -- the start of an update: any two copies in step on a record q with its time u, and any update that is not refused
 pub record Start (v : Device) (d : Sectors) (u : Time) (q : List ℕ) (t : Time) (r : List ℕ) : Type 0 where
@@ -131,7 +130,7 @@ block_group Back = 3
 
 -- which store goes where: in each copy the record's sectors to the area that is not present there, then the block; the front first
 pub record Places (v : Device) (d : Sectors) (t : Time) (r : List ℕ) : Type 0 where
-  pub area : (s : Side) (x : Area) (h : Holding) → (copy_reading (copy_from s v d)).present ≡ Present.At x h → (j : ℕ) → j < sectors_of (length r)
+  pub area : (s : Side) (x : Area) (h : Holding) → present_in (copy_reading (copy_from s v d)) ≡ present_at x h → (j : ℕ) → j < sectors_of (length r)
       → store_in (groups_on v d t r) (group_start (groups_on v d t r) (area_group s) + j) ≡ record { sector = area_sector s (other_area x) v + j; content = sector_of r j }
   pub block : (s : Side)
       → store_in (groups_on v d t r) (group_start (groups_on v d t r) (block_group s)) ≡ record { sector = block_sector s v; content = new_block (copy_from s v d) t r }
@@ -149,7 +148,7 @@ copy_after v d t r j w = copy_from w v (landed (store_in (groups_on v d t r)) j 
 -- number of the stores before it in them: a caller may apply each store to its copies in memory as it goes.
 pub record PlanGives (v : Device) (d : Sectors) (t : Time) (r : List ℕ) : Type 0 where
   pub number : update_number (copy_from Front v d) (copy_from Back v d) t r ≡ 0
-  pub plan : planned (copy_from Front v d) (copy_from Back v d) t r ≡ Planned.Plan (plan_on v d t r)
+  pub plan : planned (copy_from Front v d) (copy_from Back v d) t r ≡ Ok (plan_on v d t r)
   pub count : stores_in (plan_on v d t r) ≡ length (stores (groups_on v d t r))
   pub two_k_two : stores_in (plan_on v d t r) ≡ 2 * sectors_of (length r) + 2
   pub grouped : (g i : ℕ) → g < 4 → group_start (groups_on v d t r) g ≤ i → i < group_start (groups_on v d t r) (suc g) → group_of (plan_on v d t r) i ≡ g
@@ -158,10 +157,10 @@ pub record PlanGives (v : Device) (d : Sectors) (t : Time) (r : List ℕ) : Type
       → (flush_after (plan_on v d t r) i ≡ true ↔ suc i ≡ group_start (groups_on v d t r) (suc g))
   pub no_flush : (i : ℕ) → length (stores (groups_on v d t r)) ≤ i → flush_after (plan_on v d t r) i ≡ false
   pub store : (j i : ℕ) (out : List ℕ) → j ≤ i → i < length (stores (groups_on v d t r)) → length out ≡ 512
-      → (store_answer (plan_on v d t r) (copy_after v d t r j Front) (copy_after v d t r j Back) r i out ≡ At (store_in (groups_on v d t r) i).sector)
+      → (store_answer (plan_on v d t r) (copy_after v d t r j Front) (copy_after v d t r j Back) r i out ≡ Ok (store_in (groups_on v d t r) i).sector)
       × (store_bytes (plan_on v d t r) (copy_after v d t r j Front) (copy_after v d t r j Back) r i out ≡ (store_in (groups_on v d t r) i).content)
   pub no_store : (j i : ℕ) (out : List ℕ) → j ≤ length (stores (groups_on v d t r)) → length (stores (groups_on v d t r)) ≤ i → length out ≡ 512
-      → (store_answer (plan_on v d t r) (copy_after v d t r j Front) (copy_after v d t r j Back) r i out ≡ Refused no_such_store)
+      → (store_answer (plan_on v d t r) (copy_after v d t r j Front) (copy_after v d t r j Back) r i out ≡ Err (reason no_such_store))
       × (store_bytes (plan_on v d t r) (copy_after v d t r j Front) (copy_after v d t r j Back) r i out ≡ out)
 
 abbrev pub Giving : Type 0
@@ -170,15 +169,15 @@ Giving = (v : Device) (d : Sectors) (u : Time) (q : List ℕ) (t : Time) (r : Li
 -- A refused store changes no lent byte, of any plan, made up or not; a plan's refusal is the update's number, with what stands beside it; and a plan
 -- has 2k + 2 stores.
 pub record Refusing : Type 0 where
-  pub store : (p : Plan) (f b r : List ℕ) (i : ℕ) (out : List ℕ) (n : ℕ) → store_answer p f b r i out ≡ Refused n → store_bytes p f b r i out ≡ out
-  pub number : (f b : List ℕ) (t : Time) (r : List ℕ) → planned_refusal (planned f b t r) ≡ named (update_number f b t r) r
+  pub store : (p : Plan) (f b r : List ℕ) (i : ℕ) (out : List ℕ) (e : Reason) → store_answer p f b r i out ≡ Err e → store_bytes p f b r i out ≡ out
+  pub number : (f b : List ℕ) (t : Time) (r : List ℕ) → refusal_in (planned f b t r) ≡ named (update_number f b t r) r
   pub values : (f b : List ℕ) (t : Time) (r : List ℕ) → update_number f b t r ≡ 0 → planned_values (planned f b t r) ≡ (2 * sectors_of (length r) + 2) ∷ []
 
 -- Wherever a store is given, of any plan and any copies, made up or not, it goes to a sector of its own side, the front's stores coming
 -- first, on the device that this side's copy says it is of: its signature block's or one of those of an area that a record can fill.
 abbrev pub Within : Type 0
 Within =
-    (p : Plan) (f b r : List ℕ) (i : ℕ) (out : List ℕ) (s : ℕ) → store_answer p f b r i out ≡ At s
+    (p : Plan) (f b r : List ℕ) (i : ℕ) (out : List ℕ) (s : ℕ) → store_answer p f b r i out ≡ Ok s
     → (i ≤ sectors_in p → Lies Front (device_in f) s) × (sectors_in p < i → Lies Back (device_in b) s)
 
 -- where an area's entry lies in the block, 20 bytes

@@ -1,8 +1,9 @@
 -- What the calls of an update answer: a plan worked out once, and its stores by their number. A plan may be anything a
 -- caller makes up; `Demand.Giving` says that the stores of an update's plan are those of `Update.update_groups`.
-use Rattle.std.specs.Prelude.{ℕ, suc, ◌+◌, ◌-◌, ◌*◌, Bool, cond, not, ◌&&◌, List, leb, ltb, eqb, length}
+use Rattle.std.specs.Prelude.{ℕ, suc, ◌+◌, ◌-◌, ◌*◌, Bool, cond, not, ◌&&◌, List, leb, ltb, eqb, length, Some, Result, Ok, Err}
+use Rattle.refusal.specs.declared.Reason.{Reason}
 use Rattle.refusal.specs.Numbers.{not_in_step}
-use Rattle.refusal.specs.Refusals.{plain}
+use Rattle.refusal.specs.Reasons.{reason, reason_of}
 use Rattle.refusal.specs.Tests.{Test, first}
 use Rattle.layout.specs.declared.Side.{Side}
 use Rattle.layout.specs.declared.Side.TheVariants.{Front, Back}
@@ -10,19 +11,14 @@ use Rattle.layout.specs.declared.Area.{Area}
 use Rattle.layout.specs.Places.{block_sector, area_sector}
 use Rattle.block.specs.declared.Time.{Time}
 use Rattle.block.specs.declared.Holding.{Holding}
-use Rattle.block.specs.declared.Entry.TheVariants.{Used}
 use Rattle.block.specs.declared.BlockFields.{BlockFields}
 use Rattle.block.specs.Block.{fields_of}
-use Rattle.record.specs.Accept.{named}
+use Rattle.record.specs.Accept.{named, answered}
 use Rattle.copy.specs.Copy.{device_in, block_in, other_area, newest}
-use Rattle.discovery.specs.declared.Finding.{Finding}
-use Rattle.discovery.specs.declared.Other.{Other}
-use Rattle.discovery.specs.declared.Other.TheVariants.{Both, One}
+use Rattle.discovery.specs.declared.Found.{Found}
 use Rattle.discovery.specs.Newest.{time_at}
 use Rattle.stores.specs.declared.Part.{Part}
 use Rattle.update.specs.declared.Plan.{Plan}
-use Rattle.update.specs.declared.Planned.{Planned}
-use Rattle.stores.specs.declared.Given.{Given}
 use Rattle.update.specs.Update.{tests_after, update_number}
 use Rattle.stores.specs.Stores.{sectors_of, holding_for, with_entry}
 use Rattle.stores.specs.Given.{plan_tests, part_given, part_left}
@@ -36,18 +32,18 @@ abbrev pub plan_of : List ℕ → List ℕ → Time → List ℕ → Plan
 plan_of f b t r = plan_for (fields_of (block_in f)) (fields_of (block_in b)) t r
 
 -- how the code finds it from what discovery answers; nothing public cites this
-abbrev pub plan_with : BlockFields → Other → Time → List ℕ → Planned
-plan_with x (Both y) t r = Planned.Plan (plan_for x y t r)
-plan_with x (One m) t r = Planned.Refused (plain not_in_step)
+abbrev pub plan_with : BlockFields → Result BlockFields Reason → Time → List ℕ → Result Plan Reason
+plan_with x (Ok y) t r = Ok (plan_for x y t r)
+plan_with x (Err e) t r = Err (reason not_in_step)
 
-abbrev pub plan_found : Finding → Other → Bool → Time → List ℕ → Planned
-plan_found q o step t r =
-    cond (eqb (first (tests_after step q.fields.device (time_at q) t r)) 0) (plan_with q.fields o t r)
-    (Planned.Refused (named (first (tests_after step q.fields.device (time_at q) t r)) r))
+abbrev pub plan_found : Found → Bool → Time → List ℕ → Result Plan Reason
+plan_found w step t r =
+    cond (eqb (first (tests_after step w.finding.fields.device (time_at w.finding) t r)) 0) (plan_with w.finding.fields w.other t r)
+    (Err (reason_of (named (first (tests_after step w.finding.fields.device (time_at w.finding) t r)) r)))
 
 -- what `work_out` answers
-abbrev pub planned : List ℕ → List ℕ → Time → List ℕ → Planned
-planned f b t r = cond (eqb (update_number f b t r) 0) (Planned.Plan (plan_of f b t r)) (Planned.Refused (named (update_number f b t r) r))
+abbrev pub planned : List ℕ → List ℕ → Time → List ℕ → Result Plan Reason
+planned f b t r = answered (update_number f b t r) r (plan_of f b t r)
 
 -- the sectors that the record fills, k, and the stores, 2k + 2
 abbrev pub sectors_in : Plan → ℕ
@@ -68,7 +64,7 @@ flush_after p i = ltb i (stores_in p) && not (eqb (group_of p i) (group_of p (su
 
 -- one side of a plan where that side's block has the numbers g: where its area and its block lie, and the new block's numbers
 abbrev pub part_of : Side → Area → Holding → BlockFields → Part
-part_of w x h g = record { area = area_sector w x g.device; block = block_sector w g.device; fields = with_entry g x (Used h) }
+part_of w x h g = record { area = area_sector w x g.device; block = block_sector w g.device; fields = with_entry g x (Some h) }
 
 -- the same with the copy c of that side
 abbrev pub part_on : Side → Area → Holding → List ℕ → Part
@@ -83,7 +79,7 @@ abbrev pub store_tests : Plan → List ℕ → List ℕ → List ℕ → ℕ →
 store_tests p f b r i out = plan_tests f b (length out) (length r) p.entry.bytes i (stores_in p) (device_in (copy_of p i f b))
 
 -- store i of both sides, the front's and then the back's: the sector and the bytes
-abbrev pub sides_answer : Plan → List ℕ → List ℕ → List ℕ → ℕ → List ℕ → Given
+abbrev pub sides_answer : Plan → List ℕ → List ℕ → List ℕ → ℕ → List ℕ → Result ℕ Reason
 sides_answer p f b r i out =
     cond (leb i (sectors_in p)) (part_given (part_on Front p.front p.entry f) (sectors_in p) f r i out)
     (part_given (part_on Back p.back p.entry b) (sectors_in p) b r (i - (sectors_in p + 1)) out)
@@ -94,9 +90,9 @@ sides_bytes p f b r i out =
     (part_left (part_on Back p.back p.entry b) (sectors_in p) b r (i - (sectors_in p + 1)) out)
 
 -- what `store` answers and leaves
-abbrev pub store_answer : Plan → List ℕ → List ℕ → List ℕ → ℕ → List ℕ → Given
+abbrev pub store_answer : Plan → List ℕ → List ℕ → List ℕ → ℕ → List ℕ → Result ℕ Reason
 store_answer p f b r i out =
-    cond (eqb (first (store_tests p f b r i out)) 0) (sides_answer p f b r i out) (Given.Refused (first (store_tests p f b r i out)))
+    cond (eqb (first (store_tests p f b r i out)) 0) (sides_answer p f b r i out) (Err (reason (first (store_tests p f b r i out))))
 
 abbrev pub store_bytes : Plan → List ℕ → List ℕ → List ℕ → ℕ → List ℕ → List ℕ
 store_bytes p f b r i out = cond (eqb (first (store_tests p f b r i out)) 0) (sides_bytes p f b r i out) out

@@ -12,24 +12,27 @@ ghost use Rattle.std.specs.Prelude.{◌≤◌, ◌<◌, length};
 ghost use Rattle.sampling.specs.Laying.{input_bytes};
 
 use block::Time;
+use discovery::Copies;
 use layout::Area;
+use refusal::{Reason, Refusal};
 use sampling::{number, print, refusal, say, sum};
-use stores::Given;
-use update::{Plan, Planned};
+use update::Plan;
 
 // Where area b of the back copy begins, which is the last in a dump.
 const BACK_B: usize = layout::DUMP_BYTES - layout::RECORD_LIMIT as usize;
 
+// Prints a refusal and ends the line.
+fn refused(r: Reason) {
+    print(refusal(Refusal::from(r)));
+    say(b"\n");
+}
+
 // Prints a store.
-fn print_store(p: Plan, f: &[u8], b: &[u8], r: &[u8], i: u64) {
+fn print_store(p: Plan, c: Copies<'_>, r: &[u8], i: u64) {
     let mut out = [0xEEu8; layout::SECTOR_BYTES];
-    let g = update::store(p, f, b, r, i, &mut out);
-    match g {
-        Given::Refused(n) => {
-            print(refusal(refusal::plain(n)));
-            say(b"\n");
-        }
-        Given::At(sector) => {
+    match update::store(p, c, r, i, &mut out) {
+        Err(r) => refused(r),
+        Ok(sector) => {
             say(b"store");
             print(number(i));
             print(number(update::group(p, i) as u64));
@@ -48,40 +51,28 @@ fn print_count(n: u64) {
 }
 
 // Prints the stores of a plan, and what comes after the last.
-fn print_plan(p: Plan, f: &[u8], b: &[u8], r: &[u8]) {
+fn print_plan(p: Plan, c: Copies<'_>, r: &[u8]) {
     let n = update::count(p);
     print_count(n);
-    let mut i = 0;
-    while i < n {
-        print_store(p, f, b, r, i);
-        i += 1;
+    for i in 0..=n {
+        print_store(p, c, r, i);
     }
-    print_store(p, f, b, r, n);
 }
 
 // Prints what stores with a record of a length that is not allowed are refused with: past the last store, and the first.
-fn print_lengths(p: Plan, f: &[u8], b: &[u8]) {
-    print_store(p, f, b, b"", update::count(p));
-    print_store(
-        p,
-        f,
-        b,
-        endian::window(f, 0, layout::RECORD_LIMIT as usize + 1),
-        0,
-    );
+fn print_lengths(p: Plan, c: Copies<'_>) {
+    print_store(p, c, b"", update::count(p));
+    let long = endian::window(c.front, 0, layout::RECORD_LIMIT as usize + 1);
+    print_store(p, c, long, 0);
 }
 
 // Prints an update.
-fn judge(f: &[u8], b: &[u8], t: Time, r: &[u8]) {
-    let p = update::work_out(f, b, t, r);
-    match p {
-        Planned::Refused(n) => {
-            print(refusal(n));
-            say(b"\n");
-        }
-        Planned::Plan(q) => {
-            print_plan(q, f, b, r);
-            print_lengths(q, f, b);
+fn judge(c: Copies<'_>, t: Time, r: &[u8]) {
+    match update::work_out(c, t, r) {
+        Err(why) => refused(why),
+        Ok(p) => {
+            print_plan(p, c, r);
+            print_lengths(p, c);
         }
     }
 }
@@ -96,12 +87,11 @@ fn sample(s: &[u8], from: usize, n: usize) -> usize
         nanoseconds: endian::read_u32(s, from + 8),
     };
     let k = endian::read_u16(s, from + 12) as usize;
-    judge(
-        endian::window(s, 0, n),
-        endian::window(s, layout::COPY_BYTES, layout::COPY_BYTES),
-        t,
-        endian::window(s, from + 14, k),
-    );
+    let c = Copies {
+        front: endian::window(s, 0, n),
+        back: endian::window(s, layout::COPY_BYTES, layout::COPY_BYTES),
+    };
+    judge(c, t, endian::window(s, from + 14, k));
     from + 14 + k
 }
 
@@ -112,6 +102,7 @@ fn samples(s: &[u8]) -> usize
 {
     let mut last = 0;
     let mut at = layout::DUMP_BYTES;
+    // A `while` in each program: a sample says where the next one begins, and a shared function over a closure would have a `requires`.
     while at < s.len() {
         last = at;
         at = sample(s, at, layout::COPY_BYTES);
@@ -119,29 +110,22 @@ fn samples(s: &[u8]) -> usize
     last
 }
 
-// Prints what the laying of a record answers, and the checksum of the copy.
-fn print_laid(n: u8, c: &[u8]) {
-    say(b"laid");
-    print(number(n as u64));
-    print(sum(c));
-    say(b"\n");
-}
-
-// Lays a record into area b of the copy in the first n bytes of s, and prints what came of it.
+// Lays a record into area b of the copy in the first n bytes of s, and prints the number of the refusal, 0 for none, and the checksum of the copy.
 fn laid(s: &mut [u8], n: usize, r: &[u8]) {
-    if s.len() < n {
-        return;
+    if let Some(c) = s.get_mut(..n) {
+        let laid = stores::lay(c, Area::B, r).map_or_else(Refusal::from, |_| refusal::plain(0));
+        say(b"laid");
+        print(number(laid.number as u64));
+        print(sum(c));
+        say(b"\n");
     }
-    let k = stores::lay(&mut s[..n], Area::B, r);
-    print_laid(k, endian::window(s, 0, n));
 }
 
 fn main() {
     let copy = layout::COPY_BYTES;
     let input = sampling::fetch();
     let mut bytes = input.bytes;
-    let n = input.used;
-    let last = samples(&bytes[..n]);
+    let last = samples(&bytes[..input.used]);
     sample(&bytes, last, copy - 1);
     endian::put(&mut bytes, BACK_B, b"\x07");
     sample(&bytes, last, copy);

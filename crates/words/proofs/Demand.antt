@@ -1,7 +1,8 @@
 -- What holds of the words, proved.
+use Rattle.std.proofs.Common.{Some, None, Option}
 use Prim.Native.Nat.{ℕ, zero, suc, ◌+◌, ◌-◌, ◌*◌, ◌^◌, ◌≤◌, ◌<◌}
 use mathlib.Core.Path.{◌≡◌, refl, sym, ap, ap₂, subst, ◌∙◌}
-use mathlib.Core.Bool.{Bool, true, false, cond, ◌&&◌, ◌||◌, true≢false}
+use mathlib.Core.Bool.{Bool, true, false, cond, ◌&&◌, ◌||◌}
 use mathlib.Core.Logic.{◌⊎◌, inl, inr}
 use mathlib.Core.List.{List, [], ◌∷◌, ◌++◌, map, map-append, append_assoc}
 use native.Mathlib.Decide.{dec_le}
@@ -11,16 +12,13 @@ use borrow.Author.Tests.{lt-ltb, le-ltb, ltb-true, leb-true, le-leb, lt-leb, eqb
 use lib.Dec.{ltb, leb, eqb, lit<}
 use lib.ListN.{length, get_or, take, drop, length-append, length-map, take-append-drop, get_or-map}
 use lib.Seq.{take_at, take_all, take-suc, get_or_at, drop-cons, drop-drop, drop-append-add, get_or-append-add}
-use Rattle.endian.specs.Bytes.{window, same, all_pass, zeros}
+use Rattle.endian.specs.Bytes.{window, same, all_pass}
 use Rattle.endian.proofs.Tests.{and_left, and_right, all_at, same_equal}
 use Rattle.endian.proofs.Parts.{length-window-fits, window_rest}
 use Rattle.text.specs.Decimal.{decimal, value_after, value, is_digit}
 use Rattle.text.proofs.Decimals.{all_digits, decimal-value, decimal-some}
 use Rattle.block.specs.Block.{is_hex}
-use Rattle.words.specs.declared.answers.Number.{Number}
-use Rattle.words.specs.declared.answers.Number.TheVariants.{Is, Nothing}
-use Rattle.words.specs.declared.answers.Uuid.{Uuid}
-use Rattle.words.specs.Words.{number_after, number_of, unit_of, times_of, sectors_of, last, thin_metadata, thin_data, spare, metadata_volume, kind_of, dash, dashed, joined, undashed, lower, no_uuid, hex_uuid, uuid_of}
+use Rattle.words.specs.Words.{number_after, number_of, unit_of, times_of, size_of, sectors_of, last, thin_metadata, thin_data, spare, metadata_volume, kind_of, dash, dashed, joined, undashed, lower, hex_uuid, uuid_of}
 use Rattle.words.specs.Demand.{ReadBack, DigitsAlone, Numbers, Sizes, Lettered, Size, SizesOnly, Names, Kinds, Digits, Dashes, Form, Says, upper, Uuids}
 use Rattle.words.proofs.Words.{and_false, number_start, undashed-joined, undashed-same}
 
@@ -31,18 +29,18 @@ read_back n h =
     ∙ rw (all_digits 20 n, decimal-value n (omega arith), lt-ltb n (2 ^ 64) h)
 
 -- a choice that says a number was for the first
-said : (b : Bool) (a : Number) (n : ℕ) → cond b a Nothing ≡ Is n → (b ≡ true) × (a ≡ Is n)
+said : (b : Bool) (a : Option ℕ) (n : ℕ) → cond b a None ≡ Some n → (b ≡ true) × (a ≡ Some n)
 said true a n e = (refl, e)
 said false a n e = absurd (let z : ◌≡◌ {A = ℕ} 0 1 = cc in omega arith)
 
-same_is : (v n : ℕ) → Is v ≡ Is n → v ≡ n
+same_is : (v n : ℕ) → Some v ≡ Some n → v ≡ n
 same_is v n e = cc
 
 pub digits-alone : DigitsAlone
 unfolding number_of number_after
 digits-alone s n e =
-    let o : (ltb 0 (length s) ≡ true) × (number_after 0 s ≡ Is n) = said (ltb 0 (length s)) (number_after 0 s) n e in
-    let i : (all_pass is_digit s && ltb (value s) (2 ^ 64) ≡ true) × (Is (value s) ≡ Is n) = said (all_pass is_digit s && ltb (value s) (2 ^ 64)) (Is (value s)) n o.1 in
+    let o : (ltb 0 (length s) ≡ true) × (number_after 0 s ≡ Some n) = said (ltb 0 (length s)) (number_after 0 s) n e in
+    let i : (all_pass is_digit s && ltb (value s) (2 ^ 64) ≡ true) × (Some (value s) ≡ Some n) = said (all_pass is_digit s && ltb (value s) (2 ^ 64)) (Some (value s)) n o.1 in
     let v : value s ≡ n = same_is (value s) n i.1 in
     let l : value s < 2 ^ 64 = ltb-true (value s) (2 ^ 64) (and_right (all_pass is_digit s) (ltb (value s) (2 ^ 64)) i.0) in (
       ltb-true 0 (length s) o.0,
@@ -51,11 +49,11 @@ digits-alone s n e =
       omega arith,
     )
 
-digits-below : (s : List ℕ) → 0 < length s → all_pass is_digit s ≡ true → value s < 2 ^ 64 → number_of s ≡ Is (value s)
+digits-below : (s : List ℕ) → 0 < length s → all_pass is_digit s ≡ true → value s < 2 ^ 64 → number_of s ≡ Some (value s)
 unfolding number_of number_after
 digits-below s l a h = rw (lt-ltb 0 (length s) l, a, lt-ltb (value s) (2 ^ 64) h)
 
-digits_above : (s : List ℕ) → 0 < length s → all_pass is_digit s ≡ true → 2 ^ 64 ≤ value s → number_of s ≡ Nothing
+digits_above : (s : List ℕ) → 0 < length s → all_pass is_digit s ≡ true → 2 ^ 64 ≤ value s → number_of s ≡ None
 unfolding number_of number_after
 digits_above s l a h = rw (lt-ltb 0 (length s) l, a, le-ltb (value s) (2 ^ 64) h)
 
@@ -67,7 +65,7 @@ pub numbers : Numbers
 numbers = record { below = digits-below; above = digits_above; leading = zero-before; only = digits-alone }
 
 -- digits name no unit
-no_unit : (x : ℕ) → is_digit x ≡ true → unit_of x ≡ 0
+no_unit : (x : ℕ) → is_digit x ≡ true → unit_of x ≡ None
 unfolding unit_of
 no_unit x h =
     let l : x ≤ 57 = leb-true x 57 (and_right (leb 48 x) (leb x 57) h) in
@@ -75,73 +73,66 @@ no_unit x h =
 
 -- digits alone, and a letter behind them
 module _ (d : List ℕ) (some : 0 < length d) (a : all_pass is_digit d ≡ true) where
-  alone : value d < 2 ^ 64 → sectors_of d ≡ Is (value d)
-  unfolding sectors_of
+  alone : value d < 2 ^ 64 → sectors_of d ≡ Some (value d)
+  unfolding size_of
   alone h = rw (no_unit (last d) (all_at is_digit d a (length d - 1) (omega arith))) (digits-below d some a h)
 
-  behind : (c : ℕ) → 0 < unit_of c → value d * unit_of c < 2 ^ 64 → sectors_of (d ++ (c ∷ [])) ≡ Is (value d * unit_of c)
-  unfolding sectors_of times_of
-  behind c u h =
+  behind : (c u : ℕ) → unit_of c ≡ Some u → 0 < u → value d * u < 2 ^ 64 → sectors_of (d ++ (c ∷ [])) ≡ Some (value d * u)
+  unfolding size_of times_of
+  behind c u e p h =
       let k : length d ≡ length (d ++ (c ∷ [])) - 1 = rw length-append (omega arith) in
-      let m : value d * 1 ≤ value d * unit_of c = mul-le-mul_left (value d) u in
+      let m : value d * 1 ≤ value d * u = mul-le-mul_left (value d) p in
       rw
-      (get_or_at d c [] 0 (length (d ++ (c ∷ [])) - 1) k, lt-ltb 0 (unit_of c) u, take_at d (c ∷ []) (length (d ++ (c ∷ [])) - 1) k, digits-below d some a (let l : value d < 2 ^ 64 = omega arith in l), lt-ltb (value d * unit_of c) (2 ^ 64) h)
+      (get_or_at d c [] 0 (length (d ++ (c ∷ [])) - 1) k, e, take_at d (c ∷ []) (length (d ++ (c ∷ [])) - 1) k, digits-below d some a (let l : value d < 2 ^ 64 = omega arith in l), lt-ltb (value d * u) (2 ^ 64) h)
 
 -- the same of a number's digits
 module _ (n : ℕ) where
-  plain : n < 2 ^ 64 → sectors_of (decimal n) ≡ Is n
+  plain : n < 2 ^ 64 → sectors_of (decimal n) ≡ Some n
   plain h =
       let v : value (decimal n) ≡ n = decimal-value n (omega arith) in
-      alone (decimal n) (decimal-some n) (all_digits 20 n) (omega arith) ∙ ap Is v
+      alone (decimal n) (decimal-some n) (all_digits 20 n) (omega arith) ∙ ap Some v
 
-  lettered : (c : ℕ) → 0 < unit_of c → n * unit_of c < 2 ^ 64 → sectors_of (decimal n ++ (c ∷ [])) ≡ Is (n * unit_of c)
-  lettered c u h =
-      let m : n * 1 ≤ n * unit_of c = mul-le-mul_left n u in
+  lettered : (c u : ℕ) → unit_of c ≡ Some u → 0 < u → n * u < 2 ^ 64 → sectors_of (decimal n ++ (c ∷ [])) ≡ Some (n * u)
+  lettered c u e p h =
+      let m : n * 1 ≤ n * u = mul-le-mul_left n p in
       let v : value (decimal n) ≡ n = decimal-value n (omega arith) in
-      behind (decimal n) (decimal-some n) (all_digits 20 n) c u (rw v h) ∙ ap (λ (z : ℕ). Is (z * unit_of c)) v
+      behind (decimal n) (decimal-some n) (all_digits 20 n) c u e p (rw v h) ∙ ap (λ (z : ℕ). Some (z * u)) v
 
 pub sizes : Sizes
 unfolding unit_of
-sizes =
-    (plain, λ n h. lettered n 75 (lit< tt) h, λ n h. lettered n 77 (lit< tt) h, λ n h. lettered n 71 (lit< tt) h, λ n h. lettered n 84 (lit< tt) h)
+sizes = (
+  plain,
+  λ n h. lettered n 75 2 refl (lit< tt) h,
+  λ n h. lettered n 77 (2 ^ 11) refl (lit< tt) h,
+  λ n h. lettered n 71 (2 ^ 21) refl (lit< tt) h,
+  λ n h. lettered n 84 (2 ^ 31) refl (lit< tt) h,
+)
 
 -- the letters that name a unit
-unit_letters : (c : ℕ) → 0 < unit_of c
-    → ((c ≡ 75) × (unit_of c ≡ 2)) ⊎ (((c ≡ 77) × (unit_of c ≡ 2 ^ 11)) ⊎ (((c ≡ 71) × (unit_of c ≡ 2 ^ 21)) ⊎ ((c ≡ 84) × (unit_of c ≡ 2 ^ 31))))
+abbrev Letter : ℕ → ℕ → Type 0
+Letter c u = ((c ≡ 75) × (u ≡ 2)) ⊎ (((c ≡ 77) × (u ≡ 2 ^ 11)) ⊎ (((c ≡ 71) × (u ≡ 2 ^ 21)) ⊎ ((c ≡ 84) × (u ≡ 2 ^ 31))))
+
+unit_letters : (c u : ℕ) → unit_of c ≡ Some u → Letter c u
 unfolding unit_of
-unit_letters c h = go (eqb c 75) (eqb c 77) (eqb c 71) (eqb c 84) refl refl refl refl h
+unit_letters c u h = go (eqb c 75) (eqb c 77) (eqb c 71) (eqb c 84) refl refl refl refl h
   where
     go : (p q r t : Bool) → p ≡ eqb c 75 → q ≡ eqb c 77 → r ≡ eqb c 71 → t ≡ eqb c 84
-        → 0 < cond p (2 ^ 1) (cond q (2 ^ 11) (cond r (2 ^ 21) (cond t (2 ^ 31) 0)))
-        → ((c ≡ 75) × (cond p (2 ^ 1) (cond q (2 ^ 11) (cond r (2 ^ 21) (cond t (2 ^ 31) 0))) ≡ 2))
-        ⊎ (((c ≡ 77) × (cond p (2 ^ 1) (cond q (2 ^ 11) (cond r (2 ^ 21) (cond t (2 ^ 31) 0))) ≡ 2 ^ 11))
-        ⊎ (((c ≡ 71) × (cond p (2 ^ 1) (cond q (2 ^ 11) (cond r (2 ^ 21) (cond t (2 ^ 31) 0))) ≡ 2 ^ 21))
-        ⊎ ((c ≡ 84) × (cond p (2 ^ 1) (cond q (2 ^ 11) (cond r (2 ^ 21) (cond t (2 ^ 31) 0))) ≡ 2 ^ 31))))
-    go true q r t e f g k h = inl (eqb-true c 75 (sym e), refl)
-    go false true r t e f g k h = inr (inl (eqb-true c 77 (sym f), refl))
-    go false false true t e f g k h = inr (inr (inl (eqb-true c 71 (sym g), refl)))
-    go false false false true e f g k h = inr (inr (inr (eqb-true c 84 (sym k), refl)))
-    go false false false false e f g k h = absurd (omega arith)
+        → cond p (Some (2 ^ 1)) (cond q (Some (2 ^ 11)) (cond r (Some (2 ^ 21)) (cond t (Some (2 ^ 31)) None))) ≡ Some u → Letter c u
+    go true q r t e f g k h = inl (eqb-true c 75 (sym e), sym (same_is (2 ^ 1) u h))
+    go false true r t e f g k h = inr (inl (eqb-true c 77 (sym f), sym (same_is (2 ^ 11) u h)))
+    go false false true t e f g k h = inr (inr (inl (eqb-true c 71 (sym g), sym (same_is (2 ^ 21) u h))))
+    go false false false true e f g k h = inr (inr (inr (eqb-true c 84 (sym k), sym (same_is (2 ^ 31) u h))))
+    go false false false false e f g k h = absurd (cc)
 
 -- a product that is said: of what number
-times-said : (u : ℕ) (a : Number) (x : ℕ) → times_of u a ≡ Is x → (n : ℕ) × (a ≡ Is n) × (x ≡ n * u) × (x < 2 ^ 64)
+times-said : (u : ℕ) (a : Option ℕ) (x : ℕ) → times_of u a ≡ Some x → (n : ℕ) × (a ≡ Some n) × (x ≡ n * u) × (x < 2 ^ 64)
 unfolding times_of
-times-said u (Is n) x e =
-    let o : (ltb (n * u) (2 ^ 64) ≡ true) × (Is (n * u) ≡ Is x) = said (ltb (n * u) (2 ^ 64)) (Is (n * u)) x e in
+times-said u (Some n) x e =
+    let o : (ltb (n * u) (2 ^ 64) ≡ true) × (Some (n * u) ≡ Some x) = said (ltb (n * u) (2 ^ 64)) (Some (n * u)) x e in
     let v : n * u ≡ x = same_is (n * u) x o.1 in
     let l : n * u < 2 ^ 64 = ltb-true (n * u) (2 ^ 64) o.0 in
     (n, refl, sym v, omega arith)
-times-said u Nothing x e = absurd (let z : ◌≡◌ {A = ℕ} 0 1 = cc in omega arith)
-
--- what a word says whose last character names a unit, and what any other says
-module _ (s : List ℕ) (x : ℕ) (e : sectors_of s ≡ Is x) where
-  in_units : 0 < unit_of (last s) → times_of (unit_of (last s)) (number_of (take (length s - 1) s)) ≡ Is x
-  unfolding sectors_of
-  in_units u = (rw (lt-ltb 0 (unit_of (last s)) u) at e)
-
-  in_sectors : unit_of (last s) ≤ 0 → number_of s ≡ Is x
-  unfolding sectors_of
-  in_sectors u = (rw (le-ltb 0 (unit_of (last s)) u) at e)
+times-said u None x e = absurd (let z : ◌≡◌ {A = ℕ} 0 1 = cc in omega arith)
 
 -- a word is what stands before its last character, and that character
 ends : (s : List ℕ) → 0 < length s → s ≡ take (length s - 1) s ++ (last s ∷ [])
@@ -152,82 +143,75 @@ some-before : (s : List ℕ) → 0 < length (take (length s - 1) s) → 0 < leng
 some-before [] h = h
 some-before (y ∷ t) h = omega arith
 
-size : (s : List ℕ) (x : ℕ) → sectors_of s ≡ Is x → Size s x
-size s x e =
-    elim (dec_le 1 (unit_of (last s))) [
-      | yes u ↦
-          let p : (n : ℕ) × (number_of (take (length s - 1) s) ≡ Is n) × (x ≡ n * unit_of (last s)) × (x < 2 ^ 64) =
-          times-said (unit_of (last s)) (number_of (take (length s - 1) s)) x (in_units s x e u) in
-          let o : (0 < length (take (length s - 1) s)) × (all_pass is_digit (take (length s - 1) s) ≡ true) × (value (take (length s - 1) s) ≡ p.0) × (p.0 < 2 ^ 64) =
-          digits-alone (take (length s - 1) s) p.0 p.1 in
-          of-letter (take (length s - 1) s) (last s) o.0 o.1 (ends s (some-before s o.0))
-          (p.2 ∙ ap (λ (z : ℕ). z * unit_of (last s)) (sym o.2)) p.3 (unit_letters (last s) u)
-      | no u ↦
-          let o : (0 < length s) × (all_pass is_digit s ≡ true) × (value s ≡ x) × (x < 2 ^ 64) = digits-alone s x (in_sectors s x e (omega arith)) in
-          record { d = s; some = o.0; digits = o.1; form = inl (refl, sym o.2); below = o.3 }
-    ]
+size : (s : List ℕ) (x : ℕ) → sectors_of s ≡ Some x → Size s x
+unfolding size_of
+size s x e = by_unit (unit_of (last s)) refl e
   where
-    of-letter : (d : List ℕ) (c : ℕ) → 0 < length d → all_pass is_digit d ≡ true → s ≡ d ++ (c ∷ []) → x ≡ value d * unit_of c → x < 2 ^ 64
-        → ((c ≡ 75) × (unit_of c ≡ 2)) ⊎ (((c ≡ 77) × (unit_of c ≡ 2 ^ 11)) ⊎ (((c ≡ 71) × (unit_of c ≡ 2 ^ 21)) ⊎ ((c ≡ 84) × (unit_of c ≡ 2 ^ 31))))
-        → Size s x
-    of-letter d c l a w v b k = record { d = d; some = l; digits = a; form = inr (go k); below = b }
+    of-letter : (d : List ℕ) (c u : ℕ) → 0 < length d → all_pass is_digit d ≡ true → s ≡ d ++ (c ∷ []) → x ≡ value d * u → x < 2 ^ 64
+        → Letter c u → Size s x
+    of-letter d c u l a w v b k = record { d = d; some = l; digits = a; form = inr (go k); below = b }
       where
-        to : (m u : ℕ) → c ≡ m → unit_of c ≡ u → Lettered s x d m u
-        to m u f g = record { word = w ∙ ap (λ (z : ℕ). d ++ (z ∷ [])) f; says = v ∙ ap (λ (z : ℕ). value d * z) g }
+        to : (m n : ℕ) → c ≡ m → u ≡ n → Lettered s x d m n
+        to m n f g = record { word = w ∙ ap (λ (z : ℕ). d ++ (z ∷ [])) f; says = v ∙ ap (λ (z : ℕ). value d * z) g }
 
-        go : ((c ≡ 75) × (unit_of c ≡ 2)) ⊎ (((c ≡ 77) × (unit_of c ≡ 2 ^ 11)) ⊎ (((c ≡ 71) × (unit_of c ≡ 2 ^ 21)) ⊎ ((c ≡ 84) × (unit_of c ≡ 2 ^ 31))))
-            → Lettered s x d 75 2 ⊎ (Lettered s x d 77 (2 ^ 11) ⊎ (Lettered s x d 71 (2 ^ 21) ⊎ Lettered s x d 84 (2 ^ 31)))
+        go : Letter c u → Lettered s x d 75 2 ⊎ (Lettered s x d 77 (2 ^ 11) ⊎ (Lettered s x d 71 (2 ^ 21) ⊎ Lettered s x d 84 (2 ^ 31)))
         go (inl f) = inl (to 75 2 f.0 f.1)
         go (inr (inl f)) = inr (inl (to 77 (2 ^ 11) f.0 f.1))
         go (inr (inr (inl f))) = inr (inr (inl (to 71 (2 ^ 21) f.0 f.1)))
         go (inr (inr (inr f))) = inr (inr (inr (to 84 (2 ^ 31) f.0 f.1)))
 
--- a letter whose unit is known
-with_letter : (s : List ℕ) (x : ℕ) (d : List ℕ) (c u : ℕ) → 0 < length d → all_pass is_digit d ≡ true → x < 2 ^ 64 → 0 < u → unit_of c ≡ u
-    → Lettered s x d c u → sectors_of s ≡ Is x
-with_letter s x d c u l a b h e r =
-    ap sectors_of r.word
-    ∙ (behind d l a c (let k : 0 < unit_of c = omega arith in k) (subst (λ (z : ℕ). z < 2 ^ 64) v b) ∙ ap Is (sym v))
-  where
-    v : x ≡ value d * unit_of c
-    v = r.says ∙ ap (λ (z : ℕ). value d * z) (sym e)
+    by_unit : (o : Option ℕ) → unit_of (last s) ≡ o → size_of s o ≡ Some x → Size s x
+    by_unit (Some u) f e =
+        let b : List ℕ = take (length s - 1) s in
+        let p : (n : ℕ) × (number_of b ≡ Some n) × (x ≡ n * u) × (x < 2 ^ 64) = times-said u (number_of b) x e in
+        let o : (0 < length b) × (all_pass is_digit b ≡ true) × (value b ≡ p.0) × (p.0 < 2 ^ 64) = digits-alone b p.0 p.1 in
+        of-letter b (last s) u o.0 o.1 (ends s (some-before s o.0)) (p.2 ∙ ap (λ (z : ℕ). z * u) (sym o.2)) p.3 (unit_letters (last s) u f)
+    by_unit None f e =
+        let o : (0 < length s) × (all_pass is_digit s ≡ true) × (value s ≡ x) × (x < 2 ^ 64) = digits-alone s x e in
+        record { d = s; some = o.0; digits = o.1; form = inl (refl, sym o.2); below = o.3 }
 
-size-read : (s : List ℕ) (x : ℕ) → Size s x → sectors_of s ≡ Is x
+-- a letter whose unit is known
+with_letter : (s : List ℕ) (x : ℕ) (d : List ℕ) (c u : ℕ) → 0 < length d → all_pass is_digit d ≡ true → x < 2 ^ 64 → unit_of c ≡ Some u → 0 < u
+    → Lettered s x d c u → sectors_of s ≡ Some x
+with_letter s x d c u l a b e h r =
+    ap sectors_of r.word ∙ (behind d l a c u e h (subst (λ (z : ℕ). z < 2 ^ 64) r.says b) ∙ ap Some (sym r.says))
+
+size-read : (s : List ℕ) (x : ℕ) → Size s x → sectors_of s ≡ Some x
 unfolding unit_of
 size-read s x z = go z.form
   where
     go : ((s ≡ z.d) × (x ≡ value z.d))
         ⊎ (Lettered s x z.d 75 2 ⊎ (Lettered s x z.d 77 (2 ^ 11) ⊎ (Lettered s x z.d 71 (2 ^ 21) ⊎ Lettered s x z.d 84 (2 ^ 31))))
-        → sectors_of s ≡ Is x
-    go (inl f) = ap sectors_of f.0 ∙ (alone z.d z.some z.digits (subst (λ (y : ℕ). y < 2 ^ 64) f.1 z.below) ∙ ap Is (sym f.1))
-    go (inr (inl f)) = with_letter s x z.d 75 2 z.some z.digits z.below (lit< tt) refl f
-    go (inr (inr (inl f))) = with_letter s x z.d 77 (2 ^ 11) z.some z.digits z.below (lit< tt) refl f
-    go (inr (inr (inr (inl f)))) = with_letter s x z.d 71 (2 ^ 21) z.some z.digits z.below (lit< tt) refl f
-    go (inr (inr (inr (inr f)))) = with_letter s x z.d 84 (2 ^ 31) z.some z.digits z.below (lit< tt) refl f
+        → sectors_of s ≡ Some x
+    go (inl f) = ap sectors_of f.0 ∙ (alone z.d z.some z.digits (subst (λ (y : ℕ). y < 2 ^ 64) f.1 z.below) ∙ ap Some (sym f.1))
+    go (inr (inl f)) = with_letter s x z.d 75 2 z.some z.digits z.below refl (lit< tt) f
+    go (inr (inr (inl f))) = with_letter s x z.d 77 (2 ^ 11) z.some z.digits z.below refl (lit< tt) f
+    go (inr (inr (inr (inl f)))) = with_letter s x z.d 71 (2 ^ 21) z.some z.digits z.below refl (lit< tt) f
+    go (inr (inr (inr (inr f)))) = with_letter s x z.d 84 (2 ^ 31) z.some z.digits z.below refl (lit< tt) f
 
 pub sizes_only : SizesOnly
 sizes_only = record { only = size; every = size-read }
 
 -- the names and digits, computed
-named : (s : List ℕ) (k : ℕ) → Names s k → kind_of s ≡ k
+named : (s : List ℕ) (k : ℕ) → Names s k → kind_of s ≡ Some k
 unfolding kind_of same
-named s k (inl (e, inl f)) = ap kind_of f ∙ sym e
-named s k (inl (e, inr f)) = ap kind_of f ∙ sym e
-named s k (inr (inl (e, inl f))) = ap kind_of f ∙ sym e
-named s k (inr (inl (e, inr f))) = ap kind_of f ∙ sym e
-named s k (inr (inr (inl (e, inl f)))) = ap kind_of f ∙ sym e
-named s k (inr (inr (inl (e, inr f)))) = ap kind_of f ∙ sym e
-named s k (inr (inr (inr (e, inl f)))) = ap kind_of f ∙ sym e
-named s k (inr (inr (inr (e, inr f)))) = ap kind_of f ∙ sym e
+named s k (inl (e, inl f)) = ap kind_of f ∙ ap Some (sym e)
+named s k (inl (e, inr f)) = ap kind_of f ∙ ap Some (sym e)
+named s k (inr (inl (e, inl f))) = ap kind_of f ∙ ap Some (sym e)
+named s k (inr (inl (e, inr f))) = ap kind_of f ∙ ap Some (sym e)
+named s k (inr (inr (inl (e, inl f)))) = ap kind_of f ∙ ap Some (sym e)
+named s k (inr (inr (inl (e, inr f)))) = ap kind_of f ∙ ap Some (sym e)
+named s k (inr (inr (inr (e, inl f)))) = ap kind_of f ∙ ap Some (sym e)
+named s k (inr (inr (inr (e, inr f)))) = ap kind_of f ∙ ap Some (sym e)
 
 -- of four tests, which held
-tested : (a b c d : Bool) (k : ℕ) → cond a 1 (cond b 2 (cond c 3 (cond d 4 0))) ≡ k → (k ≡ 0 → ⊥)
+tested : (a b c d : Bool) (k : ℕ) → cond a (Some 1) (cond b (Some 2) (cond c (Some 3) (cond d (Some 4) None))) ≡ Some k
     → ((k ≡ 1) × (a ≡ true)) ⊎ (((k ≡ 2) × (b ≡ true)) ⊎ (((k ≡ 3) × (c ≡ true)) ⊎ ((k ≡ 4) × (d ≡ true))))
-tested true b c d k e h = inl (sym e, refl)
-tested false true c d k e h = inr (inl (sym e, refl))
-tested false false true d k e h = inr (inr (inl (sym e, refl)))
-tested false false false true k e h = inr (inr (inr (sym e, refl)))
-tested false false false false k e h = absurd (h (sym e))
+tested true b c d k e = inl (sym (same_is 1 k e), refl)
+tested false true c d k e = inr (inl (sym (same_is 2 k e), refl))
+tested false false true d k e = inr (inr (inl (sym (same_is 3 k e), refl)))
+tested false false false true k e = inr (inr (inr (sym (same_is 4 k e), refl)))
+tested false false false false k e = absurd (cc)
 
 one_of : (s p q : List ℕ) → same s p || same s q ≡ true → (s ≡ p) ⊎ (s ≡ q)
 one_of s p q h = go (same s p) (same s q) refl refl h
@@ -236,9 +220,9 @@ one_of s p q h = go (same s p) (same s q) refl refl h
     go true b e f h = inl (same_equal s p (sym e))
     go false b e f h = inr (same_equal s q (sym f ∙ h))
 
-only_named : (s : List ℕ) (k : ℕ) → kind_of s ≡ k → (k ≡ 0 → ⊥) → Names s k
+only_named : (s : List ℕ) (k : ℕ) → kind_of s ≡ Some k → Names s k
 unfolding kind_of
-only_named s k e h = go (tested _ _ _ _ k e h)
+only_named s k e = go (tested _ _ _ _ k e)
   where
     go : ((k ≡ 1) × (same s thin_metadata || same s (49 ∷ []) ≡ true))
         ⊎ (((k ≡ 2) × (same s thin_data || same s (50 ∷ []) ≡ true))
@@ -249,12 +233,13 @@ only_named s k e h = go (tested _ _ _ _ k e h)
     go (inr (inr (inl f))) = inr (inr (inl (f.0, one_of s spare (51 ∷ []) f.1)))
     go (inr (inr (inr f))) = inr (inr (inr (f.0, one_of s metadata_volume (52 ∷ []) f.1)))
 
-none_named : (s : List ℕ) → ((k : ℕ) → Names s k → ⊥) → kind_of s ≡ 0
-none_named s h =
-    elim (dec_le 1 (kind_of s)) [
-      | yes l ↦ absurd (h (kind_of s) (only_named s (kind_of s) refl (λ e. omega arith)))
-      | no l ↦ omega arith
-    ]
+-- where a word says nothing of a kind there is none
+none_of : {A : Type 0} (o : Option A) → ((x : A) → o ≡ Some x → ⊥) → o ≡ None
+none_of (Some x) h = absurd (h x refl)
+none_of None h = refl
+
+none_named : (s : List ℕ) → ((k : ℕ) → Names s k → ⊥) → kind_of s ≡ None
+none_named s h = none_of (kind_of s) (λ k e. h k (only_named s k e))
 
 pub kinds : Kinds
 kinds = record { named = named; only = only_named; other = none_named }
@@ -355,21 +340,13 @@ module _ (a b c d e : List ℕ) (la : length a ≡ 8) (lb : length b ≡ 4) (lc 
 pub dashes : Dashes
 unfolding uuid_of
 dashes a b c d e la lb lc ld le =
-    ap (λ (z : List ℕ). cond (eqb (length z) 32) (hex_uuid (map lower z)) no_uuid) (same_digits a b c d e la lb lc ld le)
+    ap (λ (z : List ℕ). cond (eqb (length z) 32) (hex_uuid (map lower z)) None) (same_digits a b c d e la lb lc ld le)
 
--- what is given by two tests, and what is not
-abbrev answer : Bool → Bool → List ℕ → Uuid
-answer a b d = cond a (cond b (record { given = true; digits = d }) no_uuid) no_uuid
-
-given_both : (a b : Bool) (d : List ℕ) → (answer a b d).given ≡ true → (a ≡ true) × (b ≡ true) × ((answer a b d).digits ≡ d)
-given_both true true d h = (refl, refl, refl)
-given_both true false d h = absurd (true≢false (sym h))
-given_both false b d h = absurd (true≢false (sym h))
-
-not_given : (a b : Bool) (d : List ℕ) → (answer a b d).given ≡ false → (answer a b d).digits ≡ zeros 32
-not_given true true d h = absurd (true≢false h)
-not_given true false d h = refl
-not_given false b d h = refl
+-- what is given by two tests
+given_both : (a b : Bool) (d u : List ℕ) → cond a (cond b (Some d) None) None ≡ Some u → (a ≡ true) × (b ≡ true) × (u ≡ d)
+given_both true true d u h = (refl, refl, cc)
+given_both true false d u h = absurd (cc)
+given_both false b d u h = absurd (cc)
 
 -- from place i: a part of n characters, a dash, and what follows
 part : (s : List ℕ) (i n j : ℕ) → i + n ≡ j → j < length s → dash s j ≡ true → drop i s ≡ window s i n ++ (45 ∷ drop (suc j) s)
@@ -418,42 +395,41 @@ own_digits s = go (dashed s) refl
     go true e = inr (joined s, formed s (sym e), undashed-joined s true e refl)
     go false e = inl (undashed-same s false e refl)
 
-only_said : (s : List ℕ) → (uuid_of s).given ≡ true → Says s (uuid_of s).digits
+only_said : (s u : List ℕ) → uuid_of s ≡ Some u → Says s u
 unfolding uuid_of hex_uuid
-only_said s h =
-    let g : (eqb (length (undashed s)) 32 ≡ true) × (all_pass is_hex (map lower (undashed s)) ≡ true) × ((uuid_of s).digits ≡ map lower (undashed s)) =
-    given_both (eqb (length (undashed s)) 32) (all_pass is_hex (map lower (undashed s))) (map lower (undashed s)) h in
+only_said s u h =
+    let g : (eqb (length (undashed s)) 32 ≡ true) × (all_pass is_hex (map lower (undashed s)) ≡ true) × (u ≡ map lower (undashed s)) =
+    given_both (eqb (length (undashed s)) 32) (all_pass is_hex (map lower (undashed s))) (map lower (undashed s)) u h in
     record {
       long = ap length g.2 ∙ (length-map (undashed s) lower ∙ eqb-true (length (undashed s)) 32 g.0);
       hex = ap (all_pass is_hex) g.2 ∙ g.1;
-      own = go (uuid_of s).digits g.2 (own_digits s);
+      own = go g.2 (own_digits s);
     }
   where
-    go : (u : List ℕ) → u ≡ map lower (undashed s) → (undashed s ≡ s) ⊎ ((j : List ℕ) × Form s j × (undashed s ≡ j))
+    go : u ≡ map lower (undashed s) → (undashed s ≡ s) ⊎ ((j : List ℕ) × Form s j × (undashed s ≡ j))
         → (u ≡ map lower s) ⊎ ((j : List ℕ) × Form s j × (u ≡ map lower j))
-    go u e (inl f) = inl (e ∙ ap (map lower) f)
-    go u e (inr f) = inr (f.0, f.1, e ∙ ap (map lower) f.2)
+    go e (inl f) = inl (e ∙ ap (map lower) f)
+    go e (inr f) = inr (f.0, f.1, e ∙ ap (map lower) f.2)
 
 -- a word of 32 characters that are hex digits, once they are small
-own_said : (s u : List ℕ) → length u ≡ 32 → all_pass is_hex u ≡ true → u ≡ map lower s → uuid_of s ≡ record { given = true; digits = u }
+own_said : (s u : List ℕ) → length u ≡ 32 → all_pass is_hex u ≡ true → u ≡ map lower s → uuid_of s ≡ Some u
 unfolding uuid_of hex_uuid
 own_said s u l a e =
     let h : length s ≡ 32 = sym (length-map s lower) ∙ (ap length (sym e) ∙ l) in
     rw (undashed-same s false (not_dashed s h) refl, eq-eqb (length s) 32 h, ← e, a)
 
-said-given : (s u : List ℕ) → Says s u → uuid_of s ≡ record { given = true; digits = u }
+said-given : (s u : List ℕ) → Says s u → uuid_of s ≡ Some u
 said-given s u y = go y.own
   where
-    go : (u ≡ map lower s) ⊎ ((j : List ℕ) × Form s j × (u ≡ map lower j)) → uuid_of s ≡ record { given = true; digits = u }
+    go : (u ≡ map lower s) ⊎ ((j : List ℕ) × Form s j × (u ≡ map lower j)) → uuid_of s ≡ Some u
     go (inl e) = own_said s u y.long y.hex e
     go (inr (j, f, e)) =
         ap uuid_of f.word
         ∙ (dashes f.a f.b f.c f.d f.e f.long_a f.long_b f.long_c f.long_d f.long_e
         ∙ (ap uuid_of (sym f.left) ∙ own_said j u y.long y.hex e))
 
-none_said : (s : List ℕ) → (uuid_of s).given ≡ false → (uuid_of s).digits ≡ zeros 32
-unfolding uuid_of hex_uuid
-none_said s h = not_given (eqb (length (undashed s)) 32) (all_pass is_hex (map lower (undashed s))) (map lower (undashed s)) h
+none_said : (s : List ℕ) → ((u : List ℕ) → Says s u → ⊥) → uuid_of s ≡ None
+none_said s h = none_of (uuid_of s) (λ u e. h u (only_said s u e))
 
 -- what is done to each character is done to each part
 module _ (f : ℕ → ℕ) where
@@ -553,7 +529,7 @@ all_lower-upper (x ∷ s) = ap₂ (λ (y : ℕ) (ys : List ℕ). y ∷ ys) (lowe
 in_capitals : (s : List ℕ) → uuid_of (map upper s) ≡ uuid_of s
 unfolding uuid_of
 in_capitals s =
-    ap₂ (λ (n : ℕ) (l : List ℕ). cond (eqb n 32) (hex_uuid l) no_uuid)
+    ap₂ (λ (n : ℕ) (l : List ℕ). cond (eqb n 32) (hex_uuid l) None)
     (ap length (undashed_capitals s) ∙ length-map (undashed s) upper)
     (ap (map lower) (undashed_capitals s) ∙ all_lower-upper (undashed s))
 

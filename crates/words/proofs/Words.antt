@@ -1,25 +1,19 @@
 -- Laws of the words, as the functions that read them have it: results as variables, each with what its call promised.
-use Prim.Native.Nat.{ℕ, ◌+◌, ◌-◌, ◌*◌, ◌/◌, ◌^◌, ◌≤◌, ◌<◌}
+use Rattle.std.proofs.Common.{Some, None, Option}
+use Prim.Native.Nat.{ℕ, ◌+◌, ◌-◌, ◌*◌, ◌^◌, ◌≤◌, ◌<◌}
 use mathlib.Core.Path.{◌≡◌, refl, sym, ap, ap₂, ◌∙◌}
-use mathlib.Core.Bool.{Bool, true, false, not, ◌&&◌}
+use mathlib.Core.Bool.{Bool, true, false, cond, ◌&&◌}
 use mathlib.Core.List.{List, [], ◌∷◌, ◌++◌, map, map-append, append-nil}
-use native.Mathlib.Decide.{dec_le}
-use native.Mathlib.Nat.{le-div_iff_mul-le}
 use native.Mathlib.Numerals.{add-one}
 use native.Mathlib.Omega.{arith}
-use borrow.Author.Tests.{lt-ltb, le-ltb, ltb-true, ltb-false, le-leb, lt-leb, eqb-true, eq-eqb, ne_eqb, not-true, not-false}
-use lib.Dec.{leb, ltb}
+use borrow.Author.Tests.{lt-ltb, le-ltb, eqb-true, eq-eqb, ne_eqb}
 use lib.ListN.{length, get_or, take, drop, set, length-append, length-map, drop_of_length-le, get_or-eq_default}
-use lib.Seq.{drop-cons, take-suc, take_all, set_at, append_snoc, length-take-le}
+use lib.Seq.{get_or_at, drop-cons, take-suc, take_all, set_at, append_snoc, length-take-le}
 use Rattle.endian.specs.Bytes.{window, splice, all_pass, zeros}
 use Rattle.endian.proofs.Parts.{length-window-fits, splice_next, splice-whole}
 use Rattle.endian.proofs.Tests.{and_left, length-zeros}
 use Rattle.text.specs.Decimal.{value_after, is_digit}
-use Rattle.block.specs.Block.{is_hex}
-use Rattle.words.specs.declared.answers.Number.{Number}
-use Rattle.words.specs.declared.answers.Number.TheVariants.{Is, Nothing}
-use Rattle.words.specs.declared.answers.Uuid.{Uuid}
-use Rattle.words.specs.Words.{number_after, number_of, unit_of, times_of, sectors_of, last, dash, dashed, joined, undashed, lower, no_uuid, hex_uuid, uuid_of}
+use Rattle.words.specs.Words.{digit_of, number_after, number_of, dash, dashed, joined, undashed, lower, hex_uuid, uuid_of}
 
 -- digits only add
 value_grows : (v : ℕ) (s : List ℕ) → v ≤ value_after v s
@@ -32,11 +26,11 @@ and_false true = refl
 and_false false = refl
 
 -- the first character: no digit, one digit too many, or a digit
-after_stop : (v x : ℕ) (t : List ℕ) → is_digit x ≡ false → number_after v (x ∷ t) ≡ Nothing
+after_stop : (v x : ℕ) (t : List ℕ) → is_digit x ≡ false → number_after v (x ∷ t) ≡ None
 unfolding number_after all_pass
 after_stop v x t h = rw h
 
-after_over : (v x : ℕ) (t : List ℕ) → 2 ^ 64 ≤ v * 10 + (x - 48) → number_after v (x ∷ t) ≡ Nothing
+after_over : (v x : ℕ) (t : List ℕ) → 2 ^ 64 ≤ v * 10 + (x - 48) → number_after v (x ∷ t) ≡ None
 unfolding number_after value_after
 after_over v x t h =
     rw
@@ -46,22 +40,31 @@ after_next : (v x : ℕ) (t : List ℕ) → is_digit x ≡ true → number_after
 unfolding number_after value_after all_pass
 after_next v x t h = rw h
 
-after-done : (v : ℕ) → v < 2 ^ 64 → number_after v [] ≡ Is v
+after-done : (v : ℕ) → v < 2 ^ 64 → number_after v [] ≡ Some v
 unfolding number_after value_after all_pass
 after-done v h = rw (lt-ltb v (2 ^ 64) h)
+
+-- what a digit stands for, and that there is none
+a_digit : (c d : ℕ) → digit_of c ≡ Some d → (is_digit c ≡ true) × (d ≡ c - 48)
+unfolding digit_of
+a_digit c d e = go (is_digit c) refl e
+  where
+    go : (r : Bool) → r ≡ is_digit c → cond r (Some (c - 48)) None ≡ Some d → (is_digit c ≡ true) × (d ≡ c - 48)
+    go true f g = (sym f, cc)
+    go false f g = absurd (cc)
+
+no_digit : (c : ℕ) → digit_of c ≡ None → is_digit c ≡ false
+unfolding digit_of
+no_digit c e = go (is_digit c) refl e
+  where
+    go : (r : Bool) → r ≡ is_digit c → cond r (Some (c - 48)) None ≡ None → is_digit c ≡ false
+    go true f g = absurd (cc)
+    go false f g = sym f
 
 left : (s : List ℕ) (i : ℕ) → i < length s → drop i s ≡ get_or s i 0 ∷ drop (i + 1) s
 left s i h = rw (add-one i) (drop-cons s i 0 h)
 
--- the test of one digit more, where the product fits
-pub fits_test : (v d : ℕ) → v ≤ 1844674407370955161 → leb d (18446744073709551615 - v * 10) ≡ ltb (v * 10 + d) (2 ^ 64)
-fits_test v d h =
-    elim (dec_le d (18446744073709551615 - v * 10)) [
-      | yes l ↦ le-leb d (18446744073709551615 - v * 10) l ∙ sym (lt-ltb (v * 10 + d) (2 ^ 64) (omega arith))
-      | no l ↦ lt-leb d (18446744073709551615 - v * 10) (omega arith) ∙ sym (le-ltb (v * 10 + d) (2 ^ 64) (omega arith))
-    ]
-
-pub number-none : (s : List ℕ) → length s ≡ 0 → Nothing ≡ number_of s
+pub number-none : (s : List ℕ) → length s ≡ 0 → None ≡ number_of s
 unfolding number_of
 number-none s e = rw (le-ltb 0 (length s) (let l : length s ≤ 0 = omega arith in l))
 
@@ -69,62 +72,26 @@ pub number_start : (s : List ℕ) → (length s ≡ 0 → ⊥) → number_after 
 unfolding number_of
 number_start s h = rw (lt-ltb 0 (length s) (let l : 0 < length s = omega arith in l))
 
--- at place i, with v before it
-module _ (s : List ℕ) (i v : ℕ) (whole : number_after v (drop i s) ≡ number_of s) where
-  pub number_stop : (r : Bool) → i < length s → r ≡ is_digit (get_or s i 0) → not r ≡ true → Nothing ≡ number_of s
-  number_stop r h e f = sym (after_stop v (get_or s i 0) (drop (i + 1) s) (sym e ∙ not-true r f)) ∙ (ap (number_after v) (sym (left s i h)) ∙ whole)
+-- at place i, with v before it, and the digit there
+module _ (s : List ℕ) (i v : ℕ) (o : Option ℕ) (h : i < length s) (read : o ≡ digit_of (get_or s i 0)) (whole : number_after v (drop i s) ≡ number_of s) where
+  pub number_stop : o ≡ None → None ≡ number_of s
+  unfolding digit_of
+  number_stop f = sym (after_stop v (get_or s i 0) (drop (i + 1) s) (no_digit (get_or s i 0) (sym read ∙ f))) ∙ (ap (number_after v) (sym (left s i h)) ∙ whole)
 
-  pub number_over : (d : ℕ) (r : Bool) → i < length s → d ≡ get_or s i 0 - 48 → r ≡ ltb (v * 10 + d) (2 ^ 64) → not r ≡ true → Nothing ≡ number_of s
-  number_over d r h e t f =
-      let l : 2 ^ 64 ≤ v * 10 + d = ltb-false (v * 10 + d) (2 ^ 64) (sym t ∙ not-true r f) in
-      sym (after_over v (get_or s i 0) (drop (i + 1) s) (omega arith)) ∙ (ap (number_after v) (sym (left s i h)) ∙ whole)
+  module _ (d : ℕ) (f : o ≡ Some d) where
+    pub number_over : 2 ^ 64 ≤ v * 10 + d → None ≡ number_of s
+    number_over l =
+        let e : d ≡ get_or s i 0 - 48 = (a_digit (get_or s i 0) d (sym read ∙ f)).1 in
+        sym (after_over v (get_or s i 0) (drop (i + 1) s) (omega arith)) ∙ (ap (number_after v) (sym (left s i h)) ∙ whole)
 
-  pub number_next : (d : ℕ) (r : Bool) → i < length s → r ≡ is_digit (get_or s i 0) → not r ≡ false → d ≡ get_or s i 0 - 48
-      → number_after (v * 10 + d) (drop (i + 1) s) ≡ number_of s
-  number_next d r h t f e =
-      ap (λ (z : ℕ). number_after (v * 10 + z) (drop (i + 1) s)) e
-      ∙ (sym (after_next v (get_or s i 0) (drop (i + 1) s) (sym t ∙ not-false r f)) ∙ (ap (number_after v) (sym (left s i h)) ∙ whole))
+    pub number_next : number_after (v * 10 + d) (drop (i + 1) s) ≡ number_of s
+    number_next =
+        let e : (is_digit (get_or s i 0) ≡ true) × (d ≡ get_or s i 0 - 48) = a_digit (get_or s i 0) d (sym read ∙ f) in
+        ap (λ (z : ℕ). number_after (v * 10 + z) (drop (i + 1) s)) e.1
+        ∙ (sym (after_next v (get_or s i 0) (drop (i + 1) s) e.0) ∙ (ap (number_after v) (sym (left s i h)) ∙ whole))
 
-  pub number-done : length s ≤ i → v < 2 ^ 64 → Is v ≡ number_of s
-  number-done h l = sym (after-done v l) ∙ (ap (number_after v) (sym (drop_of_length-le s h)) ∙ whole)
-
-pub below : (x : ℕ) (r : Bool) → r ≡ ltb x (2 ^ 64) → not r ≡ false → x < 2 ^ 64
-below x r e f = ltb-true x (2 ^ 64) (sym e ∙ not-false r f)
-
-module _ (u : ℕ) (some : 0 < u) (a : Number) where
-  pub times_none : a ≡ Nothing → Nothing ≡ times_of u a
-  unfolding times_of
-  times_none e = rw e
-
-  pub times-fits : (n : ℕ) → n ≤ 18446744073709551615 / u → n * u < 2 ^ 64
-  times-fits n h = let l : n * u ≤ 18446744073709551615 = (le-div_iff_mul-le some).0 h in omega arith
-
-  pub times_over : (n : ℕ) → a ≡ Is n → 18446744073709551615 / u < n → Nothing ≡ times_of u a
-  unfolding times_of
-  times_over n e h =
-      rw (e, le-ltb (n * u) (2 ^ 64) (over (dec_le (2 ^ 64) (n * u))))
-    where
-      over : Dec (2 ^ 64 ≤ n * u) → 2 ^ 64 ≤ n * u
-      over (yes l) = l
-      over (no l) = absurd (let m : n ≤ 18446744073709551615 / u = (le-div_iff_mul-le some).1 (omega arith) in omega arith)
-
-  pub times_is : (n : ℕ) → a ≡ Is n → n ≤ 18446744073709551615 / u → Is (n * u) ≡ times_of u a
-  unfolding times_of
-  times_is n e h = rw (e, lt-ltb (n * u) (2 ^ 64) (times-fits n h))
-
-pub sectors-none : (s : List ℕ) → length s ≡ 0 → Nothing ≡ sectors_of s
-unfolding sectors_of unit_of
-sectors-none [] e = number-none [] e
-sectors-none (x ∷ s) e = absurd (omega arith)
-
-module _ (s : List ℕ) (u : ℕ) (named : u ≡ unit_of (last s)) where
-  pub sectors-number : u ≡ 0 → number_of s ≡ sectors_of s
-  unfolding sectors_of
-  sectors-number z = rw (le-ltb 0 (unit_of (last s)) (let l : unit_of (last s) ≤ 0 = omega arith in l))
-
-  pub sectors-times : (a r : Number) → (u ≡ 0 → ⊥) → a ≡ number_of (take (length s - 1) s) → r ≡ times_of u a → r ≡ sectors_of s
-  unfolding sectors_of
-  sectors-times a r z e f = rw (lt-ltb 0 (unit_of (last s)) (let l : 0 < unit_of (last s) = omega arith in l)) (f ∙ ap₂ times_of named e)
+pub number-done : (s : List ℕ) (i v : ℕ) → number_after v (drop i s) ≡ number_of s → length s ≤ i → v < 2 ^ 64 → Some v ≡ number_of s
+number-done s i v whole h l = sym (after-done v l) ∙ (ap (number_after v) (sym (drop_of_length-le s h)) ∙ whole)
 
 -- past the end there is no dash
 pub no_dash : (s : List ℕ) (i : ℕ) → length s ≤ i → false ≡ dash s i
@@ -164,11 +131,13 @@ length-joined s h =
     (rw (length-window-fits s 0 8 (let l : 0 + 8 ≤ length s = omega arith in l), length-window-fits s 9 4 (let l : 9 + 4 ≤ length s = omega arith in l), length-window-fits s 14 4 (let l : 14 + 4 ≤ length s = omega arith in l), length-window-fits s 19 4 (let l : 19 + 4 ≤ length s = omega arith in l), length-window-fits s 24 12 (let l : 24 + 12 ≤ length s = omega arith in l)))
 
 -- one character more is small
-pub lower_next : (d l : List ℕ) (i w : ℕ) → i < length d → w ≡ lower (get_or d i 0)
+pub lower_next : (d l : List ℕ) (i w : ℕ) → i < length d → w ≡ lower (get_or l i 0)
     → l ≡ map lower (take i d) ++ drop i d → set l i w ≡ map lower (take (i + 1) d) ++ drop (i + 1) d
 lower_next d l i w h e f =
     let n : length (map lower (take i d)) ≡ i = length-map (take i d) lower ∙ length-take-le i d (omega arith) in
-    ap₂ (λ (x : List ℕ) (y : ℕ). set x i y) (f ∙ ap (λ (z : List ℕ). map lower (take i d) ++ z) (left d i h)) e
+    let g : l ≡ map lower (take i d) ++ (get_or d i 0 ∷ drop (i + 1) d) = f ∙ ap (λ (z : List ℕ). map lower (take i d) ++ z) (left d i h) in
+    let r : get_or l i 0 ≡ get_or d i 0 = ap (λ (z : List ℕ). get_or z i 0) g ∙ get_or_at (map lower (take i d)) (get_or d i 0) (drop (i + 1) d) 0 i n in
+    ap₂ (λ (x : List ℕ) (y : ℕ). set x i y) g (e ∙ ap lower r)
     ∙ (set_at (map lower (take i d)) (get_or d i 0) (drop (i + 1) d) (lower (get_or d i 0)) i n
     ∙ (sym (append_snoc (map lower (take i d)) (lower (get_or d i 0)) (drop (i + 1) d))
     ∙ ap (λ (z : List ℕ). z ++ drop (i + 1) d)
@@ -176,14 +145,6 @@ lower_next d l i w h e f =
 
 pub lower-done : (d l : List ℕ) (i : ℕ) → length d ≤ i → l ≡ map lower (take i d) ++ drop i d → l ≡ map lower d
 lower-done d l i h f = f ∙ (ap₂ (λ (x y : List ℕ). map lower x ++ y) (take_all i d h) (drop_of_length-le d h) ∙ append-nil (map lower d))
-
-pub hex-none : (l m : List ℕ) (r : Bool) → l ≡ m → r ≡ all_pass is_hex l → not r ≡ true → no_uuid ≡ hex_uuid m
-unfolding hex_uuid
-hex-none l m r e t f = rw (← e, ← t, not-true r f)
-
-pub hex-given : (l m : List ℕ) (r : Bool) → l ≡ m → r ≡ all_pass is_hex l → not r ≡ false → record { given = true; digits = l } ≡ hex_uuid m
-unfolding hex_uuid
-hex-given l m r e t f = rw (← e, ← t, not-false r f)
 
 module _ (s : List ℕ) (r : Bool) (tested : r ≡ dashed s) where
   pub undashed-joined : r ≡ true → undashed s ≡ joined s
@@ -194,16 +155,16 @@ module _ (s : List ℕ) (r : Bool) (tested : r ≡ dashed s) where
   unfolding undashed
   undashed-same f = rw (sym tested ∙ f)
 
-  pub uuid-dashed : (j : List ℕ) (x : Uuid) → r ≡ true → j ≡ joined s → x ≡ hex_uuid (map lower j) → x ≡ uuid_of s
+  pub uuid-dashed : (j : List ℕ) (x : Option (List ℕ)) → r ≡ true → j ≡ joined s → x ≡ hex_uuid (map lower j) → x ≡ uuid_of s
   unfolding uuid_of
   uuid-dashed j x f e g =
       rw (undashed-joined f, eq-eqb (length (joined s)) 32 (length-joined s (dashed-length s r tested f))) (g ∙ ap (λ (z : List ℕ). hex_uuid (map lower z)) e)
 
-  pub uuid-none : r ≡ false → (length s ≡ 32 → ⊥) → no_uuid ≡ uuid_of s
+  pub uuid-none : r ≡ false → (length s ≡ 32 → ⊥) → None ≡ uuid_of s
   unfolding uuid_of
   uuid-none f h = rw (undashed-same f, ne_eqb (length s) 32 h)
 
-  pub uuid-plain : (d : List ℕ) (x : Uuid) → r ≡ false → length s ≡ 32 → d ≡ splice (zeros 32) 0 s → x ≡ hex_uuid (map lower d) → x ≡ uuid_of s
+  pub uuid-plain : (d : List ℕ) (x : Option (List ℕ)) → r ≡ false → length s ≡ 32 → d ≡ splice (zeros 32) 0 s → x ≡ hex_uuid (map lower d) → x ≡ uuid_of s
   unfolding uuid_of
   uuid-plain d x f h e g =
       rw (undashed-same f, eq-eqb (length s) 32 h) (g ∙ ap (λ (z : List ℕ). hex_uuid (map lower z)) (e ∙ splice-whole (zeros 32) s (h ∙ sym (length-zeros 32))))

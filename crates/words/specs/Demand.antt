@@ -1,27 +1,26 @@
 -- What holds of the words, in other terms. `proofs/Demand.antt` proves it.
-use Rattle.std.specs.Prelude.{ℕ, ◌+◌, ◌-◌, ◌*◌, ◌^◌, ◌≤◌, ◌<◌, ◌≡◌, true, false, cond, ◌&&◌, ◌⊎◌, List, [], ◌∷◌, ◌++◌, map, leb, length}
+use Rattle.std.specs.Prelude.{Some, None, ℕ, ◌+◌, ◌-◌, ◌*◌, ◌^◌, ◌≤◌, ◌<◌, ◌≡◌, true, cond, ◌&&◌, ◌⊎◌, List, [], ◌∷◌, ◌++◌, map, leb, length}
 use Rattle.refusal.specs.Words.{ascii}
-use Rattle.endian.specs.Bytes.{all_pass, zeros}
+use Rattle.endian.specs.Bytes.{all_pass}
 use Rattle.text.specs.Decimal.{decimal, value, is_digit}
 use Rattle.block.specs.Block.{is_hex}
-use Rattle.words.specs.declared.answers.Number.TheVariants.{Is, Nothing}
 use Rattle.words.specs.Words.{number_of, sectors_of, kind_of, lower, uuid_of}
 
 -- Every number of 64 bits is read back from its decimal digits.
 abbrev pub ReadBack : Type 0
-ReadBack = (n : ℕ) → n < 2 ^ 64 → number_of (decimal n) ≡ Is n
+ReadBack = (n : ℕ) → n < 2 ^ 64 → number_of (decimal n) ≡ Some n
 
 -- A word that says a number is that number's digits, leading zeros or none.
 abbrev pub DigitsAlone : Type 0
-DigitsAlone = (s : List ℕ) (n : ℕ) → number_of s ≡ Is n → (0 < length s) × (all_pass is_digit s ≡ true) × (value s ≡ n) × (n < 2 ^ 64)
+DigitsAlone = (s : List ℕ) (n : ℕ) → number_of s ≡ Some n → (0 < length s) × (all_pass is_digit s ≡ true) × (value s ≡ n) × (n < 2 ^ 64)
 
 -- Every word of digits says the number that they make, leading zeros or none, where it is below 2^64, and else nothing.
 -- No other word says a number.
 pub record Numbers : Type 0 where
   -- digits of a number below 2^64 say it
-  pub below : (s : List ℕ) → 0 < length s → all_pass is_digit s ≡ true → value s < 2 ^ 64 → number_of s ≡ Is (value s)
+  pub below : (s : List ℕ) → 0 < length s → all_pass is_digit s ≡ true → value s < 2 ^ 64 → number_of s ≡ Some (value s)
   -- digits of any other say nothing
-  pub above : (s : List ℕ) → 0 < length s → all_pass is_digit s ≡ true → 2 ^ 64 ≤ value s → number_of s ≡ Nothing
+  pub above : (s : List ℕ) → 0 < length s → all_pass is_digit s ≡ true → 2 ^ 64 ≤ value s → number_of s ≡ None
   -- a zero in front changes nothing
   pub leading : (s : List ℕ) → 0 < length s → number_of (48 ∷ s) ≡ number_of s
   -- nothing but digits says a number
@@ -30,11 +29,11 @@ pub record Numbers : Type 0 where
 -- A number is a size in sectors, and with K, M, G or T behind it twice, 2^11, 2^21 or 2^31 times as many, where they fit.
 abbrev pub Sizes : Type 0
 Sizes =
-    ((n : ℕ) → n < 2 ^ 64 → sectors_of (decimal n) ≡ Is n)
-    × ((n : ℕ) → n * 2 < 2 ^ 64 → sectors_of (decimal n ++ (75 ∷ [])) ≡ Is (n * 2))
-    × ((n : ℕ) → n * 2 ^ 11 < 2 ^ 64 → sectors_of (decimal n ++ (77 ∷ [])) ≡ Is (n * 2 ^ 11))
-    × ((n : ℕ) → n * 2 ^ 21 < 2 ^ 64 → sectors_of (decimal n ++ (71 ∷ [])) ≡ Is (n * 2 ^ 21))
-    × ((n : ℕ) → n * 2 ^ 31 < 2 ^ 64 → sectors_of (decimal n ++ (84 ∷ [])) ≡ Is (n * 2 ^ 31))
+    ((n : ℕ) → n < 2 ^ 64 → sectors_of (decimal n) ≡ Some n)
+    × ((n : ℕ) → n * 2 < 2 ^ 64 → sectors_of (decimal n ++ (75 ∷ [])) ≡ Some (n * 2))
+    × ((n : ℕ) → n * 2 ^ 11 < 2 ^ 64 → sectors_of (decimal n ++ (77 ∷ [])) ≡ Some (n * 2 ^ 11))
+    × ((n : ℕ) → n * 2 ^ 21 < 2 ^ 64 → sectors_of (decimal n ++ (71 ∷ [])) ≡ Some (n * 2 ^ 21))
+    × ((n : ℕ) → n * 2 ^ 31 < 2 ^ 64 → sectors_of (decimal n ++ (84 ∷ [])) ≡ Some (n * 2 ^ 31))
 
 -- a word of the digits d and the letter c behind them, which says x, as many units of u sectors as the digits say
 pub record Lettered (s : List ℕ) (x : ℕ) (d : List ℕ) (c u : ℕ) : Type 0 where
@@ -54,9 +53,9 @@ pub record Size (s : List ℕ) (x : ℕ) : Type 0 where
 -- The sizes are exactly these: no other letter, nothing in front, leading zeros or none, and no product is cut to 64 bits.
 pub record SizesOnly : Type 0 where
   -- a word that is read is a size, of so many sectors
-  pub only : (s : List ℕ) (x : ℕ) → sectors_of s ≡ Is x → Size s x
+  pub only : (s : List ℕ) (x : ℕ) → sectors_of s ≡ Some x → Size s x
   -- a size is read, and as that
-  pub every : (s : List ℕ) (x : ℕ) → Size s x → sectors_of s ≡ Is x
+  pub every : (s : List ℕ) (x : ℕ) → Size s x → sectors_of s ≡ Some x
 
 -- a word that names kind k: its name or its digit
 abbrev pub Names : List ℕ → ℕ → Type 0
@@ -66,19 +65,19 @@ Names s k =
     ⊎ (((k ≡ 3) × ((s ≡ ascii "spare") ⊎ (s ≡ ascii "3")))
     ⊎ ((k ≡ 4) × ((s ≡ ascii "metadata-volume") ⊎ (s ≡ ascii "4")))))
 
--- The four names and the four digits are kinds 1 to 4, and every other word is 0.
+-- The four names and the four digits are kinds 1 to 4, and every other word is none.
 pub record Kinds : Type 0 where
   -- the name and the digit of a kind say it
-  pub named : (s : List ℕ) (k : ℕ) → Names s k → kind_of s ≡ k
+  pub named : (s : List ℕ) (k : ℕ) → Names s k → kind_of s ≡ Some k
   -- a word that says a kind is its name or its digit
-  pub only : (s : List ℕ) (k : ℕ) → kind_of s ≡ k → (k ≡ 0 → ⊥) → Names s k
-  -- a word that names none says 0
-  pub other : (s : List ℕ) → ((k : ℕ) → Names s k → ⊥) → kind_of s ≡ 0
+  pub only : (s : List ℕ) (k : ℕ) → kind_of s ≡ Some k → Names s k
+  -- a word that names none says none
+  pub other : (s : List ℕ) → ((k : ℕ) → Names s k → ⊥) → kind_of s ≡ None
 
 -- 32 hex digits in small letters come back as they are, also where dashes stand between them.
 abbrev pub Digits : Type 0
 Digits =
-    (s : List ℕ) → length s ≡ 32 → all_pass is_hex s ≡ true → uuid_of s ≡ record { given = true; digits = s }
+    (s : List ℕ) → length s ≡ 32 → all_pass is_hex s ≡ true → uuid_of s ≡ Some s
 
 abbrev pub Dashes : Type 0
 Dashes =
@@ -110,14 +109,14 @@ pub record Says (s u : List ℕ) : Type 0 where
 abbrev pub upper : ℕ → ℕ
 upper c = cond (leb 97 c && leb c 102) (c - 32) c
 
--- The UUIDs are exactly these, and a word that says none gives zeros.
+-- The UUIDs are exactly these.
 pub record Uuids : Type 0 where
   -- a UUID that is given is one that the word says
-  pub only : (s : List ℕ) → (uuid_of s).given ≡ true → Says s (uuid_of s).digits
+  pub only : (s u : List ℕ) → uuid_of s ≡ Some u → Says s u
   -- a UUID that a word says is given
-  pub every : (s u : List ℕ) → Says s u → uuid_of s ≡ record { given = true; digits = u }
-  -- where none is given the digits are zeros
-  pub none : (s : List ℕ) → (uuid_of s).given ≡ false → (uuid_of s).digits ≡ zeros 32
+  pub every : (s u : List ℕ) → Says s u → uuid_of s ≡ Some u
+  -- where the word says none, none is given
+  pub none : (s : List ℕ) → ((u : List ℕ) → Says s u → ⊥) → uuid_of s ≡ None
   -- a word in capitals says the same
   pub capitals : (s : List ℕ) → uuid_of (map upper s) ≡ uuid_of s
   -- small means: A to F are a to f, and every other character is as it was

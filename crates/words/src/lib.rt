@@ -2,111 +2,60 @@
 // Every call is total.
 #![tactic(auto)]
 
-ghost use Rattle.std.specs.Prelude.{◌≡◌, ◌||◌, map, ◌+◌, ◌-◌, ◌*◌, ◌^◌, ◌<◌, ltb, length};
+ghost use Rattle.std.specs.Prelude.{◌≡◌, ◌||◌, map, length};
 ghost use Rattle.endian.specs.Bytes.{same};
-ghost use Rattle.text.specs.Decimal.{is_digit};
-ghost use Rattle.words.specs.Words.{number_of, unit_of, times_of, sectors_of, kind_of, dash, dashed, joined, lower, hex_uuid, uuid_of};
+ghost use Rattle.words.specs.Words.{digit_of, number_of, unit_of, sectors_of, kind_of, dash, dashed, joined, lower, hex_uuid, uuid_of};
 
-mod answers;
-
-pub use answers::{Number, Uuid};
-
-// Whether c is a decimal digit.
-fn is_digit(c: u8) -> bool
-    ensures { result ≡ is_digit c }
+// What the decimal digit c stands for.
+#[tactic(auto, unfolding(crate::specs::Words::digit_of))]
+fn digit(c: u8) -> Option<u64>
+    ensures { result ≡ digit_of c }
 {
-    (48 <= c) & (c <= 57)
-}
-
-// What the digit c stands for.
-fn worth(c: u8) -> u64
-    ensures { result ≡ c - 48 }
-{
-    if c < 48 {
-        return 0;
+    match c {
+        b'0'..=b'9' => Some((c - b'0') as u64),
+        _ => None,
     }
-    (c - 48) as u64
 }
 
-// Whether the number v with one more digit, worth d, is one of 64 bits.
-fn fits(v: u64, d: u64) -> bool
-    ensures { result ≡ ltb (v * 10 + d) (2 ^ 64) }
-{
-    if 1844674407370955161 < v {
-        return false;
-    }
-    d <= 18446744073709551615 - v * 10
-}
-
-// The number that a word says: decimal digits alone, one at least, below 2^64.
-pub fn number(s: &[u8]) -> Number
+// The number that a word says: decimal digits alone, one at least, below 2^64. The library's `parse` takes a plus sign before them.
+pub fn number(s: &[u8]) -> Option<u64>
     ensures { result ≡ number_of s.now }
 {
-    if s.len() == 0 {
-        return Number::Nothing;
+    if s.is_empty() {
+        return None;
     }
     let mut v: u64 = 0;
-    let mut i = 0;
-    while i < s.len() {
-        if !is_digit(s[i]) {
-            return Number::Nothing;
-        }
-        let d = worth(s[i]);
-        if !fits(v, d) {
-            return Number::Nothing;
-        }
-        v = v * 10 + d;
-        i += 1;
+    for c in s {
+        let d = digit(*c)?;
+        v = v.checked_mul(10)?.checked_add(d)?;
     }
-    Number::Is(v)
+    Some(v)
 }
 
-// The sectors in the unit that a letter names, or 0 where it names none.
-fn unit(c: u8) -> u64
+// The sectors in the unit that a letter names.
+#[tactic(auto, unfolding(crate::specs::Words::unit_of))]
+fn unit(c: u8) -> Option<u64>
     ensures { result ≡ unit_of c }
 {
-    if c == b'K' {
-        return 2;
+    match c {
+        b'K' => Some(2),
+        b'M' => Some(2048),
+        b'G' => Some(2097152),
+        b'T' => Some(2147483648),
+        _ => None,
     }
-    if c == b'M' {
-        return 2048;
-    }
-    if c == b'G' {
-        return 2097152;
-    }
-    if c == b'T' {
-        return 2147483648;
-    }
-    0
-}
-
-// A number of units in sectors, or nothing where it is not below 2^64.
-fn times(a: Number, u: u64) -> Number
-    requires { 0 < u }
-    ensures { result ≡ times_of u a }
-{
-    let Number::Is(n) = a else {
-        return Number::Nothing;
-    };
-    if 18446744073709551615 / u < n {
-        return Number::Nothing;
-    }
-    Number::Is(n * u)
 }
 
 // The sectors that a size says: a number of sectors, or a number with K, M, G or T behind it.
-pub fn sectors(s: &[u8]) -> Number
+#[tactic(auto, unfolding(crate::specs::Words::size_of, crate::specs::Words::times_of, crate::specs::Words::number_of))]
+pub fn sectors(s: &[u8]) -> Option<u64>
     ensures { result ≡ sectors_of s.now }
 {
-    let n = s.len();
-    if n == 0 {
-        return Number::Nothing;
+    let (last, front) = s.split_last()?;
+    match unit(*last) {
+        Some(u) => number(front)?.checked_mul(u),
+        None => number(s),
     }
-    let u = unit(s[n - 1]);
-    if u == 0 {
-        return number(s);
-    }
-    times(number(&s[..n - 1]), u)
 }
 
 // Whether a word is one of two.
@@ -116,36 +65,34 @@ fn either(s: &[u8], a: &[u8], b: &[u8]) -> bool
     endian::same(s, a) | endian::same(s, b)
 }
 
-// The kind of a segment by its name or its number, or 0 for any other word.
-pub fn kind(s: &[u8]) -> u16
+// The kind of a segment by its name or its number. Of a `match` on the words the goals, one for each byte that differs, were not proved.
+#[tactic(auto, unfolding(crate::specs::Words::kind_of))]
+pub fn kind(s: &[u8]) -> Option<u16>
     ensures { result ≡ kind_of s.now }
 {
     if either(s, b"thin-metadata", b"1") {
-        return 1;
+        Some(1)
+    } else if either(s, b"thin-data", b"2") {
+        Some(2)
+    } else if either(s, b"spare", b"3") {
+        Some(3)
+    } else if either(s, b"metadata-volume", b"4") {
+        Some(4)
+    } else {
+        None
     }
-    if either(s, b"thin-data", b"2") {
-        return 2;
-    }
-    if either(s, b"spare", b"3") {
-        return 3;
-    }
-    if either(s, b"metadata-volume", b"4") {
-        return 4;
-    }
-    0
 }
 
 // Whether s has a dash at i.
+#[tactic(auto, using(crate::proofs::Words::no_dash), unfolding(crate::specs::Words::dash))]
 fn dash(s: &[u8], i: usize) -> bool
     ensures { result ≡ dash s.now i }
 {
-    if i < s.len() {
-        return s[i] == b'-';
-    }
-    false
+    i < s.len() && s[i] == b'-'
 }
 
 // Whether a word is as long as a UUID with dashes and has them where they belong.
+#[tactic(auto, unfolding(crate::specs::Words::dashed))]
 fn dashed(s: &[u8]) -> bool
     ensures { result ≡ dashed s.now }
 {
@@ -167,59 +114,47 @@ fn joined(s: &[u8]) -> [u8; 32]
 }
 
 // A capital A to F small, any other character as it is.
+#[tactic(auto, unfolding(crate::specs::Words::lower))]
 fn lower(c: u8) -> u8
     ensures { result ≡ lower c }
 {
-    if (65 <= c) & (c <= 70) {
-        return c + 32;
+    match c {
+        b'A'..=b'F' => c + 32,
+        _ => c,
     }
-    c
 }
 
-// Makes each of the characters small.
+// Each of the characters small. Of `d.map(lower)` the goal was not proved.
 fn lowered(d: [u8; 32]) -> [u8; 32]
     ensures { result ≡ map lower d }
 {
     let mut l = d;
-    let mut i = 0;
-    while i < 32 {
-        l[i] = lower(d[i]);
-        i += 1;
+    for c in &mut l {
+        *c = lower(*c);
     }
     l
 }
 
 // The UUID of 32 characters, where all are hex digits.
-fn hex_uuid(d: [u8; 32]) -> Uuid
+#[tactic(auto, unfolding(crate::specs::Words::hex_uuid))]
+fn hex_uuid(d: [u8; 32]) -> Option<[u8; 32]>
     ensures { result ≡ hex_uuid (map lower d) }
 {
     let l = lowered(d);
-    if !block::all_hex(&l) {
-        return Uuid {
-            given: false,
-            digits: [0u8; 32],
-        };
-    }
-    Uuid {
-        given: true,
-        digits: l,
-    }
+    if block::all_hex(&l) { Some(l) } else { None }
 }
 
-// The UUID that a word says: 32 hex digits, or 36 characters with dashes after the 8th, 12th, 16th and 20th digit.
-pub fn uuid(s: &[u8]) -> Uuid
+// The UUID that a word says, its letters small: 32 hex digits, or 36 characters with dashes after the 8th, 12th, 16th and 20th digit.
+pub fn uuid(s: &[u8]) -> Option<[u8; 32]>
     ensures { result ≡ uuid_of s.now }
 {
     if dashed(s) {
         return hex_uuid(joined(s));
     }
-    let mut d = [0u8; 32];
     if s.len() != 32 {
-        return Uuid {
-            given: false,
-            digits: d,
-        };
+        return None;
     }
+    let mut d = [0u8; 32];
     endian::put(&mut d, 0, s);
     hex_uuid(d)
 }

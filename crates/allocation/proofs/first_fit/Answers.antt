@@ -1,68 +1,23 @@
 -- `allocation::first_fit` meets its contract.
-use Rattle.allocation.proofs.Calls.{Prepared, prepared, number_is, refusal_is, fit-zero, fit_none, fit-some}
-use Rattle.record.proofs.Naming.{refuse_no, refuse_own, refuse-yes}
-use Rattle.refusal.specs.Tests.{first}
-use Rattle.record.specs.Accept.{record_tests}
-use Rattle.items.specs.Head.{data_range}
-use Rattle.allocation.specs.Answers.{runs_in, fit_tests}
-use Rattle.allocation.specs.declared.RunFound.TheVariants as RunFound
+use Rattle.std.proofs.Common.{sym, ◌∙◌, arith}
+use Rattle.std.proofs.lemmas.Result.{err_from_is_err_and}
 use Rattle.runs.specs.Runs.{fit_of}
-use mathlib.Core.List.{List, ◌++◌}
-use Prim.Native.Nat.{ℕ}
-use mathlib.Core.Path.{◌≡◌, refl, sym, ap, ◌∙◌}
-use Rattle.layout.specs.declared.Device.{Device}
-use native.Mathlib.Omega.{arith}
-use Rattle.record.proofs.Testing.{more_no}
+use Rattle.allocation.specs.Walking.{left}
+use Rattle.allocation.specs.Answers.{runs_in, fit_tests}
+use Rattle.allocation.proofs.Calls.{ordered_refused, Ordered, ordered_on, fit_is, fit_answered}
 use Rattle.allocation.proofs.first_fit.Goals as goal
 
-pub returns-then-refused-ne0 : goal.returns-then-refused-ne0
-returns-then-refused-ne0 c =
-    let d : Device = c.args.d in
-    let s : List ℕ = c.args.s.now in
-    let m : ℕ = c.args.m in
-    let e = number_is d s c.check_in_order-c.result c.check_in_order-c.ensures in
-    refuse_no (RunFound.At (fit_of m (runs_in d s))) RunFound.Refused s c.check_in_order-c.result.refusal (first (record_tests d s ++ fit_tests (runs_in d s) m)) (refusal_is d s c.check_in_order-c.result c.check_in_order-c.ensures) (more_no d s (fit_tests (runs_in d s) m) c.check_in_order-c.result.refusal.number e c.if-refused-ne0.true) c.if-refused-ne0.true
-
-pub returns-then-m-lt1 : goal.returns-then-m-lt1
-returns-then-m-lt1 c =
-    let d : Device = c.args.d in
-    let s : List ℕ = c.args.s.now in
-    let m : ℕ = c.args.m in
-    let z : first (record_tests d s) ≡ 0 = sym (number_is d s c.check_in_order-c.result c.check_in_order-c.ensures) ∙ c.if-refused-ne0.false in
-    ap RunFound.Refused c.plain.ensures ∙ refuse_own (RunFound.At (fit_of m (runs_in d s))) RunFound.Refused s 18 (first (record_tests d s ++ fit_tests (runs_in d s) m)) (λ q. omega arith) (fit-zero d s (runs_in d s) m z c.if-m-lt1.true) (λ q. omega arith)
-
-pub slice_bounds-at-end : goal.slice_bounds-at-end
-slice_bounds-at-end c =
-    let d : Device = c.args.d in
-    let s : List ℕ = c.args.s.now in
-    (prepared d s c.check_in_order-c.result c.items_of-t.result.now c.count_in-many.result (data_range d) c.check_in_order-c.ensures c.if-refused-ne0.false c.items_of-t.ensures c.count_in-many.ensures refl).inside
-
-pub slice_bounds-fit-end : goal.slice_bounds-fit-end
-slice_bounds-fit-end c =
-    let d : Device = c.args.d in
-    let s : List ℕ = c.args.s.now in
-    (prepared d s c.check_in_order-c.result c.items_of-t.result.now c.count_in-many.result (data_range d) c.check_in_order-c.ensures c.if-refused-ne0.false c.items_of-t.ensures c.count_in-many.ensures refl).exact
-
-pub fit-r-requires : goal.fit-r-requires
-fit-r-requires c =
-    let d : Device = c.args.d in
-    let s : List ℕ = c.args.s.now in
-    (prepared d s c.check_in_order-c.result c.items_of-t.result.now c.count_in-many.result c.data_range.result c.check_in_order-c.ensures c.if-refused-ne0.false c.items_of-t.ensures c.count_in-many.ensures c.data_range.ensures).chain
-
-pub returns-then-r-eq0 : goal.returns-then-r-eq0
-returns-then-r-eq0 c =
-    let d : Device = c.args.d in
-    let s : List ℕ = c.args.s.now in
-    let m : ℕ = c.args.m in
-    let w : Prepared d s c.check_in_order-c.result c.items_of-t.result.now c.count_in-many.result c.data_range.result = prepared d s c.check_in_order-c.result c.items_of-t.result.now c.count_in-many.result c.data_range.result c.check_in_order-c.ensures c.if-refused-ne0.false c.items_of-t.ensures c.count_in-many.ensures c.data_range.ensures in
-    let f : c.fit-r.result ≡ fit_of m (runs_in d s) = c.fit-r.ensures ∙ ap (fit_of m) w.runs in
-    ap RunFound.Refused c.plain-then-r-eq0.ensures ∙ refuse_own (RunFound.At (fit_of m (runs_in d s))) RunFound.Refused s 20 (first (record_tests d s ++ fit_tests (runs_in d s) m)) (λ q. omega arith) (fit_none d s (runs_in d s) m c.fit-r.result w.zero c.if-m-lt1.false f c.if-r-eq0.true) (λ q. omega arith)
+pub returns-in_err-at : goal.returns-in_err-at
+returns-in_err-at c =
+    let p = err_from_is_err_and c.from_residual.result c.from_residual.ensures.1 in
+    rw (p.1, p.2)
+    (ordered_refused c.args.d c.args.s.now (fit_tests (runs_in c.args.d c.args.s.now) c.args.m) (fit_of c.args.m (runs_in c.args.d c.args.s.now)) _
+    (sym c.check_in_order.ensures ∙ c.in_err-at.was))
 
 pub returns : goal.returns
 returns c =
-    let d : Device = c.args.d in
-    let s : List ℕ = c.args.s.now in
-    let m : ℕ = c.args.m in
-    let w : Prepared d s c.check_in_order-c.result c.items_of-t.result.now c.count_in-many.result c.data_range.result = prepared d s c.check_in_order-c.result c.items_of-t.result.now c.count_in-many.result c.data_range.result c.check_in_order-c.ensures c.if-refused-ne0.false c.items_of-t.ensures c.count_in-many.ensures c.data_range.ensures in
-    let f : c.fit-r.result ≡ fit_of m (runs_in d s) = c.fit-r.ensures ∙ ap (fit_of m) w.runs in
-    ap RunFound.At f ∙ refuse-yes (RunFound.At (fit_of m (runs_in d s))) RunFound.Refused s 0 (first (record_tests d s ++ fit_tests (runs_in d s) m)) (fit-some d s (runs_in d s) m c.fit-r.result w.zero c.if-m-lt1.false f c.if-r-eq0.false) refl
+    let rs = runs_in c.args.d c.args.s.now in
+    let o : Ordered c.args.d c.args.s.now c.in_ok-at.at (fit_tests rs c.args.m) = ordered_on c.args.d c.args.s.now c.in_ok-at.at (fit_tests rs c.args.m) (sym c.check_in_order.ensures ∙ c.in_ok-at.was) in
+    c.ok_or.ensures.value
+    ∙ fit_answered c.args.d c.args.s.now rs c.args.m o.after (omega arith) c.fit.result
+    (fit_is c.args.d c.args.s.now c.in_ok-at.at (fit_tests rs c.args.m) c.data_range.result (left c.gaps_in.result) c.args.m c.fit.result o c.data_range.ensures c.gaps_in.ensures.all (omega arith) c.fit.ensures)

@@ -1,17 +1,28 @@
--- `allocation::free_runs` meets its contract: what is known before the table is filled is what the filling asks.
-use Rattle.std.proofs.Common.{◌∙◌, length}
-use Rattle.allocation.specs.Preparing.{Prepared}
-use Rattle.allocation.proofs.Preparing.{Filled, filled}
+-- `allocation::free_runs` meets its contract.
+use Rattle.std.proofs.Common.{◌≡◌, ℕ, ◌++◌, List, length, drop, sym, ap, ◌∙◌, arith}
+use Rattle.std.specs.Prelude.{Ok}
+use Rattle.refusal.specs.Refusals.{plain_but}
+use Rattle.runs.specs.declared.Run.{Run}
+use Rattle.record.specs.Accept.{named, answered}
+use Rattle.allocation.specs.Walking.{left}
+use Rattle.allocation.specs.Answers.{runs_in}
+use Rattle.allocation.proofs.Calls.{free_is, table-short, table_room}
 use Rattle.allocation.proofs.free_runs.Goals as goal
 
-pub fill_runs-requires : goal.fill_runs-requires
-fill_runs-requires c =
-    let p : Prepared c.args.d c.args.s.now (length c.args.table.now) c.prepare-f.result.answer c.prepare-f.result.count c.prepare-f.result.at = c.prepare-f.ensures in
-    let f : Filled c.args.d c.args.s.now c.prepare-f.result.at c.args.table.now c.prepare-f.result.count = filled c.args.d c.args.s.now c.prepare-f.result.at c.args.table.now c.prepare-f.result.answer c.prepare-f.result.count p in
-    (f.tested, (f.few, f.within))
+pub returns-then-table-n : goal.returns-then-table-n
+unfolding named plain_but
+returns-then-table-n c =
+    let q = free_is c.args.d c.args.s.now c.in_ok-at.at c.data_range.result (left c.gaps_in-gaps.result) (sym c.check_in_order.ensures ∙ c.in_ok-at.was) c.data_range.ensures c.gaps_in-gaps.ensures.all in
+    let n : c.number-n.result ≡ length (runs_in c.args.d c.args.s.now) = c.number-n.ensures ∙ ap length q.1 in
+    let t = table-short c.args.d c.args.s.now (length c.args.table.now) q.0 (omega arith) in
+    record { value = ap (λ (k : ℕ). answered k c.args.s.now (length (runs_in c.args.d c.args.s.now))) (sym t); table_after = rw t }
 
-pub returns-clause-table_after : goal.returns-clause-table_after
-returns-clause-table_after c =
-    let p : Prepared c.args.d c.args.s.now (length c.args.table.now) c.prepare-f.result.answer c.prepare-f.result.count c.prepare-f.result.at = c.prepare-f.ensures in
-    let f : Filled c.args.d c.args.s.now c.prepare-f.result.at c.args.table.now c.prepare-f.result.count = filled c.args.d c.args.s.now c.prepare-f.result.at c.args.table.now c.prepare-f.result.answer c.prepare-f.result.count p in
-    c.fill_runs.ensures ∙ f.left
+pub returns : goal.returns
+returns c =
+    let q = free_is c.args.d c.args.s.now c.in_ok-at.at c.data_range.result (left c.gaps_in-gaps.result) (sym c.check_in_order.ensures ∙ c.in_ok-at.was) c.data_range.ensures c.gaps_in-gaps.ensures.all in
+    let n : c.number-n.result ≡ length (runs_in c.args.d c.args.s.now) = c.number-n.ensures ∙ ap length q.1 in
+    let t = table_room c.args.d c.args.s.now (length c.args.table.now) q.0 (omega arith) in
+    record {
+      value = ap Ok n ∙ ap (λ (k : ℕ). answered k c.args.s.now (length (runs_in c.args.d c.args.s.now))) (sym t);
+      table_after = rw t (c.fill.ensures ∙ ap (λ (rs : List Run). rs ++ drop (length rs) c.args.table.now) q.1);
+    }

@@ -1,79 +1,27 @@
--- `allocation::released_of` meets its contract, a test at a time.
-use Rattle.allocation.proofs.Leaving.{release-past, release-short, release-passed}
-use Rattle.record.proofs.Testing.{more_no, more_yes}
-use Rattle.record.proofs.Naming.{number_is, named_again, refuse_no, refuse_own, refuse-yes}
-use Rattle.refusal.specs.Tests.{first}
+-- `allocation::released_of` meets its contract.
+use Rattle.std.proofs.Common.{◌-◌, ◌++◌, length, sym, ◌∙◌, arith}
+use Rattle.std.proofs.lemmas.Result.{err_from_is_err_and}
 use Rattle.items.specs.Head.{item_bytes}
-use Rattle.items.specs.Items.{segments}
-use Rattle.items.specs.Making.{place}
 use Rattle.items.proofs.Making.{place_inside}
 use Rattle.record.specs.Answers.{position_tests}
-use Rattle.record.proofs.Accepted.{Accepted, accepted}
-use Rattle.allocation.specs.Change.{room_tests, release_tests}
-use Rattle.allocation.specs.declared.Released.TheVariants as Released
-use mathlib.Core.List.{List, ◌++◌}
-use lib.ListN.{length}
-use Prim.Native.Nat.{ℕ, ◌+◌, ◌-◌, ◌≤◌, ◌<◌}
-use mathlib.Core.Path.{refl, sym, ap, ◌∙◌}
-use Rattle.layout.specs.declared.Device.{Device}
-use native.Mathlib.Omega.{arith}
+use Rattle.record.proofs.Accepted.{accepted}
+use Rattle.allocation.specs.Change.{room_tests}
+use Rattle.allocation.proofs.Calls.{refused_on, accepted_on}
 use Rattle.allocation.proofs.released_of.Goals as goal
 
-pub returns-then-refused-ne0 : goal.returns-then-refused-ne0
-returns-then-refused-ne0 c =
-    let d : Device = c.args.d in
-    let s : List ℕ = c.args.s.now in
-    let p : ℕ = c.args.position in
-    let w : ℕ = c.args.w in
-    refuse_no (Released.Length (length s - item_bytes)) Released.Refused s c.check-refused.result (first (release_tests d s p w)) (named_again _ _ s c.check-refused.ensures)
-    (more_no d s (position_tests s p ++ room_tests s w) c.check-refused.result.number (number_is _ _ s c.check-refused.ensures) c.if-refused-ne0.true) c.if-refused-ne0.true
-
-pub returns-then-count_of-position : goal.returns-then-count_of-position
-returns-then-count_of-position c =
-    let d : Device = c.args.d in
-    let s : List ℕ = c.args.s.now in
-    let p : ℕ = c.args.position in
-    let w : ℕ = c.args.w in
-    let h : length (segments s) ≤ p = omega arith in
-    ap Released.Refused c.plain.ensures ∙ refuse_own (Released.Length (length s - item_bytes)) Released.Refused s 22 (first (release_tests d s p w)) (λ q. omega arith)
-    (more_yes d s (position_tests s p ++ room_tests s w) c.check-refused.result.number 22 (number_is _ _ s c.check-refused.ensures) c.if-refused-ne0.false (release-past s p w h)) (λ q. omega arith)
-
-pub returns-then-w-s : goal.returns-then-w-s
-returns-then-w-s c =
-    let d : Device = c.args.d in
-    let s : List ℕ = c.args.s.now in
-    let p : ℕ = c.args.position in
-    let w : ℕ = c.args.w in
-    let h : p < length (segments s) = omega arith in
-    ap Released.Refused c.plain-then-w-s.ensures ∙ refuse_own (Released.Length (length s - item_bytes)) Released.Refused s 1 (first (release_tests d s p w)) (λ q. omega arith)
-    (more_yes d s (position_tests s p ++ room_tests s w) c.check-refused.result.number 1 (number_is _ _ s c.check-refused.ensures) c.if-refused-ne0.false (release-short s p w h c.if-w-s.true)) (λ q. omega arith)
-
-pub returns : goal.returns
-returns c =
-    let d : Device = c.args.d in
-    let s : List ℕ = c.args.s.now in
-    let p : ℕ = c.args.position in
-    let w : ℕ = c.args.w in
-    let h : p < length (segments s) = omega arith in
-    refuse-yes (Released.Length (length s - item_bytes)) Released.Refused s 0 (first (release_tests d s p w))
-    (more_yes d s (position_tests s p ++ room_tests s w) c.check-refused.result.number 0 (number_is _ _ s c.check-refused.ensures) c.if-refused-ne0.false (release-passed s p w h c.if-w-s.false)) refl
+pub returns-in_err-check : goal.returns-in_err-check
+returns-in_err-check c =
+    let p = err_from_is_err_and c.from_residual.result c.from_residual.ensures.1 in
+    rw (p.1, p.2)
+    (refused_on c.args.d c.args.s.now (position_tests c.args.s.now c.args.position ++ room_tests c.args.s.now c.args.w) tt (length c.args.s.now - item_bytes) _
+    (sym c.check.ensures ∙ c.in_err-check.was))
 
 pub overflow_sub-s : goal.overflow_sub-s
 overflow_sub-s c =
-    let d : Device = c.args.d in
-    let s : List ℕ = c.args.s.now in
-    let p : ℕ = c.args.position in
-    let h : p < length (segments s) = omega arith in
-    let a : Accepted d s = accepted d s (sym (number_is _ _ s c.check-refused.ensures) ∙ c.if-refused-ne0.false) in
-    let l : place s p + 20 ≤ length s = place_inside d s p a.form h in
-    omega arith
+    let z = (accepted_on c.args.d c.args.s.now (position_tests c.args.s.now c.args.position) tt _ (sym c.check.ensures ∙ c.in_ok-check.was)).0 in
+    omega (arith, place_inside c.args.d c.args.s.now c.args.position (accepted c.args.d c.args.s.now z).form (omega (arith, c.count_of.ensures)))
 
 pub overflow_sub-result : goal.overflow_sub-result
 overflow_sub-result c =
-    let d : Device = c.args.d in
-    let s : List ℕ = c.args.s.now in
-    let p : ℕ = c.args.position in
-    let h : p < length (segments s) = omega arith in
-    let a : Accepted d s = accepted d s (sym (number_is _ _ s c.check-refused.ensures) ∙ c.if-refused-ne0.false) in
-    let l : place s p + 20 ≤ length s = place_inside d s p a.form h in
-    omega arith
+    let z = (accepted_on c.args.d c.args.s.now (position_tests c.args.s.now c.args.position) tt _ (sym c.check.ensures ∙ c.in_ok-check.was)).0 in
+    omega (arith, place_inside c.args.d c.args.s.now c.args.position (accepted c.args.d c.args.s.now z).form (omega (arith, c.count_of.ensures)))

@@ -7,10 +7,6 @@ use Rattle.calendar.proofs.date_of.Goals as goal
 pub returns-then-seconds-ge253402300800 : goal.returns-then-seconds-ge253402300800
 returns-then-seconds-ge253402300800 c = past _ c.if-seconds-ge253402300800.true
 
-pub month_of-m-requires : goal.month_of-m-requires
-month_of-m-requires c =
-    (year_place (c.args.seconds / 86400) _ (omega arith) c.year_of-y.ensures).1
-
 pub returns : goal.returns
 returns c =
     date _ _ _ (omega arith) c.year_of-y.ensures c.month_of-m.ensures

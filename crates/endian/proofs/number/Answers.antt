@@ -1,35 +1,43 @@
--- `endian::number` meets its contract: the number so far is that of the bytes from i on.
-use Rattle.std.proofs.Common.{◌≡◌, ℕ, ◌+◌, ◌-◌, ◌^◌, ◌≤◌, ◌<◌, List, length, get_or, drop, length-drop, sym, ap, ◌∙◌, arith}
-use lib.Seq.{drop-length}
+-- `endian::number` meets its contract: the number so far is that of the bytes passed, which are the last ones.
+use Rattle.std.proofs.Common.{◌≡◌, ℕ, ◌^◌, ◌≤◌, ◌<◌, List, [], ◌∷◌, ◌++◌, length, sym, ap, ◌∙◌, refl, arith}
+use mathlib.Core.List.{append_assoc, append-nil}
+use native.Mathlib.Nat.{mod-eq_of_lt}
+use lib.ListN.{length-append}
 use Rattle.endian.specs.Bytes.{le}
-use Rattle.endian.proofs.Numbers.{le-drop, le_bound, le-nil}
+use Rattle.endian.proofs.Numbers.{le_bound, le-cons, le-nil}
 use Rattle.endian.proofs.number.Goals as goal
 
 -- the number of the bytes passed has room for one more
-room : (s : List ℕ) (r i : ℕ) → length s ≤ 8 → 0 < i → i ≤ length s → r ≡ le (drop i s) → r < 256 ^ 7
-room s r i m l h e = rw e (le_bound (drop i s) 7 (rw length-drop (omega arith)))
+room : (s u t p : List ℕ) (b r : ℕ) → length s ≤ 8 → s ≡ u ++ p → u ≡ t ++ b ∷ [] → r ≡ le p → r < 256 ^ 7
+room s u t p b r m e f h =
+    rw h (le_bound p 7 (omega (arith, ap length e, ap length f, length-append u p, length-append t (b ∷ []))))
 
-pub loop-i-init : goal.loop-i-init
-loop-i-init c = (omega arith, rw drop-length (sym le-nil))
+none_left : (u p : List ℕ) → length u ≡ 0 → u ++ p ≡ p
+none_left [] p h = refl
+none_left (x ∷ u) p h = absurd (cc)
+
+pub loop-b-init : goal.loop-b-init
+loop-b-init c =
+    let e : c.args.s.now ≡ c.into_iter-b-iterator.result.iter.rest.now = cc in
+    ([], (e ∙ sym (append-nil _), sym le-nil))
 
 pub overflow_mul-r : goal.overflow_mul-r
-overflow_mul-r c = omega (arith, room c.args.s.now c.loop-i.r c.loop-i.i (omega arith) (omega arith) (omega arith) c.loop-i.invariant.1)
+overflow_mul-r c = omega (arith, room _ _ _ c.loop-b.invariant.0 _ _ c.requires c.loop-b.invariant.1.0 c.in-Some.ensures.steps c.loop-b.invariant.1.1)
 
 pub overflow_add-r : goal.overflow_add-r
-overflow_add-r c =
-    omega (arith, room c.args.s.now c.loop-i.r c.loop-i.i (omega arith) (omega arith) (omega arith) c.loop-i.invariant.1, c.type_inv.s (c.loop-i.i - 1))
+overflow_add-r c = omega (arith, room _ _ _ c.loop-b.invariant.0 _ _ c.requires c.loop-b.invariant.1.0 c.in-Some.ensures.steps c.loop-b.invariant.1.1)
 
-pub loop-i-preserved : goal.loop-i-preserved
-loop-i-preserved c =
-    let i : ℕ = c.loop-i.i in
-    let s : List ℕ = c.args.s.now in
-    let b : get_or s (i - 1) 0 < 256 = omega (arith, c.type_inv.s (i - 1)) in
-    let e : i - 1 + 1 ≡ i = omega arith in (
-      omega arith,
-      rw (le-drop s (i - 1) (let l : i - 1 < length s = omega arith in l) b, e, ← c.loop-i.invariant.1),
+pub loop-b-preserved : goal.loop-b-preserved
+loop-b-preserved c =
+    let b : ℕ = c.in-Some.b.now in
+    let p : List ℕ = c.loop-b.invariant.0 in
+    let l : b < 256 = omega arith in (
+      b ∷ p,
+      (
+        c.loop-b.invariant.1.0 ∙ (ap (λ (u : List ℕ). u ++ p) c.in-Some.ensures.steps ∙ append_assoc _ (b ∷ []) p),
+        rw (le-cons, mod-eq_of_lt l, c.loop-b.invariant.1.1) (omega arith),
+      ),
     )
 
 pub returns : goal.returns
-returns c =
-    c.loop-i.invariant.1
-    ∙ ap (λ (i : ℕ). le (drop i c.args.s.now)) (let e : c.loop-i.i ≡ 0 = omega arith in e)
+returns c = c.loop-b.invariant.1.1 ∙ ap le (sym (c.loop-b.invariant.1.0 ∙ none_left _ _ c.in-None.ensures.steps.0))

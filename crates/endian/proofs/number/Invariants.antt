@@ -1,12 +1,8 @@
--- `endian::number` meets its contract: the number so far is that of the bytes from i on.
-use Prim.Native.Nat.{◌≤◌}
-use mathlib.Core.Path.{◌≡◌}
-use lib.ListN.{length, drop}
+-- `endian::number` meets its contract: the number so far is that of the bytes passed, which are the last ones.
+use Rattle.std.proofs.Common.{◌≡◌, ℕ, List, ◌++◌}
+use Rattle.std.specs.Slice.Iter.{iter_rest}
 use Rattle.endian.specs.Bytes.{le}
 use Rattle.endian.proofs.number.Given as goal
 
-abbrev pub invariant-loop-i : goal.invariant-loop-i
-invariant-loop-i l = (l.i ≤ length l.s) × (l.r ≡ le (drop l.i l.s))
-
-abbrev pub decreases-loop-i : goal.decreases-loop-i
-decreases-loop-i l = l.i
+abbrev pub invariant-loop-b : goal.invariant-loop-b
+invariant-loop-b l = (passed : List ℕ) × ((l.s ≡ iter_rest l.b-iterator.iter ++ passed) × (l.r ≡ le passed))

@@ -1,10 +1,6 @@
--- `format_samples::samples` is safe and ends: each sample ends after it begins.
-use Prim.Native.Nat.{◌-◌}
-use lib.ListN.{length}
+-- `format_samples::samples` ends: each sample ends after it begins.
+use Rattle.std.proofs.Common.{◌-◌, length}
 use Rattle.format_samples.proofs.samples.Given as goal
-
-abbrev pub invariant-loop-at : goal.invariant-loop-at
-invariant-loop-at l = Unit
 
 abbrev pub decreases-loop-at : goal.decreases-loop-at
 decreases-loop-at l = length l.s - l.at

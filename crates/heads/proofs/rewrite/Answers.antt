@@ -1,58 +1,57 @@
 -- `heads::rewrite` meets its contract.
-use Rattle.heads.proofs.Calls.{record_refused, head-refused, room-refused, after_small, done}
-use Rattle.record.proofs.Naming.{number_is, named_again}
-use Rattle.refusal.specs.Tests.{first}
+use Rattle.std.proofs.Common.{◌≡◌, [], ◌+◌, ◌≤◌, ◌++◌, length, sym, ap, ◌∙◌, arith}
+use Rattle.std.proofs.lemmas.Result.{err_from_is_err_and}
+use Rattle.std.specs.Prelude.{Ok, Err}
 use Rattle.endian.specs.Bytes.{splice}
-use Rattle.items.specs.declared.Head.{Head}
+use Rattle.refusal.specs.Tests.{first}
+use Rattle.refusal.specs.Reasons.{answer}
 use Rattle.items.specs.Head.{head_of, head_bytes, head_size}
 use Rattle.items.specs.Items.{items_of}
-use Rattle.heads.specs.Changing.{head_after, head_tests}
-use mathlib.Core.List.{List}
-use mathlib.Core.Path.{◌≡◌, sym, ap, ◌∙◌}
-use Prim.Native.Nat.{ℕ}
-use lib.ListN.{length}
-use native.Mathlib.Omega.{arith}
+use Rattle.allocation.proofs.Calls.{refused_on, accepted_on}
+use Rattle.heads.specs.Changing.{head_after, record_after, head_tests, room_tests, change_tests}
+use Rattle.heads.proofs.Calls.{kept_by, head-refused, room-refused, room_there, after_small, done}
 use Rattle.heads.proofs.rewrite.Goals as goal
 
-pub returns-then-refused-ne0-clause-value : goal.returns-then-refused-ne0-clause-value
-returns-then-refused-ne0-clause-value c = (record_refused c.args.d c.args.s.now c.args.c c.args.out.now c.check-refused.result (named_again _ _ c.args.s.now c.check-refused.ensures) (number_is _ _ c.args.s.now c.check-refused.ensures) c.if-refused-ne0.true).0
+pub returns-in_err-check : goal.returns-in_err-check
+returns-in_err-check c =
+    let r = refused_on c.args.d c.args.s.now (head_tests c.args.c (head_of c.args.s.now) ++ room_tests c.args.c c.args.s.now (length c.args.out.now)) tt
+    (length (record_after c.args.c c.args.s.now)) c.in_err-check.field-0.0 (sym c.check.ensures ∙ c.in_err-check.was) in
+    let p = err_from_is_err_and c.from_residual.result c.from_residual.ensures.1 in
+    record { value = rw (p.1, p.2) r; out_after = kept_by (splice c.args.out.now 0 (record_after c.args.c c.args.s.now)) c.args.out.now c.args.s.now (first (change_tests c.args.d c.args.s.now c.args.c (length c.args.out.now))) (length (record_after c.args.c c.args.s.now)) _ r }
 
-pub returns-then-refused-ne0-clause-out_after : goal.returns-then-refused-ne0-clause-out_after
-returns-then-refused-ne0-clause-out_after c = (record_refused c.args.d c.args.s.now c.args.c c.args.out.now c.check-refused.result (named_again _ _ c.args.s.now c.check-refused.ensures) (number_is _ _ c.args.s.now c.check-refused.ensures) c.if-refused-ne0.true).1
-
-pub returns-then-n-ne0-clause-value : goal.returns-then-n-ne0-clause-value
-returns-then-n-ne0-clause-value c = (head-refused c.args.d c.args.s.now c.args.c c.args.out.now c.check-refused.result.number (number_is _ _ c.args.s.now c.check-refused.ensures) c.if-refused-ne0.false c.head_number-n.result (c.head_number-n.ensures ∙ ap (λ (z : Head). first (head_tests c.args.c z)) c.head_of-h.ensures) c.plain.result c.plain.ensures c.if-n-ne0.true).0
-
-pub returns-then-n-ne0-clause-out_after : goal.returns-then-n-ne0-clause-out_after
-returns-then-n-ne0-clause-out_after c = (head-refused c.args.d c.args.s.now c.args.c c.args.out.now c.check-refused.result.number (number_is _ _ c.args.s.now c.check-refused.ensures) c.if-refused-ne0.false c.head_number-n.result (c.head_number-n.ensures ∙ ap (λ (z : Head). first (head_tests c.args.c z)) c.head_of-h.ensures) c.plain.result c.plain.ensures c.if-n-ne0.true).1
-
-pub returns-then-out-size-clause-value : goal.returns-then-out-size-clause-value
-returns-then-out-size-clause-value c = let s : List ℕ = c.args.s.now in
-    let e : c.head_size-size.result ≡ head_size (head_after c.args.c (head_of s)) = (c.head_size-size.ensures ∙ ap head_size (c.head_after-after.ensures ∙ ap (head_after c.args.c) c.head_of-h.ensures)) in
-    let f : length c.items_of-t.result.now ≡ length (items_of s) = ap length c.items_of-t.ensures in
-    (room-refused c.args.d s c.args.c c.args.out.now c.check-refused.result.number (number_is _ _ s c.check-refused.ensures) c.if-refused-ne0.false c.head_number-n.result (c.head_number-n.ensures ∙ ap (λ (z : Head). first (head_tests c.args.c z)) c.head_of-h.ensures) c.if-n-ne0.false c.plain-then-out-size.result c.plain-then-out-size.ensures
-    (omega (arith, c.if-out-size.true))).0
-
-pub returns-then-out-size-clause-out_after : goal.returns-then-out-size-clause-out_after
-returns-then-out-size-clause-out_after c = let s : List ℕ = c.args.s.now in
-    let e : c.head_size-size.result ≡ head_size (head_after c.args.c (head_of s)) = (c.head_size-size.ensures ∙ ap head_size (c.head_after-after.ensures ∙ ap (head_after c.args.c) c.head_of-h.ensures)) in
-    let f : length c.items_of-t.result.now ≡ length (items_of s) = ap length c.items_of-t.ensures in
-    (room-refused c.args.d s c.args.c c.args.out.now c.check-refused.result.number (number_is _ _ s c.check-refused.ensures) c.if-refused-ne0.false c.head_number-n.result (c.head_number-n.ensures ∙ ap (λ (z : Head). first (head_tests c.args.c z)) c.head_of-h.ensures) c.if-n-ne0.false c.plain-then-out-size.result c.plain-then-out-size.ensures
-    (omega (arith, c.if-out-size.true))).1
-
-pub returns-clause-value : goal.returns-clause-value
-returns-clause-value c = let s : List ℕ = c.args.s.now in
-    (done c.args.d s c.args.c c.args.out.now c.check-refused.result.number (number_is _ _ s c.check-refused.ensures) c.if-refused-ne0.false c.head_number-n.result (c.head_number-n.ensures ∙ ap (λ (z : Head). first (head_tests c.args.c z)) c.head_of-h.ensures) c.if-n-ne0.false
-    c.head_size-size.result c.items_of-t.result.now _ _ (c.head_size-size.ensures ∙ ap head_size (c.head_after-after.ensures ∙ ap (head_after c.args.c) c.head_of-h.ensures)) c.items_of-t.ensures (omega (arith, c.if-out-size.false)) (c.put_head.ensures.out_after ∙ ap (λ (z : Head). splice c.args.out.now 0 (head_bytes z)) (c.head_after-after.ensures ∙ ap (head_after c.args.c) c.head_of-h.ensures)) c.put.ensures.s_after).0
-
-pub returns-clause-out_after : goal.returns-clause-out_after
-returns-clause-out_after c = let s : List ℕ = c.args.s.now in
-    (done c.args.d s c.args.c c.args.out.now c.check-refused.result.number (number_is _ _ s c.check-refused.ensures) c.if-refused-ne0.false c.head_number-n.result (c.head_number-n.ensures ∙ ap (λ (z : Head). first (head_tests c.args.c z)) c.head_of-h.ensures) c.if-n-ne0.false
-    c.head_size-size.result c.items_of-t.result.now _ _ (c.head_size-size.ensures ∙ ap head_size (c.head_after-after.ensures ∙ ap (head_after c.args.c) c.head_of-h.ensures)) c.items_of-t.ensures (omega (arith, c.if-out-size.false)) (c.put_head.ensures.out_after ∙ ap (λ (z : Head). splice c.args.out.now 0 (head_bytes z)) (c.head_after-after.ensures ∙ ap (head_after c.args.c) c.head_of-h.ensures)) c.put.ensures.s_after).1
+pub returns-in_err-check_head : goal.returns-in_err-check_head
+returns-in_err-check_head c =
+    let z = (accepted_on c.args.d c.args.s.now [] tt _ (sym c.check.ensures ∙ c.in_ok-check.was)).0 in
+    let h : answer (first (head_tests c.args.c (head_of c.args.s.now))) (tt {0}) ≡ Err c.in_err-check_head.field-0.0 = rw (← c.head_of-h.ensures) (sym c.check_head.ensures ∙ c.in_err-check_head.was) in
+    let r = head-refused c.args.d c.args.s.now c.args.c (length c.args.out.now) z c.in_err-check_head.field-0.0 h in
+    let p = err_from_is_err_and c.from_residual-in_err-check_head.result c.from_residual-in_err-check_head.ensures.1 in
+    record { value = rw (p.1, p.2) r; out_after = kept_by (splice c.args.out.now 0 (record_after c.args.c c.args.s.now)) c.args.out.now c.args.s.now (first (change_tests c.args.d c.args.s.now c.args.c (length c.args.out.now))) (length (record_after c.args.c c.args.s.now)) _ r }
 
 pub overflow_add-size : goal.overflow_add-size
 overflow_add-size c =
-    let s : List ℕ = c.args.s.now in
-    let e : c.head_size-size.result ≡ head_size (head_after c.args.c (head_of s)) = (c.head_size-size.ensures ∙ ap head_size (c.head_after-after.ensures ∙ ap (head_after c.args.c) c.head_of-h.ensures)) in
-    let f : length c.items_of-t.result.now ≡ length (items_of s) = ap length c.items_of-t.ensures in
-    record { fits = omega (arith, after_small c.args.d s c.args.c (sym (number_is _ _ s c.check-refused.ensures) ∙ c.if-refused-ne0.false)) }
+    let z = (accepted_on c.args.d c.args.s.now [] tt _ (sym c.check.ensures ∙ c.in_ok-check.was)).0 in
+    let e : c.head_size-size.result ≡ head_size (head_after c.args.c (head_of c.args.s.now)) = rw (← c.head_of-h.ensures, ← c.head_after-after.ensures) c.head_size-size.ensures in
+    let f : length c.items_of-t.result.now ≡ length (items_of c.args.s.now) = ap length c.items_of-t.ensures in
+    record { fits = omega (arith, after_small c.args.d c.args.s.now c.args.c z) }
+
+pub returns-then-out-size : goal.returns-then-out-size
+returns-then-out-size c =
+    let z = (accepted_on c.args.d c.args.s.now [] tt _ (sym c.check.ensures ∙ c.in_ok-check.was)).0 in
+    let e : c.head_size-size.result ≡ head_size (head_after c.args.c (head_of c.args.s.now)) = rw (← c.head_of-h.ensures, ← c.head_after-after.ensures) c.head_size-size.ensures in
+    let f : length c.items_of-t.result.now ≡ length (items_of c.args.s.now) = ap length c.items_of-t.ensures in
+    let k : answer (first (head_tests c.args.c (head_of c.args.s.now))) (tt {0}) ≡ Ok c.in_ok-check_head.field-0 = rw (← c.head_of-h.ensures) (sym c.check_head.ensures ∙ c.in_ok-check_head.was) in
+    let r = room-refused c.args.d c.args.s.now c.args.c (length c.args.out.now) z c.in_ok-check_head.field-0 k (omega (arith, c.if-out-size.true)) in
+    record { value = r; out_after = kept_by (splice c.args.out.now 0 (record_after c.args.c c.args.s.now)) c.args.out.now c.args.s.now (first (change_tests c.args.d c.args.s.now c.args.c (length c.args.out.now))) (length (record_after c.args.c c.args.s.now)) _ r }
+
+pub returns : goal.returns
+returns c =
+    let z = (accepted_on c.args.d c.args.s.now [] tt _ (sym c.check.ensures ∙ c.in_ok-check.was)).0 in
+    let e : c.head_size-size.result ≡ head_size (head_after c.args.c (head_of c.args.s.now)) = rw (← c.head_of-h.ensures, ← c.head_after-after.ensures) c.head_size-size.ensures in
+    let f : length c.items_of-t.result.now ≡ length (items_of c.args.s.now) = ap length c.items_of-t.ensures in
+    let k : answer (first (head_tests c.args.c (head_of c.args.s.now))) (tt {0}) ≡ Ok c.in_ok-check_head.field-0 = rw (← c.head_of-h.ensures) (sym c.check_head.ensures ∙ c.in_ok-check_head.was) in
+    let l : head_size (head_after c.args.c (head_of c.args.s.now)) + length (items_of c.args.s.now) ≤ length c.args.out.now = omega (arith, c.if-out-size.false) in
+    let a : c.put_head.new.out ≡ splice c.args.out.now 0 (head_bytes (head_after c.args.c (head_of c.args.s.now))) = rw (← c.head_of-h.ensures, ← c.head_after-after.ensures) c.put_head.ensures.out_after in
+    let b : c.put.new.s ≡ splice c.put_head.new.out (head_size (head_after c.args.c (head_of c.args.s.now))) (items_of c.args.s.now) = rw (← e, ← c.items_of-t.ensures) c.put.ensures.s_after in
+    let d = done c.args.d c.args.s.now c.args.c c.args.out.now c.put_head.new.out c.put.new.s
+    (room_there c.args.d c.args.s.now c.args.c (length c.args.out.now) z c.in_ok-check_head.field-0 k l) l a b in
+    record { value = rw (e, f) d.0; out_after = d.1 }

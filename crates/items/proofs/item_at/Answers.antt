@@ -1,7 +1,7 @@
 -- `items::item_at` meets its contract.
+use Rattle.std.proofs.Common.{◌*◌}
 use Rattle.endian.proofs.Parts.{window-part}
 use Rattle.items.specs.Head.{item_bytes}
-use Prim.Native.Nat.{◌*◌}
 use Rattle.items.proofs.item_at.Goals as goal
 
 pub returns : goal.returns

@@ -1,14 +1,15 @@
--- `update::work_out` meets its contract.
-use mathlib.Core.Path.{sym, ap, ◌∙◌}
+-- `update::work_out` meets its contract: discovery's reason is the update's.
+use mathlib.Core.Path.{◌≡◌, sym, ap, ◌∙◌}
+use borrow.Author.Rules.{rules}
+use Rattle.std.specs.Prelude.{Err}
 use Rattle.discovery.specs.declared.Examined.{Examined}
-use Rattle.update.proofs.Planning.{plan_refused, plan_found_lem}
+use Rattle.update.specs.Plan.{plan_of, planned}
+use Rattle.update.proofs.Planning.{refused_lem}
 use Rattle.update.proofs.work_out.Goals as goal
 
-pub returns-in-Refused : goal.returns-in-Refused
-returns-in-Refused c = plan_refused c.args.f.now c.args.b.now c.args.t c.args.r.now _ _ (sym (ap (λ (v : Examined). v.answer) c.examine-v.ensures) ∙ c.in-Refused.is) c.plain.ensures
-
-pub returns-in-Found : goal.returns-in-Found
-returns-in-Found c =
-    c.plan_found.ensures
-    ∙ plan_found_lem c.args.f.now c.args.b.now c.args.t c.args.r.now _ _ _ (sym (ap (λ (v : Examined). v.answer) c.examine-v.ensures) ∙ c.in-Found.is)
-    (ap (λ (v : Examined). v.step) c.examine-v.ensures)
+pub returns-in_err-v : goal.returns-in_err-v
+returns-in_err-v c =
+    let h : planned c.args.c.front.now c.args.c.back.now c.args.t c.args.r.now ≡ Err c.in_err-v.field-0.0 =
+    refused_lem c.args.c.front.now c.args.c.back.now c.args.t c.args.r.now (plan_of c.args.c.front.now c.args.c.back.now c.args.t c.args.r.now) _
+    (sym (ap (λ (v : Examined). v.answer) c.examine-v.ensures) ∙ c.in_err-v.was) in
+    search rules

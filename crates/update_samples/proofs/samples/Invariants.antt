@@ -1,6 +1,5 @@
--- `update_samples::samples` meets its contract: each update ends after it begins.
-use Prim.Native.Nat.{◌-◌, ◌≤◌}
-use lib.ListN.{length}
+-- `update_samples::samples` meets its contract: each update ends after it begins, and the last one begins within the input.
+use Rattle.std.proofs.Common.{◌-◌, ◌≤◌, length}
 use Rattle.sampling.specs.Laying.{input_bytes}
 use Rattle.update_samples.proofs.samples.Given as goal
 

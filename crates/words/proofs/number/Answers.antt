@@ -1,35 +1,39 @@
 -- `words::number` meets its contract: the digits left give what the whole word says.
-use Prim.Native.Nat.{◌+◌, ◌*◌, ◌^◌, ◌<◌}
-use native.Mathlib.Omega.{arith}
-use Rattle.words.proofs.Words.{number-none, number_start, number_stop, number_over, number_next, number-done, below}
-use Rattle.std.proofs.Common.{not}
-use Rattle.std.proofs.Common.{ap}
+use borrow.Author.Tests.{eqb-true, eq-eqb}
+use lib.Dec.{lit<}
+use mathlib.Core.Bool.{true≢false}
+use Rattle.std.proofs.Common.{sym, drop, ℕ, ◌≡◌, ◌+◌, ◌*◌, ◌∙◌, ap, None, arith}
+use Rattle.words.specs.Words.{number_after}
+use Rattle.words.proofs.Words.{number-none, number_start, number_stop, number_over, number_next, number-done}
 use Rattle.words.proofs.number.Goals as goal
 
-pub returns-then-s-eq0 : goal.returns-then-s-eq0
-returns-then-s-eq0 c = number-none _ c.if-s-eq0.true
+pub returns-then-is_empty : goal.returns-then-is_empty
+returns-then-is_empty c = number-none c.args.s.now (eqb-true _ _ (sym c.if-is_empty.ensures))
 
-pub loop-i-init : goal.loop-i-init
-loop-i-init c = (omega arith, omega arith, number_start _ c.if-s-eq0.false)
+pub loop-c-init : goal.loop-c-init
+loop-c-init c = (lit< tt, number_start c.args.s.now (λ e. true≢false (sym (eq-eqb _ 0 e) ∙ sym c.if-is_empty.ensures)))
 
-pub returns-then-not-is_digit : goal.returns-then-not-is_digit
-returns-then-not-is_digit c =
-    number_stop _ _ _ c.loop-i.invariant.2 _ (omega arith) c.is_digit.ensures (ap not c.if-not-is_digit.true)
+pub returns-in_err-d : goal.returns-in_err-d
+returns-in_err-d c = c.from_residual.ensures ∙ number_stop c.args.s.now c.loop-c.c-index c.loop-c.v c.digit.result (omega arith) c.digit.ensures c.loop-c.invariant.1 c.in_err-d.was
 
-pub returns-then-not-fits : goal.returns-then-not-fits
-returns-then-not-fits c =
-    number_over _ _ _ c.loop-i.invariant.2 _ _ (omega arith) c.worth-d.ensures c.fits.ensures (ap not c.if-not-fits.true)
+pub returns-in_err-checked_mul : goal.returns-in_err-checked_mul
+returns-in_err-checked_mul c = let e : c.from_residual-in_err-checked_mul.result ≡ None = c.from_residual-in_err-checked_mul.ensures in
+    e ∙ number_over c.args.s.now c.loop-c.c-index c.loop-c.v c.digit.result (omega arith) c.digit.ensures c.loop-c.invariant.1 c.in_ok-d.d c.in_ok-d.was (grind arith)
 
-pub overflow_mul-v : goal.overflow_mul-v
-overflow_mul-v c =
-    record { fits = let l : c.loop-i.v * 10 + c.worth-d.result < 2 ^ 64 = below _ _ c.fits.ensures (ap not c.if-not-fits.false) in omega arith }
+pub returns-in_err-v : goal.returns-in_err-v
+returns-in_err-v c = let e : c.from_residual-in_err-v.result ≡ None = c.from_residual-in_err-v.ensures in
+    e ∙ number_over c.args.s.now c.loop-c.c-index c.loop-c.v c.digit.result (omega arith) c.digit.ensures c.loop-c.invariant.1 c.in_ok-d.d c.in_ok-d.was (grind arith)
 
-pub overflow_add-v : goal.overflow_add-v
-overflow_add-v c = record { fits = below _ _ c.fits.ensures (ap not c.if-not-fits.false) }
-
-pub loop-i-preserved : goal.loop-i-preserved
-loop-i-preserved c =
-    (omega arith, below _ _ c.fits.ensures (ap not c.if-not-fits.false), number_next _ _ _ c.loop-i.invariant.2 _ _ (omega arith) c.is_digit.ensures (ap not c.if-not-is_digit.false) c.worth-d.ensures)
+pub loop-c-preserved : goal.loop-c-preserved
+loop-c-preserved c =
+    let i : ℕ = c.loop-c.c-index in
+    let v : ℕ = c.loop-c.v in
+    let d : ℕ = c.in_ok-d.d in
+    let e : c.in_ok-v.v ≡ v * 10 + d = c.in_ok-v.ensures.1 ∙ ap (λ (z : ℕ). z + d) c.in_ok-checked_mul.ensures.1 in (
+      omega (arith, c.in_ok-v.ensures),
+      ap (λ (z : ℕ). number_after z (drop (i + 1) c.args.s.now)) e
+          ∙ number_next c.args.s.now i v c.digit.result (omega arith) c.digit.ensures c.loop-c.invariant.1 d c.in_ok-d.was,
+    )
 
 pub returns : goal.returns
-returns c = number-done _ _ _ c.loop-i.invariant.2 c.loop-i-test.false c.loop-i.invariant.1
+returns c = number-done c.args.s.now c.loop-c.c-index c.loop-c.v c.loop-c.invariant.1 (omega arith) c.loop-c.invariant.0

@@ -11,7 +11,6 @@ returns-then-dashed c =
     uuid-dashed _ _ c.dashed.ensures _ _ c.if-dashed.true c.joined.ensures c.hex_uuid.ensures
 
 pub returns-then-s-ne32 : goal.returns-then-s-ne32
-unfolding zeros
 returns-then-s-ne32 c = uuid-none _ _ c.dashed.ensures c.if-dashed.false c.if-s-ne32.true
 
 pub returns : goal.returns

@@ -1,10 +1,9 @@
--- `amseokbin::records::amseokbin_record_begin` meets its contract.
-use mathlib.Core.Path.{ap, ◌∙◌}
-use Rattle.refusal.specs.Refusals.{plain}
+-- `amseokbin::amseokbin_record_begin` meets its contract.
+use mathlib.Core.Path.{refl}
+use Rattle.items.specs.declared.Head.TheVariants.{Plain}
+use Rattle.items.specs.Making.{begin_tests}
+use Rattle.amseokbin.proofs.Numbers.{plain_told}
 use Rattle.amseokbin.proofs.records.amseokbin_record_begin.Goals as goal
 
 pub returns-clause-value : goal.returns-clause-value
-returns-clause-value c = c.plain.ensures ∙ ap plain c.begin.ensures.value
-
-pub returns-clause-content_after : goal.returns-clause-content_after
-returns-clause-content_after c = c.begin.ensures.out_after
+returns-clause-value c = plain_told (begin_tests c.args.content.now (Plain c.args.size)) refl _ _ c.begin.ensures.value c.refusal_in.ensures

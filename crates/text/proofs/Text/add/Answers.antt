@@ -4,16 +4,15 @@ use mathlib.Core.Path.{ap, ◌∙◌}
 use mathlib.Core.List.{List}
 use native.Mathlib.Omega.{arith}
 use lib.ListN.{length, take}
+use Rattle.endian.proofs.Parts.{fits-true, fits-false}
 use Rattle.text.specs.Text.{text}
-use Rattle.text.proofs.Texts.{fits_of, short_of, unplaced, placed}
+use Rattle.text.proofs.Texts.{unplaced, placed}
 use borrow.Author.Rules.{rules}
 use Rattle.text.proofs.Text.add.Goals as goal
 
-pub returns-then-put-ne0 : goal.returns-then-put-ne0
+pub returns-then-not-put : goal.returns-then-not-put
 unfolding text
-returns-then-put-ne0 c =
-    unplaced _ _ _ (search rules)
-    (short_of _ _ _ _ c.put.ensures.value c.if-put-ne0.true)
+returns-then-not-put c = unplaced _ _ _ (search rules) (fits-false _ _ _ c.if-not-put.ensures.value)
 
 pub returns : goal.returns
 unfolding text
@@ -21,8 +20,7 @@ returns c =
     let b : List ℕ = c.args.self.bytes in
     let u : ℕ = c.args.self.used in
     let p : List ℕ = c.args.piece.now in
-    ap (take (u + length p)) c.put.ensures.s_after
-    ∙ placed b u p (search rules) (fits_of _ _ _ _ c.put.ensures.value c.if-put-ne0.false)
+    ap (take (u + length p)) c.put.ensures.s_after ∙ placed b u p (search rules) (fits-true _ _ _ c.if-not-put.ensures.value)
 
 pub overflow_add-result : goal.overflow_add-result
-overflow_add-result c = omega (arith, fits_of _ _ _ _ c.put.ensures.value c.if-put-ne0.false)
+overflow_add-result c = omega (arith, fits-true _ _ _ c.if-not-put.ensures.value)

@@ -1,9 +1,0 @@
--- `amseokbin::copies::area_from` meets its contract.
-use borrow.Author.Tests.{eq-eqb, ne_eqb}
-use Rattle.amseokbin.proofs.copies.area_from.Goals as goal
-
-pub returns-then-n-eq0 : goal.returns-then-n-eq0
-returns-then-n-eq0 c = rw (eq-eqb c.args.n 0 c.if-n-eq0.true)
-
-pub returns : goal.returns
-returns c = rw (ne_eqb c.args.n 0 c.if-n-eq0.false)

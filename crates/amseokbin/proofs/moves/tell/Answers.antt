@@ -1,8 +1,0 @@
--- `amseokbin::moves::tell` meets its contract.
-use Rattle.amseokbin.proofs.moves.tell.Goals as goal
-
-pub returns-in-Length : goal.returns-in-Length
-returns-in-Length c = rw (c.in-Length.is, c.plain.ensures)
-
-pub returns-in-Refused : goal.returns-in-Refused
-returns-in-Refused c = rw c.in-Refused.is

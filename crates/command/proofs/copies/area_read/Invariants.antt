@@ -1,9 +1,0 @@
--- `command::copies::area_read` ends.
-use Rattle.std.proofs.Common.{◌-◌, ◌≤◌}
-use Rattle.command.proofs.copies.area_read.Given as goal
-
-abbrev pub invariant-loop-j : goal.invariant-loop-j
-invariant-loop-j l = l.j ≤ l.k
-
-abbrev pub decreases-loop-j : goal.decreases-loop-j
-decreases-loop-j l = l.k - l.j
