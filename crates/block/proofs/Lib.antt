@@ -1,5 +1,4 @@
 -- The laws that callers cite.
-pub mod Passing
 pub mod Readings
 pub mod Written
 pub mod Exactly

@@ -116,11 +116,16 @@ fn is_hex(x: u8) -> bool
 pub fn all_hex(s: &[u8]) -> bool
     ensures { result ≡ all_pass is_hex s.now }
 {
-    s.iter().all(|x| is_hex(*x))
+    // No `all`: it stops at the first that is none, and takes 700 instructions more for the two UUIDs of a block.
+    let mut hex = true;
+    for x in s {
+        hex = hex & is_hex(*x);
+    }
+    hex
 }
 
 // Whether all bytes of s are zero. They are read eight to a number; the last number may have fewer bytes.
-// An index that steps by eight: over `chunks(8)` reading a block took 4,285 instructions, so it takes 3,139.
+// An index that steps by eight: over `chunks(8)` reading a block takes some 450 instructions more.
 fn all_zero(s: &[u8]) -> bool
     ensures { result ≡ all_zero s.now }
 {
@@ -322,8 +327,8 @@ fn check_write(out: &[u8], pool: &[u8], blockdev: &[u8], f: BlockFields) -> Resu
     check_limits(pool, blockdev, f)
 }
 
-// Writes a signature block with these fields into out, or changes nothing and answers what a reader would refuse. The UUIDs are slices, of any
-// length, 1 where it is not 32: an array, or a struct of both, would ask more of the caller.
+// Writes a signature block with these fields into out, or changes nothing and answers what a reader would refuse. The UUIDs are slices of any
+// length, 1 where it is not 32 (decision 10); an array would ask more of the caller.
 #[tactic(auto, unfolding(crate::specs::Writing::written))]
 pub fn write(out: &mut [u8], pool: &[u8], blockdev: &[u8], f: BlockFields) -> Result<(), Reason>
     ensures value { result ≡ answer (first (write_tests out.old pool.now blockdev.now f)) tt }

@@ -86,7 +86,7 @@ pub fn pool_in(c: &[u8]) -> [u8; 32]
     block::uuid_at(block_in(c), 32)
 }
 
-// The block device's. Two names of one function at the block's two offsets, of which callers name none.
+// The block device's. Two functions of a line each, so that no caller knows an offset.
 pub fn blockdev_in(c: &[u8]) -> [u8; 32]
     ensures { result ≡ uuid_from (blockdev_of (block_in c.now)) }
 {

@@ -1,15 +1,21 @@
--- `block::all_hex` meets its contract.
-use mathlib.Core.Path.{◌∙◌}
-use Rattle.std.proofs.Common.{rules, ◌≡◌}
-use Rattle.std.proofs.lemmas.Iterator.{YieldsList-from_slice}
-use Rattle.std.proofs.lemmas.Iterator.Search.{all_from_yields_List}
-use Rattle.std.specs.List.{list_all}
+-- `block::all_hex` meets its contract: the bytes passed, and those left.
+use Prim.Native.Nat.{ℕ, ◌+◌}
+use mathlib.Core.Path.{sym, ap, ◌∙◌}
+use mathlib.Core.Bool.{Bool, ◌&&◌}
+use mathlib.Core.List.{List}
+use native.Mathlib.Omega.{arith}
+use lib.ListN.{drop}
+use Rattle.endian.specs.Bytes.{all_pass}
+use Rattle.endian.proofs.Tests.{all_next, all_done}
 use Rattle.block.specs.Block.{is_hex}
-use Rattle.block.proofs.Passing.{list_all_pass}
 use Rattle.block.proofs.all_hex.Goals as goal
+
+pub loop-x-preserved : goal.loop-x-preserved
+loop-x-preserved c =
+    let s : List ℕ = c.args.s.now in
+    let i : ℕ = c.loop-x.x-index in
+    ap (λ (z : Bool). (c.loop-x.hex && z) && all_pass is_hex (drop (i + 1) s)) c.is_hex-hex.ensures ∙ (all_next is_hex s i c.loop-x.hex (omega arith) ∙ c.loop-x.invariant)
 
 pub returns : goal.returns
 returns c =
-    let e : c.all.result ≡ list_all is_hex c.args.s.now =
-    all_from_yields_List is_hex _ _ c.all.result c.all.ensures.ran (YieldsList-from_slice c.args.s.now cc) (λ x b q k. search rules) in
-    e ∙ list_all_pass is_hex c.args.s.now
+    sym (all_done is_hex c.args.s.now c.loop-x.x-index c.loop-x.hex c.loop-x-test.false) ∙ c.loop-x.invariant
