@@ -21,17 +21,19 @@ use Rattle.refusal.proofs.Reasons.{told_zero, told_other}
 use Rattle.refusal.proofs.Order.{first-zero, first-after, first_all, first_below}
 use Rattle.layout.specs.declared.Device.{Device}
 use Rattle.layout.specs.Limits.{record_limit}
-use Rattle.layout.specs.Places.{data_end}
+use Rattle.layout.specs.Places.{data_start, data_end}
 use Rattle.search.specs.Search.{one}
 use Rattle.search.proofs.Search.{and_false-right, both, not_true-false}
 use Rattle.segments.specs.declared.Segment.{Segment}
 use Rattle.segments.specs.declared.Range.{Range}
 use Rattle.segments.specs.Segments.{none, nth, end_of, holds, InRange}
+use Rattle.segments.specs.Order.{picked_at, Placed}
 use Rattle.segments.specs.Sectors.{held_by, is_free, free_sectors}
 use Rattle.segments.proofs.Segments.{holds_in, holds_low, holds_high}
 use Rattle.segments.proofs.Sectors.{Laid, held_none, held_more, held-append, held_not, held_once, free_low, free_high, free-held, is_free_lem, held_not_free, free-same}
 use Rattle.runs.specs.declared.Run.{Run}
 use Rattle.runs.specs.Runs.{no_run, runs_of, run_at, fit_of, fitting}
+use Rattle.runs.specs.Gaps.{gaps}
 use Rattle.runs.specs.Demand.{FreeRun, InRun, LowestFit}
 use Rattle.runs.proofs.Fit.{none-fits}
 use Rattle.runs.proofs.Demand.{longest, every-run, ascending, all_free, fit}
@@ -41,12 +43,13 @@ use Rattle.items.specs.Making.{record_of, appended, removed, unless}
 use Rattle.items.proofs.Heads.{most_room, room_most}
 use Rattle.items.proofs.Items.{formed}
 use Rattle.items.proofs.Making.{length_record, length-appended, appended_is, removed_is}
-use Rattle.record.specs.Accept.{record_tests, named, answered}
+use Rattle.record.specs.Accept.{record_tests, named, answered, checked}
 use Rattle.record.specs.Answers.{position_tests}
 use Rattle.record.specs.Demand.{Right}
 use Rattle.record.proofs.Testing.{record_ascending, more_no}
 use Rattle.record.proofs.Naming.{refusal_named}
 use Rattle.record.proofs.Accepted.{Accepted, accepted, laid}
+use Rattle.record.proofs.Demand.{ordered_all}
 use Rattle.record.proofs.Right.{read_head, read_segments, accepted_made, accepted-right}
 use Rattle.record.proofs.Change.{right-append, right_remove, less}
 use Rattle.allocation.specs.declared.Allocation.{Allocation}
@@ -60,6 +63,13 @@ use Rattle.allocation.proofs.Leaving.{release-past, release-short, release-passe
 use Rattle.allocation.proofs.Tables.{numbers-length, numbers-at}
 use Rattle.allocation.proofs.Calls.{after_record, ordered_on, fit-zero, fit_none, fit-some, table-short, table_room, own_kind, own-zero, own-full, own-none, own-short}
 
+-- with the order that an accepted record has
+between_runs : (d : Device) (s : List ℕ)
+    → (p : List ℕ) × ((checked (first (record_tests d s)) s ≡ Ok p) × Placed (segments s) (take (length (segments s)) p))
+    → (p : List ℕ) × ((checked (first (record_tests d s)) s ≡ Ok p)
+    × (runs_in d s ≡ gaps (data_start d) (data_end d) (picked_at (segments s) (take (length (segments s)) p))))
+between_runs d s (p, (e, _)) = (p, (e, sym (ordered_on d s p [] e).runs))
+
 pub runs : Runs
 runs d s h =
     record {
@@ -67,7 +77,7 @@ runs d s h =
       ascending = ascending (free_in d s) (data_end d);
       every = every-run (free_in d s) (data_end d);
       all = λ x f. all_free (free_in d s) (data_end d) x (free_high (data_range d) (segments s) x f) f;
-      between = λ p e. sym (ordered_on d s p [] e).runs;
+      between = between_runs d s (ordered_all d s h);
     }
 
 -- REFUSED: the number, and what was lent as it was

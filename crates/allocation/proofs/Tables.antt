@@ -58,6 +58,14 @@ numbers-at (r ∷ rs) zero rest l = refl
 numbers-at (r ∷ rs) (suc i) rest l =
     ap (λ (k : ℕ). take 2 (drop k (numbers_of (r ∷ rs) ++ rest))) (twice i) ∙ numbers-at rs i rest (le_of_suc-le-suc l)
 
+pub numbers-first : (rs : List Run) (i : ℕ) → take (2 * i) (numbers_of rs) ≡ numbers_of (take i rs)
+unfolding numbers_of
+numbers-first [] zero = refl
+numbers-first [] (suc i) = ap (λ (k : ℕ). take k []) (twice i)
+numbers-first (r ∷ rs) zero = refl
+numbers-first (r ∷ rs) (suc i) =
+    ap (λ (k : ℕ). take k (numbers_of (r ∷ rs))) (twice i) ∙ ap (λ (l : List ℕ). r.start ∷ r.sectors ∷ l) (numbers-first rs i)
+
 -- the first of what is left after i, and nothing left
 pub drop_next : (rs : List Run) (i : ℕ) (x : Run) (xs : List Run) → drop i rs ≡ x ∷ xs → (i < length rs) × ((x ≡ run_at rs i) × (drop (suc i) rs ≡ xs))
 drop_next [] zero x xs h = let z : ◌≡◌ {A = ℕ} 0 1 = cc in absurd (omega arith)

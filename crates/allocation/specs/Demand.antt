@@ -38,8 +38,8 @@ pub record Free (d : Device) (s : List ℕ) : Type 0 where
       → (run_at (runs_in d s) j).start + (run_at (runs_in d s) j).sectors < (run_at (runs_in d s) k).start
   pub every : (r : Run) → FreeRun (free_in d s) (data_end d) r → (k : ℕ) × ((k < length (runs_in d s)) × (run_at (runs_in d s) k ≡ r))
   pub all : (x : ℕ) → free_in d s x ≡ true → InRun (runs_in d s) x
-  pub between : (p : List ℕ) → checked (first (record_tests d s)) s ≡ Ok p
-      → runs_in d s ≡ gaps (data_start d) (data_end d) (picked_at (segments s) (take (length (segments s)) p))
+  pub between : (p : List ℕ) × ((checked (first (record_tests d s)) s ≡ Ok p)
+      × (runs_in d s ≡ gaps (data_start d) (data_end d) (picked_at (segments s) (take (length (segments s)) p))))
 
 abbrev pub Runs : Type 0
 Runs = (d : Device) (s : List ℕ) → first (record_tests d s) ≡ 0 → Free d s

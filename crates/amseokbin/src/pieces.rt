@@ -5,7 +5,6 @@ ghost use Rattle.amseokbin.specs.Copies.{receive_answer, copy_answer};
 
 use crate::{CopyAnswer, ReceiveAnswer, copies};
 use receive::Received;
-use refusal::Refusal;
 
 // The state before the first piece.
 #[unsafe(no_mangle)]
@@ -15,20 +14,16 @@ pub extern "C" fn amseokbin_receive_begin() -> Received
     receive::begin()
 }
 
-// Takes a piece.
+// Takes a piece. The state goes on in place: answered by `receive::piece` it is copied once more.
 #[unsafe(no_mangle)]
 pub extern "C" fn amseokbin_receive_piece(received: Received, piece: &[u8]) -> ReceiveAnswer
     ensures { result ≡ receive_answer received (taking received piece.now) }
 {
-    match receive::piece(received, piece) {
-        Ok(next) => ReceiveAnswer {
-            refusal: refusal::plain(0),
-            received: next,
-        },
-        Err(r) => ReceiveAnswer {
-            refusal: Refusal::from(r),
-            received,
-        },
+    let mut next = received;
+    let answer = receive::take(&mut next, piece);
+    ReceiveAnswer {
+        refusal: crate::refusal_in(answer),
+        received: next,
     }
 }
 

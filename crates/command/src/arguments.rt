@@ -88,11 +88,12 @@ pub(crate) struct Request<'a> {
     pub width: Option<&'a [u8]>,
 }
 
-// Why a command line is wrong: no word is known by its name, or what is wrong with what follows was said.
+// Why a command line is wrong: no word is known by its name, or what is wrong with what follows was said; then the request as far as it
+// was read.
 #[derive(Clone, Copy)]
 pub(crate) enum Wrong<'a> {
     Name(&'a [u8]),
-    Use(Word),
+    Use(Request<'a>),
 }
 
 // A command line of which a part was read: whether that part is wrong, how many arguments were given, and the option whose value comes
@@ -291,9 +292,9 @@ impl<'a> Request<'a> {
         }
     }
 
-    // The image's name; no bytes where none is given.
-    pub(crate) fn path(self) -> &'a [u8] {
-        self.image.map_or(&[], |image| image.name)
+    // The image's name; the command's where none is given.
+    pub(crate) fn path(self, name: &'a [u8]) -> &'a [u8] {
+        self.image.map_or(name, |image| image.name)
     }
 }
 
@@ -376,18 +377,18 @@ impl<'a> Part<'a> {
     fn ended(self) -> Result<Request<'a>, Wrong<'a>> {
         let p = self.request;
         if self.wrong {
-            return Err(Wrong::Use(p.word));
+            return Err(Wrong::Use(p));
         }
         if p.help {
             return Ok(p);
         }
         if self.waiting.is_some() {
             complain(b"amseokbin: an option has no value\n");
-            return Err(Wrong::Use(p.word));
+            return Err(Wrong::Use(p));
         }
         if self.given < p.word.rules().least {
             complain(b"amseokbin: an argument is missing\n");
-            return Err(Wrong::Use(p.word));
+            return Err(Wrong::Use(p));
         }
         Ok(p)
     }
@@ -423,6 +424,14 @@ pub(crate) fn asked(line: &[u8]) -> Result<Request<'_>, Wrong<'_>> {
         part = part.and(s, i);
     }
     part.ended()
+}
+
+// The same as far as it was read, where it is wrong too; nothing where its word is not known.
+pub(crate) fn asked_so_far(line: &[u8]) -> Option<Request<'_>> {
+    match asked(line) {
+        Ok(p) | Err(Wrong::Use(p)) => Some(p),
+        Err(Wrong::Name(_)) => None,
+    }
 }
 
 // Says that a value is not what it has to be: which, and what it has to be.

@@ -210,7 +210,7 @@ pub(crate) enum Wish {
 }
 
 // The words `allocate`, `release`, `head` and `mark`.
-pub(crate) fn wish_word(look: Look<'_>, way: Way, wish: Wish) -> Status {
+pub(crate) fn wish_word(look: Look<'_>, way: Way, wish: Option<Wish>) -> Status {
     if !sure(look) {
         return Status::Failed;
     }
@@ -221,8 +221,9 @@ pub(crate) fn wish_word(look: Look<'_>, way: Way, wish: Wish) -> Status {
     };
     let r = endian::window(&bytes, 0, length);
     match wish {
-        Wish::Allocate(kind, sectors) => allocate_in(look, way, kind, sectors, r),
-        Wish::Release(position) => release_in(look, way, position, r),
-        Wish::Head(change) => head_in(look, way, change, r),
+        Some(Wish::Allocate(kind, sectors)) => allocate_in(look, way, kind, sectors, r),
+        Some(Wish::Release(position)) => release_in(look, way, position, r),
+        Some(Wish::Head(change)) => head_in(look, way, change, r),
+        None => Status::Usage,
     }
 }

@@ -198,7 +198,7 @@ pub(crate) fn version(out: Stdout) -> Status {
 // A command line that is wrong, of which the usage is said, and which word is not known where none is.
 pub(crate) fn wrong(why: Wrong<'_>) -> Status {
     match why {
-        Wrong::Use(w) => say_usage(usage_of(w)),
+        Wrong::Use(p) => say_usage(usage_of(p.word)),
         Wrong::Name(name) => {
             if name.is_empty() {
                 complain(b"amseokbin: a word is missing\n");

@@ -29,7 +29,7 @@ mod storing;
 
 ghost use Rattle.std.specs.Prelude.{◌≤◌};
 
-use arguments::{Request, Word};
+use arguments::{Request, Word, Wrong};
 use block::Time;
 use image::Drive;
 use run::Given;
@@ -42,7 +42,7 @@ use std::rt::Files;
 
 // How the image is opened.
 #[derive(Clone, Copy, PartialEq, Eq)]
-pub enum Access {
+enum Access {
     Read,
     Write,
 }
@@ -67,17 +67,20 @@ pub struct Asked {
 
 // An image that is open by a descriptor.
 #[derive(Clone, Copy)]
-pub struct Descriptor {
-    pub number: u64,
-    pub access: Access,
+struct Descriptor {
+    number: u64,
+    access: Access,
 }
 
-// What the machine gives: the image, where one is open, the terminal's columns, where there is one, and the time.
+// What the machine gives: the access, 2 for writing, and the descriptor by which the image is open (0 where none is), the terminal's
+// columns (0 where there is none), and the time.
 #[derive(Clone, Copy)]
 pub struct Machine {
-    pub image: Option<Descriptor>,
-    pub columns: Option<u64>,
-    pub now: Time,
+    pub access: u64,
+    pub image: u64,
+    pub columns: u64,
+    pub seconds: u64,
+    pub nanoseconds: u64,
 }
 
 // The three standard streams.
@@ -102,8 +105,8 @@ fn wanted(p: Request<'_>) -> Want {
     if p.help || matches!(p.word, Word::Help | Word::Version | Word::Receive) {
         return Want::NoImage;
     }
-    if run::values_of(p).is_none() {
-        return Want::Nothing(help::wrong(arguments::Wrong::Use(p.word)));
+    if run::check_values(p).is_err() {
+        return Want::Nothing(help::wrong(Wrong::Use(p)));
     }
     Want::Image {
         access: access_of(p),
@@ -164,22 +167,31 @@ fn access_numbered(n: u64) -> Access {
     if n == 2 { Access::Write } else { Access::Read }
 }
 
-// What a program in C says in place of the command's name: five numbers with blanks between them, the access and the descriptor by which
-// the image is open (0 where none is), the terminal's columns (0 where there is none), and the time in seconds and nanoseconds.
+impl Machine {
+    // The image, where one is open.
+    fn descriptor(self) -> Option<Descriptor> {
+        let access = access_numbered(self.access);
+        some(self.image).map(|number| Descriptor { number, access })
+    }
+
+    // The time, with nanoseconds below a second.
+    fn now(self) -> Time {
+        Time {
+            seconds: self.seconds,
+            nanoseconds: (self.nanoseconds % 1000000000) as u32,
+        }
+    }
+}
+
+// What a program in C says in place of the command's name: five numbers with blanks between them.
 fn read_machine(line: &[u8]) -> Option<Machine> {
     let s = arguments::argument(line, 0);
-    let access = access_numbered(number_at(s, 0)?);
-    let descriptor = number_at(s, 1)?;
-    let columns = number_at(s, 2)?;
-    let seconds = number_at(s, 3)?;
-    let nanoseconds = number_at(s, 4)?;
     Some(Machine {
-        image: some(descriptor).map(|number| Descriptor { number, access }),
-        columns: some(columns),
-        now: Time {
-            seconds,
-            nanoseconds: (nanoseconds % 1000000000) as u32,
-        },
+        access: number_at(s, 0)?,
+        image: number_at(s, 1)?,
+        columns: number_at(s, 2)?,
+        seconds: number_at(s, 3)?,
+        nanoseconds: number_at(s, 4)?,
     })
 }
 
@@ -202,11 +214,12 @@ fn answer(streams: Streams, line: &[u8]) -> Status {
         Word::Help => help::run(out, p.image.map(|image| image.name)),
         Word::Version => help::version(out),
         Word::Receive => pieces::run(streams.input, out, streams.errors, p.both),
-        _ => help::wrong(arguments::Wrong::Name(arguments::argument(line, 1))),
+        _ => help::wrong(Wrong::Name(arguments::argument(line, 1))),
     }
 }
 
-// Does what the command line wants with the open image, and answers the command's status.
+// Does what the command line wants with the open image, and answers the command's status. A line that `read_request` refuses is carried
+// out as far as it was read.
 pub fn carry_out<R: Files + RandomSource>(
     rt: &R,
     streams: Streams,
@@ -222,14 +235,11 @@ pub fn carry_out<R: Files + RandomSource>(
     };
     let g = Given {
         drive,
-        columns: m.columns,
-        now: m.now,
+        name: arguments::argument(line, 0),
+        columns: some(m.columns),
+        now: m.now(),
     };
-    let status = match arguments::asked(line) {
-        Ok(p) => run::run(rt, p, g),
-        Err(why) => help::wrong(why),
-    };
-    u32::from(status)
+    u32::from(run::run(rt, arguments::asked_so_far(line), g))
 }
 
 // The image, open by a descriptor that is already there.
@@ -243,10 +253,8 @@ fn opened<R: Files<File = File>>(rt: &R, d: Descriptor) -> Result<File, Error> {
 
 // Says why the image cannot be opened; the status.
 fn refuse_image(line: &[u8], e: Error) -> Status {
-    let path = match arguments::asked(line) {
-        Ok(p) => p.path(),
-        Err(_) => &[],
-    };
+    let name = arguments::argument(line, 0);
+    let path = arguments::asked_so_far(line).map_or(name, |p| p.path(name));
     say::fail(path, e);
     Status::Failed
 }
@@ -263,7 +271,7 @@ pub fn perform<R: Files<File = File> + RandomSource>(rt: &R, streams: Streams, l
         );
         return u32::from(Status::Failed);
     };
-    let Some(d) = m.image else {
+    let Some(d) = m.descriptor() else {
         return u32::from(answer(streams, line));
     };
     match opened(rt, d) {

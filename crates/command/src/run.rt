@@ -12,30 +12,19 @@ use heads::Change;
 use std::random::RandomSource;
 use std::rt::Files;
 
-// What the machine gives: the open image, the terminal's columns where there is a terminal, and the time.
+// What the machine gives: the open image, the command's name, which stands in place of an argument that is not given, the terminal's
+// columns where there is a terminal, and the time.
 #[derive(Clone, Copy)]
 pub(crate) struct Given<'a> {
     pub drive: Drive<'a>,
+    pub name: &'a [u8],
     pub columns: Option<u64>,
     pub now: Time,
 }
 
-// The values on a command line, none where an option is not given.
-#[derive(Clone, Copy)]
-pub(crate) struct Values {
-    metadata: Option<u64>,
-    reserved: Option<u64>,
-    block: Option<u64>,
-    mark: Option<u32>,
-    pool: Option<[u8; 32]>,
-    device: Option<[u8; 32]>,
-    width: Option<u64>,
-    wish: Option<Wish>,
-}
-
 // A value that is not what it has to be, which was said.
 #[derive(Clone, Copy)]
-struct Bad;
+pub(crate) struct Bad;
 
 // What an argument says, where it says anything; else it is said what it has to be.
 fn said<T>(s: &[u8], value: Option<T>, what: &str) -> Result<T, Bad> {
@@ -118,25 +107,33 @@ fn optional<T, F: FnOnce(&[u8]) -> Result<T, Bad>>(
     }
 }
 
-// What is asked of the record.
-fn wish_of(p: Request<'_>) -> Result<Option<Wish>, Bad> {
+// The same of the words that change the record as is asked.
+fn check_wish(p: Request<'_>) -> Result<(), Bad> {
     let second = p.second.unwrap_or(&[]);
     let third = p.third.unwrap_or(&[]);
-    Ok(match p.word {
+    match p.word {
         Word::Allocate => {
             let kind = kind(second);
             let sectors = size(third);
-            Some(Wish::Allocate(kind?, sectors?))
+            kind?;
+            sectors?;
         }
-        Word::Release => Some(Wish::Release(number(second)?)),
-        Word::Head => Some(Wish::Head(head_move(second)?)),
-        Word::Mark => Some(Wish::Head(Change::Mark(blocks(second)?))),
-        _ => None,
-    })
+        Word::Release => {
+            number(second)?;
+        }
+        Word::Head => {
+            head_move(second)?;
+        }
+        Word::Mark => {
+            blocks(second)?;
+        }
+        _ => {}
+    }
+    Ok(())
 }
 
 // Reads the values on the command line, all of them, so that each one that is not what it has to be is said. Nothing is opened before.
-fn read_values(p: Request<'_>) -> Result<Values, Bad> {
+pub(crate) fn check_values(p: Request<'_>) -> Result<(), Bad> {
     let metadata = optional(p.metadata, size);
     let reserved = optional(p.reserved, size);
     let block = optional(p.block, size);
@@ -144,22 +141,25 @@ fn read_values(p: Request<'_>) -> Result<Values, Bad> {
     let pool = optional(p.pool, uuid);
     let device = optional(p.device, uuid);
     let width = optional(p.width, width);
-    let wish = wish_of(p);
-    Ok(Values {
-        metadata: metadata?,
-        reserved: reserved?,
-        block: block?,
-        mark: mark?,
-        pool: pool?,
-        device: device?,
-        width: width?,
-        wish: wish?,
-    })
+    let wish = check_wish(p);
+    metadata?;
+    reserved?;
+    block?;
+    mark?;
+    pool?;
+    device?;
+    width?;
+    wish
 }
 
-// The same, or nothing where one is not what it has to be.
-pub(crate) fn values_of(p: Request<'_>) -> Option<Values> {
-    read_values(p).ok()
+// A number that is given, which is 0 where it is not what it has to be.
+fn value<T: Default + Drop, F: FnOnce(&[u8]) -> Result<T, Bad>>(
+    s: Option<&[u8]>,
+    read: F,
+) -> Option<T>
+    requires { F.IsAlwaysCallable read }
+{
+    optional(s, read).unwrap_or(Some(T::default()))
 }
 
 fn digit(x: u8) -> u8 {
@@ -181,45 +181,55 @@ fn made_name<R: RandomSource>(rt: &R) -> Option<[u8; 32]> {
 }
 
 // A UUID that is given, or a new one.
-fn name_or_made<R: RandomSource>(rt: &R, name: Option<[u8; 32]>) -> Option<[u8; 32]> {
-    match name {
-        Some(name) => Some(name),
+fn name_or_made<R: RandomSource>(rt: &R, s: Option<&[u8]>) -> Option<[u8; 32]> {
+    match s {
+        Some(s) => uuid(s).ok(),
         None => made_name(rt),
     }
 }
 
 // The word `format`.
-fn format_word<R: RandomSource>(rt: &R, p: Request<'_>, v: Values, g: Given<'_>) -> Status {
-    let pool = name_or_made(rt, v.pool);
-    let device = name_or_made(rt, v.device);
+fn format_word<R: RandomSource>(rt: &R, p: Request<'_>, g: Given<'_>) -> Status {
+    let pool = name_or_made(rt, p.pool);
+    let device = name_or_made(rt, p.device);
     let (Some(pool), Some(device)) = (pool, device) else {
         return Status::Failed;
     };
     let w = Wanted {
-        metadata: v.metadata.unwrap_or(2040),
-        reserved: v.reserved.unwrap_or(0),
-        block: v.block.unwrap_or(128),
-        mark: v.mark,
+        metadata: value(p.metadata, size).unwrap_or(2040),
+        reserved: value(p.reserved, size).unwrap_or(0),
+        block: value(p.block, size).unwrap_or(128),
+        mark: value(p.low_water, blocks),
         replace: p.replace,
         dry: p.dry,
         now: g.now,
         pool,
         device,
     };
-    create::run(p.path(), g.drive, w)
+    create::run(p.path(g.name), g.drive, w)
 }
 
-// The words that change the record as is asked.
-fn wish_word(look: Look<'_>, way: Way, wish: Option<Wish>) -> Status {
-    match wish {
-        Some(wish) => change::wish_word(look, way, wish),
-        None => Status::Usage,
+// What is asked of the record; nothing where a head is moved neither up nor back.
+fn wish_of(p: Request<'_>, name: &[u8]) -> Option<Wish> {
+    let second = p.second.unwrap_or(name);
+    match p.word {
+        Word::Allocate => {
+            let kind = kind(second).unwrap_or(0);
+            Some(Wish::Allocate(kind, value(p.third, size).unwrap_or(0)))
+        }
+        Word::Release => Some(Wish::Release(value(p.second, number).unwrap_or(0))),
+        Word::Head => head_move(second).ok().map(Wish::Head),
+        Word::Mark => {
+            let mark = value(p.second, blocks).unwrap_or(0);
+            Some(Wish::Head(Change::Mark(mark)))
+        }
+        _ => None,
     }
 }
 
 // The words that read the copies first.
-fn with_look<R: Files>(rt: &R, p: Request<'_>, v: Values, g: Given<'_>, look: Look<'_>) -> Status {
-    let file = p.second.unwrap_or(&[]);
+fn with_look<R: Files>(rt: &R, p: Request<'_>, g: Given<'_>, look: Look<'_>) -> Status {
+    let file = p.second.unwrap_or(g.name);
     let way = Way {
         now: g.now,
         dry: p.dry,
@@ -228,11 +238,13 @@ fn with_look<R: Files>(rt: &R, p: Request<'_>, v: Values, g: Given<'_>, look: Lo
         Word::Find => find::run(look),
         Word::Check => check::run(look),
         Word::Show => {
-            let columns = v.width.or(g.columns).unwrap_or(80);
+            let columns = value(p.width, number).or(g.columns).unwrap_or(80);
             show::run(look, p.plain, columns)
         }
         Word::Mend => repair::run(look, p.dry, p.unreadable),
-        Word::Allocate | Word::Release | Word::Head | Word::Mark => wish_word(look, way, v.wish),
+        Word::Allocate | Word::Release | Word::Head | Word::Mark => {
+            change::wish_word(look, way, wish_of(p, g.name))
+        }
         Word::Record => keep::record_word(look),
         Word::Dump => keep::dump_word(look),
         Word::Update => change::update_word(rt, look, way, file),
@@ -242,23 +254,24 @@ fn with_look<R: Files>(rt: &R, p: Request<'_>, v: Values, g: Given<'_>, look: Lo
     }
 }
 
-// Reads the copies of the image and does what a word asks for.
-fn read_copies<R: Files>(rt: &R, p: Request<'_>, v: Values, g: Given<'_>) -> Status {
+// Reads the copies of the image and does what a word asks for; where none is known, nothing more.
+fn read_copies<R: Files>(rt: &R, p: Option<Request<'_>>, g: Given<'_>) -> Status {
+    let path = p.map_or(g.name, |p| p.path(g.name));
     let mut front = copies::BLANK;
     let mut back = copies::BLANK;
     let places = copies::read(g.drive.image, &mut front, &mut back);
-    let look = copies::known(p.path(), g.drive, places, &front, &back);
+    let look = copies::known(path, g.drive, places, &front, &back);
     copies::note_unread(look);
-    with_look(rt, p, v, g, look)
+    match p {
+        Some(p) => with_look(rt, p, g, look),
+        None => Status::Usage,
+    }
 }
 
 // Does what is asked for; its status.
-pub(crate) fn run<R: Files + RandomSource>(rt: &R, p: Request<'_>, g: Given<'_>) -> Status {
-    let Some(v) = values_of(p) else {
-        return Status::Usage;
-    };
-    match p.word {
-        Word::Format => format_word(rt, p, v, g),
-        _ => read_copies(rt, p, v, g),
+pub(crate) fn run<R: Files + RandomSource>(rt: &R, p: Option<Request<'_>>, g: Given<'_>) -> Status {
+    match p {
+        Some(p) if p.word == Word::Format => format_word(rt, p, g),
+        _ => read_copies(rt, p, g),
     }
 }

@@ -123,6 +123,17 @@ pub fn same(a: &[u8], b: &[u8]) -> bool
     a == b
 }
 
+// Fills all of s with the bytes of v, of which there are as many. A `for` over places, which becomes `memcpy`: `copy_from_slice` becomes `memmove`,
+// which the archive for C would need beside it.
+fn fill_from(s: &mut [u8], v: &[u8])
+    requires { length s.old ≡ length v.now }
+    ensures { s.new ≡ v.now }
+{
+    for i in 0..s.len() {
+        s[i] = v[i];
+    }
+}
+
 // Stores the bytes of v at `at`, or nothing where they do not fit; answers whether they do.
 pub fn put(s: &mut [u8], at: usize, v: &[u8]) -> bool
     ensures value { result ≡ fits s.old at (length v.now) }
@@ -130,7 +141,7 @@ pub fn put(s: &mut [u8], at: usize, v: &[u8]) -> bool
 {
     let room = fits(s, at, v.len());
     if room {
-        s[at..at + v.len()].copy_from_slice(v);
+        fill_from(&mut s[at..at + v.len()], v);
     }
     room
 }

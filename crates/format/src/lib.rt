@@ -195,7 +195,7 @@ pub fn flush(i: u64) -> bool
 }
 
 // Sector k of a side's copy into out; the sector of the device that it goes to.
-#[tactic(auto, unfolding(endian::specs::Bytes::window, layout::specs::Limits::record_limit, layout::specs::Places::copy_bytes, sectors::specs::Sectors::copy_sectors))]
+#[tactic(auto, unfolding(layout::specs::Limits::record_limit, layout::specs::Places::copy_bytes, sectors::specs::Sectors::copy_sectors))]
 fn put_sector(side: Side, d: Device, c: &[u8], k: usize, out: &mut [u8]) -> u64
     requires c_size { length c.now ≡ copy_bytes }
     requires k_bound { k < copy_sectors }
@@ -203,8 +203,11 @@ fn put_sector(side: Side, d: Device, c: &[u8], k: usize, out: &mut [u8]) -> u64
     ensures value { result ≡ sector_at side d k }
     ensures out_after { out.new ≡ nth_sector c.now k }
 {
-    let at = layout::SECTOR_BYTES * k;
-    out.copy_from_slice(&c[at..at + layout::SECTOR_BYTES]);
+    endian::put(
+        out,
+        0,
+        endian::window(c, layout::SECTOR_BYTES * k, layout::SECTOR_BYTES),
+    );
     sectors::sector_at(side, d, k)
 }
 

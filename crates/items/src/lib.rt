@@ -385,7 +385,8 @@ pub fn put_segment(out: &mut [u8], at: usize, g: Segment) -> Result<(), Reason>
     ensures value { result ≡ answer (first (room_tests out.old at item_bytes)) tt }
     ensures out_after { out.new ≡ splice out.old at (segment_bytes g) }
 {
-    if out.len().saturating_sub(at) < ITEM_BYTES {
+    // Two tests, so that the compiler knows `at` within the slice and drops those of the four writes.
+    if out.len() < at || out.len() - at < ITEM_BYTES {
         return Err(Reason::SliceSize);
     }
     endian::write_u16(out, at, ITEM_BYTES as u16);

@@ -17,14 +17,7 @@ use Rattle.copy.specs.Copy.{present_at, mapped, copy_reading}
 use Rattle.copy.specs.Demand.{Sized, moment, a_in, b_in, present_in, Reads}
 use Rattle.receive.specs.declared.Received.{Received}
 use Rattle.receive.specs.Receive.{fresh, part, used_in, taking, ending}
-
--- the state that a caller has after a piece: the one that is answered, or its own where the piece is refused
-abbrev pub kept_after : Received → Result Received Reason → Received
-kept_after s (Ok t) = t
-kept_after s (Err e) = s
-
-abbrev pub state_after : Received → List ℕ → Received
-state_after s p = kept_after s (taking s p)
+pub use Rattle.receive.specs.Receive.{kept_after, state_after}
 
 -- the pieces one after the other, each state handed on as given: the last state
 abbrev pub after : Received → List (List ℕ) → Received

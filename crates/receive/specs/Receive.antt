@@ -56,6 +56,19 @@ advanced s p = advanced_with s p (block_with s.block s.taken p)
 unfoldable pub taking : Received → List ℕ → Result Received Reason
 taking s p = cond (fits_in s.taken (length p)) (Ok (advanced s p)) (Err (reason slice_size))
 
+-- of that, whether it was taken, or why it is refused
+abbrev pub told : Result Received Reason → Result (Unit {0}) Reason
+told (Ok t) = Ok tt
+told (Err e) = Err e
+
+-- and the state that a caller has after a piece: the one that is answered, or its own where the piece is refused
+abbrev pub kept_after : Received → Result Received Reason → Received
+kept_after s (Ok t) = t
+kept_after s (Err e) = s
+
+abbrev pub state_after : Received → List ℕ → Received
+state_after s p = kept_after s (taking s p)
+
 -- an area is whole, whose used bytes have this checksum
 abbrev pub sum_right : ℕ → Option Holding → Bool
 sum_right sum None = false

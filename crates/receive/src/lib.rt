@@ -3,7 +3,7 @@
 #![tactic(auto)]
 
 ghost use Rattle.std.specs.Prelude.{◌≡◌};
-ghost use Rattle.receive.specs.Receive.{part, block_with, used_in, sum_with, fresh, fits_in, taking, sum_right, taken_reading, ending};
+ghost use Rattle.receive.specs.Receive.{part, block_with, used_in, sum_with, fresh, fits_in, taking, told, state_after, sum_right, taken_reading, ending};
 
 use block::{Holding, Reading};
 use copy::CopyReading;
@@ -38,22 +38,16 @@ fn part(piece: &[u8], at: usize, from: usize, n: usize) -> &[u8]
     )
 }
 
-// The signature block with what the piece has of it.
+// Lays what the piece has of the signature block into it.
 #[tactic(auto, unfolding(crate::specs::Receive::block_with))]
-fn block_with(
-    block: [u8; layout::SECTOR_BYTES],
-    at: usize,
-    piece: &[u8],
-) -> [u8; layout::SECTOR_BYTES]
-    ensures { result ≡ block_with block at piece.now }
+fn put_block(block: &mut [u8; layout::SECTOR_BYTES], at: usize, piece: &[u8])
+    ensures { block.new ≡ block_with block.old at piece.now }
 {
-    let mut r = block;
     endian::put(
-        &mut r,
+        block,
         at.saturating_sub(layout::BLOCK_OFFSET),
         part(piece, at, layout::BLOCK_OFFSET, layout::SECTOR_BYTES),
     );
-    r
 }
 
 // The used bytes of an area, by its entry in the block; 0 where the entry says a length that no record has.
@@ -105,20 +99,30 @@ pub fn begin() -> Received
     }
 }
 
-// Takes a piece, and answers the state from here on. One that passes the copy's end is refused with 1 and not taken: its caller keeps the
-// state that it has.
+// Takes a piece: the state goes on by it, in place. One that passes the copy's end is refused with 1 and not taken, and the state stays as it was.
 #[tactic(auto, unfolding(crate::specs::Receive::taking, crate::specs::Receive::advanced))]
-pub fn piece(s: Received, piece: &[u8]) -> Result<Received, Reason>
-    ensures { result ≡ taking s piece.now }
+pub fn take(s: &mut Received, piece: &[u8]) -> Result<(), Reason>
+    ensures value { result ≡ told (taking s.old piece.now) }
+    ensures s_after { s.new ≡ state_after s.old piece.now }
 {
     if !fits_in(s.taken, piece.len()) {
         return Err(Reason::SliceSize);
     }
-    let block = block_with(s.block, s.taken, piece);
-    let a = sum_with(s.a, &block, s.taken, piece, Area::A);
-    let b = sum_with(s.b, &block, s.taken, piece, Area::B);
     let taken = s.taken + piece.len();
-    Ok(Received { taken, block, a, b })
+    put_block(&mut s.block, s.taken, piece);
+    s.a = sum_with(s.a, &s.block, s.taken, piece, Area::A);
+    s.b = sum_with(s.b, &s.block, s.taken, piece, Area::B);
+    s.taken = taken;
+    Ok(())
+}
+
+// The same of a state by value: answers the state from here on. Where the piece is refused its caller keeps the state that it has.
+pub fn piece(s: Received, piece: &[u8]) -> Result<Received, Reason>
+    ensures { result ≡ taking s piece.now }
+{
+    let mut next = s;
+    take(&mut next, piece)?;
+    Ok(next)
 }
 
 // Whether an area is whole, whose used bytes have this checksum.

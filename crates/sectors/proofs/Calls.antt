@@ -1,11 +1,13 @@
 -- What the calls answer, case by case.
-use Prim.Native.Nat.{ℕ, ◌-◌, ◌≤◌, ◌<◌}
+use Prim.Native.Nat.{ℕ, ◌+◌, ◌-◌, ◌*◌, ◌≤◌, ◌<◌}
 use mathlib.Core.Path.{◌≡◌, refl, sym, ap, ap₂, ◌∙◌}
 use mathlib.Core.Bool.{Bool, true, false}
 use mathlib.Core.List.{List}
+use native.Mathlib.Decide.{dec_le}
 use native.Mathlib.Nat.{zero-add}
 use native.Mathlib.Omega.{arith}
 use borrow.Author.Tests.{lt-ltb, le-ltb, le-leb, lt-leb}
+use lib.Dec.{ltb}
 use lib.ListN.{length, get_or}
 use Rattle.std.specs.Prelude.{Result, Ok, Err}
 use Rattle.std.specs.Bool.{MatchBool}
@@ -98,3 +100,11 @@ module _ (c : List ℕ) where
   known_by m q e =
       ap₂ (λ (r : Result Reading Reason) (t : Bool). every (passes r t m) copy_sectors) (ap block_read e ∙ block_read_lem (sized_reading c))
       (ap current_for e ∙ current_for_lem (sized_reading c))
+
+-- the first k sectors, the fewest that have room for n bytes, are those that begin before byte n
+pub fewest : (j k n : ℕ) → n ≤ 512 * k → 512 * k < n + 512 → ltb j k ≡ ltb (512 * j) n
+fewest j k n l m =
+    elim (dec_le n (512 * j)) [
+      | yes h ↦ le-ltb j k (omega arith) ∙ sym (le-ltb (512 * j) n h)
+      | no h ↦ lt-ltb j k (omega arith) ∙ sym (lt-ltb (512 * j) n (omega arith))
+    ]

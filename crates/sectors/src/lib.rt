@@ -114,9 +114,9 @@ fn named_in(f: BlockFields, x: Area, i: usize) -> bool
     s <= i && i - s < area_sectors() && named(copy::entry_in(f, x), i - s)
 }
 
-// Whether sector i of a copy matters, by what reading the copy answered. The newest area is whole (w) where the present record is its.
-fn matters(q: &Result<PresentReading, Reason>, i: usize) -> bool
-    ensures { result ≡ matters_for (block_read q.now) (current_for q.now) i }
+// Whether sector i of a copy matters, by what reading its block answered and whether the newest area is whole (w).
+fn matters(q: &Result<PresentReading, Reason>, w: bool, i: usize) -> bool
+    ensures { result ≡ matters_for (block_read q.now) w i }
 {
     let Ok(q) = q else {
         return i == 1;
@@ -124,8 +124,17 @@ fn matters(q: &Result<PresentReading, Reason>, i: usize) -> bool
     let f = q.block.fields;
     let x = copy::newest(f);
     let y = copy::other_area(x);
-    let w = copy::current(f, q.present);
     (i == 1) | (named_in(f, x, i) | (!w & named_in(f, y, i)))
+}
+
+// Whether a copy's block is accepted and its present record is that of the entry with the later time, which is then whole.
+fn newest_whole(q: &Result<PresentReading, Reason>) -> bool
+    ensures { result ≡ current_for q.now }
+{
+    match q {
+        Ok(q) => copy::current(q.block.fields, q.present),
+        Err(_) => false,
+    }
 }
 
 // Whether sector i was read. One without a mark was not.
@@ -142,7 +151,8 @@ impl CopyRead<'_> {
         ensures { result ≡ known self.entry.bytes.now self.entry.marks.now }
     {
         let q = copy::read_present(self.bytes);
-        (0..copy_sectors()).all(|i| !matters(&q, i) | is_read(self.marks, i))
+        let w = newest_whole(&q);
+        (0..copy_sectors()).all(|i| !matters(&q, w, i) | is_read(self.marks, i))
     }
 }
 

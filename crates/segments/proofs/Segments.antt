@@ -13,6 +13,21 @@ use Rattle.segments.specs.declared.Segment.{Segment}
 use Rattle.segments.specs.declared.Range.{Range}
 use Rattle.segments.specs.Segments.{end_of, holds, meets, in_range, InRange}
 
+-- a sum that the code does not take
+pub leb-shift : (a b e : ℕ) → a ≤ e → leb b (e - a) ≡ leb (a + b) e
+leb-shift a b e h =
+    elim (dec_le (a + b) e) [
+      | yes l ↦ le-leb b (e - a) (omega arith) ∙ sym (le-leb (a + b) e l)
+      | no l ↦ lt-leb b (e - a) (omega arith) ∙ sym (lt-leb (a + b) e (omega arith))
+    ]
+
+pub ltb_shift : (a b x : ℕ) → a ≤ x → ltb (x - a) b ≡ ltb x (a + b)
+ltb_shift a b x h =
+    elim (dec_lt x (a + b)) [
+      | yes l ↦ lt-ltb (x - a) b (omega arith) ∙ sym (lt-ltb x (a + b) l)
+      | no l ↦ le-ltb (x - a) b (omega arith) ∙ sym (le-ltb x (a + b) (omega arith))
+    ]
+
 -- in words of numbers, both ways
 pub in_range_lem : (r : Range) (g : Segment) → in_range r g ≡ true → InRange r g
 unfolding in_range

@@ -5,8 +5,10 @@ use mathlib.Core.Path.{◌≡◌, refl, sym, ap, ap₂, ◌∙◌}
 use mathlib.Core.Bool.{Bool, true, false, cond, ◌&&◌}
 use mathlib.Core.List.{List, [], ◌∷◌, ◌++◌, map, map-append, append-nil}
 use native.Mathlib.Numerals.{add-one}
+use native.Mathlib.Decide.{dec_le}
 use native.Mathlib.Omega.{arith}
-use borrow.Author.Tests.{lt-ltb, le-ltb, eqb-true, eq-eqb, ne_eqb}
+use borrow.Author.Tests.{lt-ltb, le-ltb, le-leb, lt-leb, eqb-true, eq-eqb, ne_eqb}
+use lib.Dec.{leb, ltb}
 use lib.ListN.{length, get_or, take, drop, set, length-append, length-map, drop_of_length-le, get_or-eq_default}
 use lib.Seq.{get_or_at, drop-cons, take-suc, take_all, set_at, append_snoc, length-take-le}
 use Rattle.endian.specs.Bytes.{window, splice, all_pass, zeros}
@@ -24,6 +26,14 @@ value_grows v (c ∷ s) = omega (arith, value_grows (v * 10 + (c - 48)) s)
 pub and_false : (b : Bool) → b && false ≡ false
 and_false true = refl
 and_false false = refl
+
+-- the test of one digit more, where the product fits
+pub fits_test : (v d : ℕ) → v ≤ 1844674407370955161 → leb d (18446744073709551615 - v * 10) ≡ ltb (v * 10 + d) (2 ^ 64)
+fits_test v d h =
+    elim (dec_le d (18446744073709551615 - v * 10)) [
+      | yes l ↦ le-leb d (18446744073709551615 - v * 10) l ∙ sym (lt-ltb (v * 10 + d) (2 ^ 64) (omega arith))
+      | no l ↦ lt-leb d (18446744073709551615 - v * 10) (omega arith) ∙ sym (le-ltb (v * 10 + d) (2 ^ 64) (omega arith))
+    ]
 
 -- the first character: no digit, one digit too many, or a digit
 after_stop : (v x : ℕ) (t : List ℕ) → is_digit x ≡ false → number_after v (x ∷ t) ≡ None

@@ -3,8 +3,8 @@ use Rattle.std.proofs.Common.{sym, arith}
 use Rattle.items.proofs.Making.{put-short, segment-written}
 use Rattle.items.proofs.put_segment.Goals as goal
 
-pub returns-then-saturating_sub-lt-ITEM_BYTES-clause-out_after : goal.returns-then-saturating_sub-lt-ITEM_BYTES-clause-out_after
-returns-then-saturating_sub-lt-ITEM_BYTES-clause-out_after c = sym (put-short c.args.out.now c.args.at c.args.g (omega arith))
+pub returns-then-out-at-clause-out_after : goal.returns-then-out-at-clause-out_after
+returns-then-out-at-clause-out_after c = sym (put-short c.args.out.now c.args.at c.args.g (omega arith))
 
 pub returns-clause-out_after : goal.returns-clause-out_after
 returns-clause-out_after c =
